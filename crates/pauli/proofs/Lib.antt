@@ -1,0 +1,10 @@
+pub mod Finite
+pub mod Numbers
+pub mod Remainder
+pub mod Rows
+pub mod Local
+pub mod Conj
+pub mod Short
+pub mod Table
+pub mod Independent
+pub mod PaperBits
