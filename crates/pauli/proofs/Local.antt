@@ -1,7 +1,7 @@
 -- Letter rules at one qubit or at two of a row: when they are homomorphisms, how they compose, and when two of them act alike.
 use mathlib.Core.Path.{fun-ext, _≡_, refl, ap, ap₂, sym, _∙_}
 use mathlib.Core.Logic.{_≢_, Ne·symm}
-use mathlib.Core.Bool.{Bool, true, false, _&&_, false≢true}
+use mathlib.Core.Bool.{Bool, true, _&&_, false≢true}
 use mathlib.Core.List.{List, [], _∷_}
 use Prim.Native.Nat.{ℕ, zero, suc, _<_}
 use native.Mathlib.Nat.{le-of-suc-le-suc, not-suc-le-zero}
@@ -255,7 +255,7 @@ pub letter₂ : (f : Pauli → Pauli → Image₂)
     → T (letters .every (λ a. letters .every (λ b. letters .every (λ c. letters .every (λ d. letter .same (f (a · b) (c · d) .first) (f a c .first · f b d .first))))))
     → T (letters .every (λ a. letters .every (λ b. letters .every (λ c. letters .every (λ d. letter .same (f (a · b) (c · d) .second) (f a c .second · f b d .second))))))
     → T (letters .every (λ a. letters .every (λ b. letters .every (λ c. letters .every (λ d. phase .same (f (a · b) (c · d) .sign ⊕ (phaseOf a b ⊕ phaseOf c d))
-      (f a c .sign ⊕ f b d .sign ⊕ (phaseOf (f a c .first) (f b d .first) ⊕ phaseOf (f a c .second) (f b d .second))))))))
+    (f a c .sign ⊕ f b d .sign ⊕ (phaseOf (f a c .first) (f b d .first) ⊕ phaseOf (f a c .second) (f b d .second))))))))
     → f I I ≡ plus₂ I I
     → T (letters .every (λ a. letters .every (λ b. truth .same (real (f a b .sign)) true)))
     → Letter₂ f

@@ -8,7 +8,7 @@ use lib.ListN.{getD, set, List·getD-map}
 use lib.Seq.{set-getD, getD-set-other}
 use Rattle.pauli.specs.Letters.{Pauli, I, Phase, One, PlusI, MinusOne, MinusI, _⊕_, _·_, phaseOf, real}
 use Rattle.pauli.specs.Rows.{Row, on}
-use Rattle.pauli.specs.Gates.{Image₁, act₁, act₂, ruleH, ruleS, ruleCnot, gateH, gateS, gateCnot, conj}
+use Rattle.pauli.specs.Gates.{ruleH, ruleS, ruleCnot, gateH, gateS, gateCnot, conj}
 use Rattle.pauli.specs.Bits.{_xor_, xBit, zBit, rBit, BitRow, bits, bit, bitH, bitS, bitCnot, g}
 use Rattle.pauli.proofs.Finite.{letters, turns, truth, phase, law₁, law₂}
 

@@ -10,7 +10,7 @@ use lib.ListN.{length, replicate}
 use Rattle.pauli.specs.Letters.{Pauli, I, Phase, One, PlusI, MinusOne, MinusI, _⊕_, _·_, phaseOf, real}
 use Rattle.pauli.specs.Rows.{Row, Width, products, phases, _★_, scaled, identity, tally, anti, antiPlaces, odd, anticommute, minusIf}
 use Rattle.pauli.specs.Bits.{_xor_}
-use Rattle.pauli.proofs.Finite.{letters, turns, truths, letter, phase, truth, law₁, law₂, law₃, law₄, ⊕-one, sums, ·-assoc, ·-comm, ·-I, phaseOf-assoc, phaseOf-I}
+use Rattle.pauli.proofs.Finite.{letters, truths, letter, phase, truth, law₁, law₂, law₃, law₄, ⊕-one, sums, ·-assoc, ·-comm, phaseOf-assoc, phaseOf-I}
 
 pub row-eq : {P Q : Row} → P .letters ≡ Q .letters → P .phase ≡ Q .phase → P ≡ Q
 row-eq p q = λ i. record { letters = p i; phase = q i }
@@ -116,7 +116,7 @@ exchange P Q = row-eq (products-comm (P .letters) (Q .letters))
     in-front p q s t u e = rw e (simp sums)
 
 -- a phase is not its negative
-no-minus : (p : Phase) → p ≡ MinusOne ⊕ p → ⊥
+pub no-minus : (p : Phase) → p ≡ MinusOne ⊕ p → ⊥
 no-minus One e = let z : _≡_ {A = ℕ} 0 1 = cc in omega arith
 no-minus PlusI e = let z : _≡_ {A = ℕ} 0 1 = cc in omega arith
 no-minus MinusOne e = let z : _≡_ {A = ℕ} 0 1 = cc in omega arith

@@ -1,4 +1,6 @@
 -- Litinski's rotations exp(-i k π/8 P), and the rotations that a flush writes for each gate (document 01, "Planes").
+use mathlib.Core.Path.{_≡_}
+use mathlib.Core.Logic.{_⊎_}
 use mathlib.Core.Bool.{cond}
 use mathlib.Core.List.{List, [], _∷_, _++_}
 use Prim.Native.Nat.{ℕ, zero, suc, _/_}
@@ -17,6 +19,23 @@ quarters (suc m) P Q = quarter P (quarters m P Q)
 -- U Q U† for U = exp(-i k π/8 P) and an even k, k / 2 quarter turns. (An odd k makes two rows of one; none is written by a flush.)
 abbrev pub rotate : ℕ → Row → Row → Row
 rotate k P Q = quarters (k / 2) P Q
+
+-- exp(-i φ Q) is cos φ - i sin φ Q at any angle φ. In a product with 1 - i P, which is √2 exp(-i π/4 P), cos φ stands before 1 - i P,
+-- and sin φ before a sum of two rows: (1 - i P) (-i Q) where the quarter turn comes second, (-i Q) (1 - i P) where it comes first.
+pub record Sum : Type 0 where
+  pub first : Row
+  pub second : Row
+
+abbrev pub quarterLast : Row → Row → Sum
+quarterLast P Q = record { first = scaled MinusI Q; second = scaled MinusI P ★ scaled MinusI Q }
+
+abbrev pub quarterFirst : Row → Row → Sum
+quarterFirst P Q = record { first = scaled MinusI Q; second = scaled MinusI Q ★ scaled MinusI P }
+
+abbrev pub SameSum : Sum → Sum → Type 0
+SameSum s t = ((s .first ≡ t .first) × (s .second ≡ t .second)) ⊎ ((s .first ≡ t .second) × (s .second ≡ t .first))
+
+-- ---- what a flush writes
 
 pub record Rotation : Type 0 where
   pub axis : Row
@@ -44,3 +63,8 @@ written n (gateCz c t) = by (single n c Z) 2 ∷ by (single n t Z) 2 ∷ by (sin
 unfoldable pub flush : ℕ → List Gate → List Rotation
 flush n [] = []
 flush n (g ∷ gs) = written n g ++ flush n gs
+
+-- what holds of each rotation of a list
+abbrev pub Each : (Rotation → Type 0) → List Rotation → Type 0
+Each A [] = Unit {0}
+Each A (r ∷ rs) = A r × Each A rs
