@@ -1,13 +1,13 @@
 -- Conjugation by h, s and cnot is what Aaronson and Gottesman's rules do to the bits of a row, and the phase of a product is their g.
 use mathlib.Core.Path.{_≡_, refl, ap, ap₂, sym, _∙_}
 use mathlib.Core.Logic.{_≢_, Ne·symm}
-use mathlib.Core.Bool.{Bool, true, false, _&&_, false≢true}
+use mathlib.Core.Bool.{Bool, true, false, _&&_, _||_, false≢true}
 use mathlib.Core.List.{List, [], _∷_, map}
 use Prim.Native.Nat.{ℕ, zero, suc}
 use lib.ListN.{getD, set, List·getD-map}
 use lib.Seq.{set-getD, getD-set-other}
 use Rattle.pauli.specs.Letters.{Pauli, I, Phase, One, PlusI, MinusOne, MinusI, _⊕_, _·_, phaseOf, real}
-use Rattle.pauli.specs.Rows.{Row, on}
+use Rattle.pauli.specs.Rows.{Row, on, present}
 use Rattle.pauli.specs.Gates.{ruleH, ruleS, ruleCnot, gateH, gateS, gateCnot, conj}
 use Rattle.pauli.specs.Bits.{_xor_, xBit, zBit, rBit, BitRow, bits, bit, bitH, bitS, bitCnot, g}
 use Rattle.pauli.proofs.Finite.{letters, turns, truth, phase, law₁, law₂}
@@ -85,3 +85,7 @@ xBit-· = law₂ letters truth _ _ tt
 
 pub zBit-· : (a b : Pauli) → zBit (a · b) ≡ (zBit a xor zBit b)
 zBit-· = law₂ letters truth _ _ tt
+
+-- a letter other than I has one of the two bits
+pub present-bits : (a : Pauli) → present a ≡ (xBit a || zBit a)
+present-bits = law₁ letters truth _ _ tt

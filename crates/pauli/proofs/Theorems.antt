@@ -1,16 +1,16 @@
 -- What is proved of the mathematics, in the words of specs/ alone. Numbers as in the list of README.md, "What is proved".
 use mathlib.Core.Path.{_≡_, refl}
 use mathlib.Core.Logic.{_↔_, _≢_}
-use mathlib.Core.Bool.{Bool, true, false, cond, _&&_}
+use mathlib.Core.Bool.{Bool, true, false, cond, _&&_, _||_}
 use mathlib.Core.List.{List, map}
 use Prim.Native.Nat.{ℕ, _+_, _/_, _<_, _≤_, _%_}
 use lib.ListN.{length, getD}
 use lib.IntN.{ℤ, pos, _+ℤ_, _*ℤ_}
-use Rattle.pauli.specs.Letters.{Pauli, PlusI, MinusOne, MinusI, phaseOf, real}
+use Rattle.pauli.specs.Letters.{Pauli, PlusI, MinusOne, MinusI, _·_, phaseOf, real}
 use Rattle.pauli.specs.Angle.{remainder8}
-use Rattle.pauli.specs.Rows.{Row, Width, _★_, scaled, identity, weight, antiPlaces, anticommute, minusIf}
+use Rattle.pauli.specs.Rows.{Row, Width, _★_, scaled, identity, present, weight, antiPlaces, anticommute, minusIf}
 use Rattle.pauli.specs.Gates.{Gate, gateH, gateS, gateCnot, Valid, AllValid, conj, inverse, direct, back, forward}
-use Rattle.pauli.specs.Bits.{xBit, zBit, bits, bitH, bitS, bitCnot, g}
+use Rattle.pauli.specs.Bits.{_xor_, xBit, zBit, bits, bitH, bitS, bitCnot, g}
 use Rattle.pauli.specs.Rotations.{rotate, written, flush, rotations, Each, quarterFirst, quarterLast, SameSum}
 use Rattle.pauli.specs.Doubly.{sevenRows, allTurnedBy}
 use Rattle.pauli.specs.Table.{start, table, productOver}
@@ -47,6 +47,16 @@ exchange = Rows.exchange
 -- the phase of a product of letters is the paper's g
 pub product-phase : (a b : Pauli) → phaseOf a b ≡ g (xBit a) (zBit a) (xBit b) (zBit b)
 product-phase = PaperBits.phaseOf-g
+
+-- the bits of a product are the exclusive or of the bits, and a letter other than I has one of the two
+pub product-x : (a b : Pauli) → xBit (a · b) ≡ (xBit a xor xBit b)
+product-x = PaperBits.xBit-·
+
+pub product-z : (a b : Pauli) → zBit (a · b) ≡ (zBit a xor zBit b)
+product-z = PaperBits.zBit-·
+
+pub present-x-or-z : (a : Pauli) → present a ≡ (xBit a || zBit a)
+present-x-or-z = PaperBits.present-bits
 
 -- ---- 2. conjugation by a gate
 
