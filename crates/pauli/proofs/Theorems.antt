@@ -1,7 +1,7 @@
 -- What is proved of the mathematics, in the words of specs/ alone. Numbers as in the list of README.md, "What is proved".
 use mathlib.Core.Path.{_≡_, refl}
 use mathlib.Core.Logic.{_↔_, _≢_}
-use mathlib.Core.Bool.{Bool, true, false, cond, _&&_, _||_}
+use mathlib.Core.Bool.{Bool, true, cond, _&&_, _||_}
 use mathlib.Core.List.{List, map}
 use Prim.Native.Nat.{ℕ, _+_, _/_, _<_, _≤_, _%_}
 use lib.ListN.{length, getD}
@@ -155,9 +155,9 @@ quarter-behind = Litinski.exchange-back
 pub quarter-before : (n : ℕ) (P : Row) → Width n P → real (P .phase) ≡ true → (Q : Row) → Width n Q → SameSum (quarterLast P Q) (quarterFirst P (rotate 2 P Q))
 quarter-before = Litinski.exchange-any-angle
 
--- ---- 8. the seven rows of ccx and ccz: up to the phase of the pattern with no -1, a half turn where all three are -1, and nothing elsewhere
+-- ---- 8. the seven rows of ccx and ccz: up to the global phase of 7 eighths of π, a half turn where all three are -1, and nothing elsewhere
 
-pub doubly-controlled : (x y z : Bool) → allTurnedBy sevenRows x y z ≡ (allTurnedBy sevenRows false false false + cond (x && (y && z)) 8 0) % 16
+pub doubly-controlled : (x y z : Bool) → allTurnedBy sevenRows x y z ≡ (7 + cond (x && (y && z)) 8 0) % 16
 doubly-controlled = Toffoli.doubly-controlled
 
 -- ---- angles: the remainder is below 8 and a multiple of 8 away
