@@ -8,6 +8,10 @@ abbrev pub remainder8 : ℤ → ℕ
 remainder8 (pos n) = n % 8
 remainder8 (negsuc n) = 7 - n % 8
 
+-- the angle of so many eighths
+abbrev pub angleOf : ℕ → PauliAngle
+angleOf k = record { 0 = k % 8 }
+
 -- the eighths of an angle. The field is private and `new` keeps it below 8; whatever it holds, it counts modulo 8.
 abbrev pub eighthsOf : PauliAngle → ℕ
 eighthsOf a = a .0 % 8

@@ -1,7 +1,7 @@
 //! Angles: exact multiples of π/8 modulo π, the global phase left out.
 
 ghost use mathlib.Core.Path.{_≡_};
-ghost use Rattle.pauli.specs.Angle.{remainder8, eighthsOf};
+ghost use Rattle.pauli.specs.Angle.{remainder8, angleOf, eighthsOf};
 
 /// The angle k of the rotation exp(-i k π/8 P), 0 to 7.
 pub struct PauliAngle(u8);
@@ -17,6 +17,13 @@ impl PauliAngle {
         } else {
             PauliAngle(r as u8)
         }
+    }
+
+    /// The same of a number that has no sign. O(1). Promise: `angleOf`.
+    pub fn from_unsigned(eighths: u32) -> Self
+        ensures { λ r. ⌜ r ≡ angleOf eighths ⌝ }
+    {
+        PauliAngle((eighths % 8) as u8)
     }
 
     /// The eighths, 0 to 7. O(1). Promise: `eighthsOf`.

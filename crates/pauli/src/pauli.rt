@@ -84,12 +84,24 @@ impl Pauli {
         }
     }
 
+    /// The letter with the number n; a number past 3 stands for I. Promise: `pauliOf`.
+    pub fn or_identity(n: u32) -> Pauli
+        ensures { λ r. ⌜ r ≡ pauliOf n ⌝ }
+    {
+        match n {
+            1 => Pauli::X,
+            2 => Pauli::Y,
+            3 => Pauli::Z,
+            _ => Pauli::I,
+        }
+    }
+
     /// The letter with the number n, or none for a number past 3. Promise: `pauliAt`.
     pub fn from_number(n: u32) -> MaybePauli
         ensures { λ r. ⌜ r ≡ pauliAt n ⌝ }
     {
         if n < 4 {
-            MaybePauli::Some(letter(n))
+            MaybePauli::Some(Pauli::or_identity(n))
         } else {
             MaybePauli::None
         }
@@ -157,23 +169,12 @@ fn phase_of(a: Pauli, b: Pauli) -> Phase
     }
 }
 
-fn letter(n: u32) -> Pauli
-    ensures { λ r. ⌜ r ≡ pauliOf n ⌝ }
-{
-    match n {
-        1 => Pauli::X,
-        2 => Pauli::Y,
-        3 => Pauli::Z,
-        _ => Pauli::I,
-    }
-}
-
 /// The ordered product of the letters with the numbers a and b; a number past 3 stands for I. Promise: `numberProduct`.
 pub fn times_numbers(a: u32, b: u32) -> NumberProduct
     ensures { λ r. ⌜ r ≡ numberProduct a b ⌝ }
 {
-    let left = letter(a);
-    let right = letter(b);
+    let left = Pauli::or_identity(a);
+    let right = Pauli::or_identity(b);
     NumberProduct {
         phase: phase_of(left, right).number(),
         pauli: letter_product(left, right).number(),

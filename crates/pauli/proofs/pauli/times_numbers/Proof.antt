@@ -5,11 +5,11 @@ use borrow.Author.Needs.{needs}
 use Rattle.pauli.proofs.pauli.times_numbers.Statement.{statement}
 use Rattle.pauli.proofs.pauli.times_numbers.Tie as tie
 
-letter-requires : tie.Need-letter-requires
-letter-requires c κs = search needs
+or-identity-requires : tie.Need-or-identity-requires
+or-identity-requires c κs = search needs
 
-letter-requires-2 : tie.Need-letter-requires-2
-letter-requires-2 c κs = search needs
+or-identity-requires-2 : tie.Need-or-identity-requires-2
+or-identity-requires-2 c κs = search needs
 
 phase-of-requires : tie.Need-phase-of-requires
 phase-of-requires c κs = search needs
@@ -26,8 +26,8 @@ number-requires-2 c κs = search needs
 returns : tie.Need-returns
 returns c =
     let at = c .before .before .before .before in
-    let a = at .before .letter .ensures in
-    let b = at .letter2 .ensures in
+    let a = at .before .or-identity .ensures in
+    let b = at .or-identity2 .ensures in
     let phase = c .before .before .number .ensures ∙ ap phaseNumber (c .before .before .before .phase-of .ensures ∙ ap₂ phaseOf a b) in
     let pauli = c .number2 .ensures ∙ ap pauliNumber (c .before .letter-product .ensures ∙ ap₂ _·_ a b) in
     λ i. record { phase = phase i; pauli = pauli i }
@@ -36,8 +36,8 @@ pub times-numbers-spec : {M : Type 1} → statement M
 times-numbers-spec =
     tie.close
     (tie.spec
-    letter-requires
-    letter-requires-2
+    or-identity-requires
+    or-identity-requires-2
     phase-of-requires
     number-requires
     letter-product-requires

@@ -1,0 +1,12 @@
+-- `refused` meets its contract.
+use Rattle.arena.proofs.error.refused.Statement.{statement}
+use Rattle.arena.proofs.error.refused.Tie as tie
+
+returns : tie.Need-returns
+returns c = rw (c .if1 .taken)
+
+returns-2 : tie.Need-returns-2
+returns-2 c = rw (c .if1 .left)
+
+pub refused-spec : {M : Type 1} → statement M
+refused-spec = tie.close (tie.spec returns returns-2)

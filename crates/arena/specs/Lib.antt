@@ -1,0 +1,10 @@
+-- The arena of a circuit: what its words stand for, what its calls do.
+-- From the reader's end: what things are (Limits, Errors, References, Nodes, Operations), what is tested (Store), what calls do (Builder), what is claimed (Calls).
+pub mod Types
+pub mod Limits
+pub mod Errors
+pub mod References
+pub mod Nodes
+pub mod Operations
+pub mod Store
+pub mod Builder

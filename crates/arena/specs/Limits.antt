@@ -1,0 +1,21 @@
+-- The limits of document 01, and the sizes of what lies in lent words.
+use Prim.Native.Nat.{ℕ}
+
+abbrev pub maxQubits : ℕ
+maxQubits = 256
+
+abbrev pub maxCbits : ℕ
+maxCbits = 65536
+
+abbrev pub maxNodes : ℕ
+maxNodes = 65536
+
+abbrev pub maxOperations : ℕ
+maxOperations = 65536
+
+-- u32 words of a node, and of an operation
+abbrev pub nodeWords : ℕ
+nodeWords = 2
+
+abbrev pub operationWords : ℕ
+operationWords = 4

@@ -1,0 +1,32 @@
+//! The arena of a Pauli-based circuit: a header by value, and nodes, operations and frame words in slices that the caller lends.
+//! Every call answers an enum: what it made, or a refusal of document 01. A refusal leaves every slice as it was.
+
+mod builder;
+mod error;
+mod header;
+mod limits;
+mod node;
+mod op;
+mod pauli_ref;
+
+pub use builder::Created;
+pub use builder::Measured;
+pub use builder::Multiplied;
+pub use builder::Pushed;
+pub use builder::Singled;
+pub use error::Checked;
+pub use error::PbcError;
+pub use header::Header;
+pub use limits::MAX_CBITS;
+pub use limits::MAX_NODES;
+pub use limits::MAX_OPERATIONS;
+pub use limits::MAX_QUBITS;
+pub use limits::NODE_WORDS;
+pub use limits::OPERATION_WORDS;
+pub use node::PauliNode;
+pub use op::AxisKind;
+pub use op::MeasId;
+pub use op::PbcOp;
+pub use op::Target;
+pub use pauli_ref::PauliAxis;
+pub use pauli_ref::PauliRef;
