@@ -1,1 +1,4 @@
+-- Laws by subject, from the bottom up.
 pub mod Words
+pub mod Overlay
+pub mod Accepted

@@ -31,26 +31,21 @@ decided (Wrong e) refused ws step = record { answer = refused e; words = ws }
 
 -- ---- a new circuit: node 0 is the identity, then X and Z of qubit 0, of qubit 1, and so on
 
--- the nodes of the first q qubits, after the identity
+abbrev pub qubitNodes : ℕ → List ℕ
+qubitNodes zero = []
+qubitNodes (suc q) = qubitNodes q ++ (singleWord X ∷ q ∷ singleWord Z ∷ q ∷ [])
+
 abbrev pub startNodes : ℕ → List ℕ
-startNodes zero = 0 ∷ 0 ∷ []
-startNodes (suc q) = startNodes q ++ (singleWord X ∷ q ∷ singleWord Z ∷ q ∷ [])
+startNodes n = 0 ∷ 0 ∷ qubitNodes n
 
--- the words of the X and of the Z of a qubit
-abbrev pub xWord : ℕ → ℕ
-xWord q = 4 * (1 + 2 * q)
-
-abbrev pub zWord : ℕ → ℕ
-zWord q = 4 * (2 + 2 * q)
-
--- those of the first k qubits
-abbrev pub wordsTo : (ℕ → ℕ) → ℕ → List ℕ
-wordsTo f zero = []
-wordsTo f (suc k) = wordsTo f k ++ (f k ∷ [])
+-- the words of every other node from `first` on, for so many qubits
+abbrev pub imageWords : ℕ → ℕ → List ℕ
+imageWords first zero = []
+imageWords first (suc q) = imageWords first q ++ (4 * (first + 2 * q) ∷ [])
 
 -- the frame: x images, then z images
 abbrev pub startFrame : ℕ → List ℕ
-startFrame n = wordsTo xWord n ++ wordsTo zWord n
+startFrame n = imageWords 1 n ++ imageWords 2 n
 
 -- new words, and past them what was there
 abbrev pub overlay : List ℕ → List ℕ → List ℕ

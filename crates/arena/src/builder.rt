@@ -1,19 +1,31 @@
 //! The calls that make a circuit and add to it, from mod.rs. Each checks what it is lent, in document 01's order, before it writes.
 
+use crate::checks::check_conditional;
+use crate::checks::check_measure;
+use crate::checks::check_new;
+use crate::checks::check_product;
+use crate::checks::check_rotate;
+use crate::checks::check_single;
+use crate::checks::nodes_for;
 use crate::error::Checked;
 use crate::error::PbcError;
 use crate::header::Header;
-use crate::limits::MAX_CBITS;
-use crate::limits::MAX_QUBITS;
-use crate::limits::NODE_WORDS;
-use crate::limits::OPERATION_WORDS;
 use crate::op::MeasId;
 use crate::op::Target;
 use crate::pauli_ref::PauliAxis;
 use crate::pauli_ref::PauliRef;
+use crate::writes::put_node;
+use crate::writes::put_operation;
+use crate::writes::reference;
+use crate::writes::start_frame;
+use crate::writes::start_nodes;
+use crate::writes::target_word;
+use crate::writes::with_nodes;
+use crate::writes::with_operation;
 use pauli::Pauli;
 use pauli::PauliAngle;
 ghost use mathlib.Core.Path.{_≡_};
+ghost use Rattle.arena.specs.Builder.{newStep, singleStep, productStep, rotateStep, measureStep, conditionalStep};
 
 /// What `new` answers.
 pub enum Created {
@@ -43,4 +55,129 @@ pub enum Pushed {
 pub enum Measured {
     Made(Header, MeasId),
     Refused(PbcError),
+}
+
+impl Header {
+    /// A new circuit: the identity and X and Z of each qubit as nodes, and the identity frame. Refuses with 1, 13, 14. O(qubits).
+    /// Promise: `newStep`.
+    pub fn new(qubits: u32, cbits: u32, owner: u64, nodes: &mut [u32], frame: &mut [u32]) -> Created
+        ensures { λ r. ⌜ r ≡ newStep qubits cbits owner (now (nodes .entry)) (now (frame .entry)) .answer ⌝ }
+        ensures { λ r. ⌜ now (nodes .exit) ≡ newStep qubits cbits owner (now (nodes .entry)) (now (frame .entry)) .words .nodes ⌝ }
+        ensures { λ r. ⌜ now (frame .exit) ≡ newStep qubits cbits owner (now (nodes .entry)) (now (frame .entry)) .words .frame ⌝ }
+    {
+        let checked = check_new(qubits, cbits, nodes.len(), frame.len());
+        if let Checked::Wrong(error) = checked {
+            return Created::Refused(error);
+        }
+        start_nodes(nodes, qubits);
+        start_frame(frame, qubits);
+        Created::Made(Header {
+            qubits,
+            cbits,
+            owner,
+            nodes: 1 + 2 * qubits,
+            operations: 0,
+            measurements: 0,
+        })
+    }
+
+    /// The letter on a qubit, as a new node; I is node 0. Refuses with 3, 7, 14. O(1). Promise: `singleStep`.
+    pub fn single(self, nodes: &mut [u32], qubit: u32, pauli: Pauli) -> Singled
+        ensures { λ r. ⌜ r ≡ singleStep self (now (nodes .entry)) qubit pauli .answer ⌝ }
+        ensures { λ r. ⌜ now (nodes .exit) ≡ singleStep self (now (nodes .entry)) qubit pauli .words ⌝ }
+    {
+        let checked = check_single(self, nodes.len(), qubit, pauli);
+        if let Checked::Wrong(error) = checked {
+            return Singled::Refused(error);
+        }
+        if nodes_for(pauli) == 0 {
+            return Singled::Made(self, PauliAxis::assume_hermitian(reference(self, 0)));
+        }
+        let node = self.nodes;
+        put_node(nodes, node, 1 + 4 * pauli.number(), qubit);
+        Singled::Made(
+            with_nodes(self, node + 1),
+            PauliAxis::assume_hermitian(reference(self, node)),
+        )
+    }
+
+    /// The product of two references, left times right, as a new node; neither is expanded. Refuses with 3, 4, 14. O(1).
+    /// Promise: `productStep`.
+    pub fn product(self, nodes: &mut [u32], left: PauliRef, right: PauliRef) -> Multiplied
+        ensures { λ r. ⌜ r ≡ productStep self (now (nodes .entry)) left right .answer ⌝ }
+        ensures { λ r. ⌜ now (nodes .exit) ≡ productStep self (now (nodes .entry)) left right .words ⌝ }
+    {
+        let checked = check_product(self, nodes.len(), left, right);
+        if let Checked::Wrong(error) = checked {
+            return Multiplied::Refused(error);
+        }
+        let node = self.nodes;
+        put_node(nodes, node, 2 + 4 * left.word, right.word);
+        Multiplied::Made(with_nodes(self, node + 1), reference(self, node))
+    }
+
+    /// One more operation: the rotation exp(-i k π/8 P). Refuses with 3, 4, 15. O(1). Promise: `rotateStep`.
+    pub fn rotate(self, operations: &mut [u32], axis: PauliAxis, angle: PauliAngle) -> Pushed
+        ensures { λ r. ⌜ r ≡ rotateStep self (now (operations .entry)) axis angle .answer ⌝ }
+        ensures { λ r. ⌜ now (operations .exit) ≡ rotateStep self (now (operations .entry)) axis angle .words ⌝ }
+    {
+        let checked = check_rotate(self, operations.len(), axis);
+        if let Checked::Wrong(error) = checked {
+            return Pushed::Refused(error);
+        }
+        let first = 4 * (angle.eighths() as u32);
+        put_operation(operations, self.operations, first, axis.as_ref().word, 0, 0);
+        Pushed::Made(with_operation(self, self.measurements))
+    }
+
+    /// One more operation: a measurement, into a classical bit or none. Refuses with 3, 4, 9, 15. O(1). Promise: `measureStep`.
+    pub fn measure(self, operations: &mut [u32], axis: PauliAxis, target: Target) -> Measured
+        ensures { λ r. ⌜ r ≡ measureStep self (now (operations .entry)) axis target .answer ⌝ }
+        ensures { λ r. ⌜ now (operations .exit) ≡ measureStep self (now (operations .entry)) axis target .words ⌝ }
+    {
+        let checked = check_measure(self, operations.len(), axis, target);
+        if let Checked::Wrong(error) = checked {
+            return Measured::Refused(error);
+        }
+        let number = self.measurements;
+        put_operation(
+            operations,
+            self.operations,
+            1,
+            axis.as_ref().word,
+            number,
+            target_word(target),
+        );
+        Measured::Made(
+            with_operation(self, number + 1),
+            MeasId::new(self.owner, number),
+        )
+    }
+
+    /// One more operation: a rotation where a measurement gave 1. Refuses with 3, 4, 10, 15. O(1). Promise: `conditionalStep`.
+    pub fn conditional_rotate(
+        self,
+        operations: &mut [u32],
+        axis: PauliAxis,
+        angle: PauliAngle,
+        outcome: MeasId,
+    ) -> Pushed
+        ensures { λ r. ⌜ r ≡ conditionalStep self (now (operations .entry)) axis angle outcome .answer ⌝ }
+        ensures { λ r. ⌜ now (operations .exit) ≡ conditionalStep self (now (operations .entry)) axis angle outcome .words ⌝ }
+    {
+        let checked = check_conditional(self, operations.len(), axis, outcome);
+        if let Checked::Wrong(error) = checked {
+            return Pushed::Refused(error);
+        }
+        let first = 2 + 4 * (angle.eighths() as u32);
+        put_operation(
+            operations,
+            self.operations,
+            first,
+            axis.as_ref().word,
+            outcome.index(),
+            0,
+        );
+        Pushed::Made(with_operation(self, self.measurements))
+    }
 }

@@ -2,12 +2,14 @@
 //! Every call answers an enum: what it made, or a refusal of document 01. A refusal leaves every slice as it was.
 
 mod builder;
+mod checks;
 mod error;
 mod header;
 mod limits;
 mod node;
 mod op;
 mod pauli_ref;
+mod writes;
 
 pub use builder::Created;
 pub use builder::Measured;

@@ -1,5 +1,4 @@
 -- `Checked::refuse_if` meets its contract: a check that refused stands.
-use mathlib.Core.Path.{_∙_}
 use borrow.Author.Needs.{needs}
 use Rattle.arena.proofs.error.Checked.refuse_if.Statement.{statement}
 use Rattle.arena.proofs.error.Checked.refuse_if.Tie as tie
