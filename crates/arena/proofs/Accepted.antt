@@ -172,13 +172,13 @@ unfolding measureCheck
 fits-measure h len axis t e =
     let e₃ = passed-before _ _ _ e in
     let e₂ = passed-before _ _ _ e₃ in
-    let header = sound h (left-false (breaksLimit h) _ (test-passed _ _ _ (passed-before _ _ _ e₂))) in
-    ( record {
+    let header = sound h (left-false (breaksLimit h) _ (test-passed _ _ _ (passed-before _ _ _ e₂))) in (
+      record {
         header = header;
         axis-own = own h (axis .0) (test-passed _ _ _ e₂);
         room = operation-room h len 1 (test-passed _ _ _ e);
-      }
-    , target-inside h t (header .cbits) (test-passed _ _ _ e₃)
+      },
+      target-inside h t (header .cbits) (test-passed _ _ _ e₃),
     )
 
 pub fits-conditional : (h : Header) (len : ℕ) (axis : PauliAxis) (m : MeasId) → conditionalCheck h len axis m ≡ Fine → FitsOperation h len axis

@@ -1,11 +1,10 @@
 -- Operations (document 01): what four words stand for, and the kind of an operation's axis.
-use mathlib.Core.Bool.{Bool, cond, _&&_}
+use mathlib.Core.Bool.{cond, _&&_}
 use mathlib.Core.List.{List, [], _∷_}
 use Prim.Native.Nat.{ℕ, zero, suc, _+_, _*_, _/_, _%_}
 use lib.Dec.{leb, ltb, eqb}
 use Rattle.pauli.specs.Angle.{angleOf, eighthsOf}
-use Rattle.arena.specs.Types.{PauliAngle}
-use Rattle.arena.specs.References.{PauliAxis, axisOf}
+use Rattle.arena.specs.References.{axisOf}
 pub use Rattle.arena.specs.declared.op.MeasId.{MeasId}
 pub use Rattle.arena.specs.declared.op.Target.the-variants.{the-data as Target, Bit, None as NoTarget}
 pub use Rattle.arena.specs.declared.op.AxisKind.the-variants.{the-data as AxisKind, None as NoKind, Pi8, Clifford, Measurement}

@@ -40,7 +40,7 @@ refuse-if-requires-4 c κs = search needs
 
 returns : tie.Need-returns
 unfolding conditionalCheck
-returns c = 
+returns c =
     let r1 = c .before .before .before .before .before .before .before .refuse-if .ensures ∙ ap (λ b. Fine ⟫ b ⇒ BadStore) (ap₂ _||_ (c .before .before .before .before .before .before .before .before .before .breaks-limit .ensures) (c .before .before .before .before .before .before .before .before .exceeds-operations .ensures)) in
     let r2 = c .before .before .before .before .refuse-if2 .ensures ∙ ap₂ (λ k b. k ⟫ b ⇒ ForeignPauli) r1 (c .before .before .before .before .before .is-foreign .ensures ∙ ap (foreign (c .before .before .before .before .before .before .before .before .before .before .args .header)) (c .before .before .before .before .before .before .as-ref .ensures)) in
     let r3 = c .before .before .refuse-if3 .ensures ∙ ap₂ (λ k b. k ⟫ b ⇒ UnknownMeasurement) r2 (c .before .before .before .is-unknown .ensures) in

@@ -26,7 +26,7 @@ refuse-if-requires-3 c κs = search needs
 
 returns : tie.Need-returns
 unfolding newCheck
-returns c = 
+returns c =
     let r1 = c .before .before .refuse-if .ensures in
     let r2 = c .before .refuse-if2 .ensures ∙ ap (λ k. k ⟫ _ ⇒ NoFrame) r1 in
     c .refuse-if3 .ensures ∙ ap (λ k. k ⟫ _ ⇒ NoNodes) r2

@@ -33,7 +33,7 @@ refuse-if-requires-3 c κs = search needs
 
 returns : tie.Need-returns
 unfolding productCheck
-returns c = 
+returns c =
     let r1 = c .before .before .before .before .before .refuse-if .ensures ∙ ap (λ b. Fine ⟫ b ⇒ BadStore) (ap₂ _||_ (c .before .before .before .before .before .before .before .breaks-limit .ensures) (c .before .before .before .before .before .before .exceeds-nodes .ensures)) in
     let r2 = c .before .before .refuse-if2 .ensures ∙ ap₂ (λ k b. k ⟫ b ⇒ ForeignPauli) r1 (ap₂ _||_ (c .before .before .before .before .is-foreign .ensures) (c .before .before .before .is-foreign2 .ensures)) in
     c .refuse-if3 .ensures ∙ ap₂ (λ k b. k ⟫ b ⇒ NoNodes) r2 (c .before .no-node-room .ensures)

@@ -34,7 +34,7 @@ refuse-if-requires-3 c κs = search needs
 
 returns : tie.Need-returns
 unfolding rotateCheck
-returns c = 
+returns c =
     let r1 = c .before .before .before .before .before .refuse-if .ensures ∙ ap (λ b. Fine ⟫ b ⇒ BadStore) (ap₂ _||_ (c .before .before .before .before .before .before .before .breaks-limit .ensures) (c .before .before .before .before .before .before .exceeds-operations .ensures)) in
     let r2 = c .before .before .refuse-if2 .ensures ∙ ap₂ (λ k b. k ⟫ b ⇒ ForeignPauli) r1 (c .before .before .before .is-foreign .ensures ∙ ap (foreign (c .before .before .before .before .before .before .before .before .args .header)) (c .before .before .before .before .as-ref .ensures)) in
     c .refuse-if3 .ensures ∙ ap₂ (λ k b. k ⟫ b ⇒ NoOperations) r2 (c .before .no-operation-room .ensures)

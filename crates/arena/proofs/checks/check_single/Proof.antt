@@ -31,7 +31,7 @@ refuse-if-requires-3 c κs = search needs
 
 returns : tie.Need-returns
 unfolding singleCheck
-returns c = 
+returns c =
     let r1 = c .before .before .before .before .before .refuse-if .ensures ∙ ap (λ b. Fine ⟫ b ⇒ BadStore) (ap₂ _||_ (c .before .before .before .before .before .before .before .breaks-limit .ensures) (c .before .before .before .before .before .before .exceeds-nodes .ensures)) in
     let r2 = c .before .before .before .refuse-if2 .ensures ∙ ap (λ k. k ⟫ _ ⇒ QubitOutOfRange 0 (c .before .before .before .before .before .before .before .before .args .qubit)) r1 in
     c .refuse-if3 .ensures ∙ ap₂ (λ k b. k ⟫ b ⇒ NoNodes) r2 (c .before .no-node-room .ensures ∙ ap (noNodeRoom (c .before .before .before .before .before .before .before .before .args .header) (c .before .before .before .before .before .before .before .before .args .nodes)) (c .before .before .nodes-for .ensures))

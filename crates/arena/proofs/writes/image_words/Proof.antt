@@ -43,20 +43,20 @@ loop-less : tie.Need-loop-less Inv-loop μ-loop
 loop-less c = omega (arith, c .before .loop .inv)
 
 loop-again : tie.Need-loop-again Inv-loop μ-loop
-loop-again c = 
+loop-again c =
     let inv = c .before .loop .inv in
-    let q = c .before .loop .qubit in
-    ( omega (arith, c .loop-test .taken)
-    , length-set (c .before .loop .frame) q _ ∙ inv .1
-    , ap (λ l. set l q (4 * (c .before .before .args .first + 2 * q))) (inv .2) ∙ image-word-more (c .before .before .args .frame .now) (c .before .before .args .first) q (omega (arith, c .loop-test .taken, c .before .before .pre))
-    ∙ ap (λ k. overlay (imageWords (c .before .before .args .first) k) (c .before .before .args .frame .now)) (sym (add-one q))
+    let q = c .before .loop .qubit in (
+      omega (arith, c .loop-test .taken),
+      length-set (c .before .loop .frame) q _ ∙ inv .1,
+      ap (λ l. set l q (4 * (c .before .before .args .first + 2 * q))) (inv .2) ∙ image-word-more (c .before .before .args .frame .now) (c .before .before .args .first) q (omega (arith, c .loop-test .taken, c .before .before .pre))
+          ∙ ap (λ k. overlay (imageWords (c .before .before .args .first) k) (c .before .before .args .frame .now)) (sym (add-one q)),
     )
 
 same-length : tie.Need-same-length Inv-loop μ-loop
 same-length c = c .before .loop .inv .1
 
 returns : tie.Need-returns Inv-loop μ-loop
-returns c = 
+returns c =
     let e : c .before .loop .qubit ≡ c .before .before .args .qubits = omega (arith, c .before .loop .inv, c .loop-test .left) in
     c .before .loop .inv .2 ∙ ap (λ k. overlay (imageWords (c .before .before .args .first) k) (c .before .before .args .frame .now)) e
 

@@ -30,21 +30,21 @@ loop-less : tie.Need-loop-less Inv-loop μ-loop
 loop-less c = omega (arith, c .before .before .before .before .before .loop .inv)
 
 loop-again : tie.Need-loop-again Inv-loop μ-loop
-loop-again c = 
+loop-again c =
     let inv = c .before .before .before .before .before .loop .inv in
     let q = c .before .before .before .before .before .loop .qubit in
-    let room = c .before .before .before .before .before .before .before .pre .1 in
-    ( omega (arith, c .before .before .before .before .loop-test .taken)
-    , ap length (c .before .before .put-qubit .ensures) ∙ length-sets (c .before .before .before .before .before .loop .nodes) (4 * q) (5 ∷ q ∷ 13 ∷ q ∷ []) ∙ inv .1
-    , c .before .before .put-qubit .ensures ∙ ap (λ l. sets l (4 * q) (5 ∷ q ∷ 13 ∷ q ∷ [])) (inv .2) ∙ qubit-more (c .before .before .before .before .before .before .before .args .nodes .now) q (omega (arith, c .before .before .before .before .loop-test .taken, c .before .before .before .before .before .before .before .pre))
-    ∙ ap (λ k. overlay (qubitNodes k) (c .before .before .before .before .before .before .before .args .nodes .now)) (sym (add-one q))
+    let room = c .before .before .before .before .before .before .before .pre .1 in (
+      omega (arith, c .before .before .before .before .loop-test .taken),
+      ap length (c .before .before .put-qubit .ensures) ∙ length-sets (c .before .before .before .before .before .loop .nodes) (4 * q) (5 ∷ q ∷ 13 ∷ q ∷ []) ∙ inv .1,
+      c .before .before .put-qubit .ensures ∙ ap (λ l. sets l (4 * q) (5 ∷ q ∷ 13 ∷ q ∷ [])) (inv .2) ∙ qubit-more (c .before .before .before .before .before .before .before .args .nodes .now) q (omega (arith, c .before .before .before .before .loop-test .taken, c .before .before .before .before .before .before .before .pre))
+          ∙ ap (λ k. overlay (qubitNodes k) (c .before .before .before .before .before .before .before .args .nodes .now)) (sym (add-one q)),
     )
 
 same-length : tie.Need-same-length Inv-loop μ-loop
 same-length c = c .before .loop .inv .1
 
 returns : tie.Need-returns Inv-loop μ-loop
-returns c = 
+returns c =
     let e : c .before .loop .qubit ≡ c .before .before .before .args .qubits = omega (arith, c .before .loop .inv, c .loop-test .left) in
     c .before .loop .inv .2 ∙ ap (λ k. overlay (qubitNodes k) (c .before .before .before .args .nodes .now)) e
 

@@ -3,7 +3,6 @@ use mathlib.Core.Path.{refl, _∙_}
 use mathlib.Core.List.{[], _∷_}
 use native.Mathlib.Omega.{arith}
 use borrow.Author.Needs.{needs}
-use lib.ListN.{length}
 use Rattle.arena.specs.Builder.{qubitNodes}
 use Rattle.arena.proofs.Overlay.{overlay-sets, overlay-rest}
 use Rattle.arena.proofs.writes.start_nodes.Statement.{statement}

@@ -1,61 +1,54 @@
+-- `Header::measure` meets its contract, refused or not.
+use mathlib.Core.List.{[], _∷_}
+use mathlib.Core.Path.{refl, ap₂, sym, _∙_}
+use Prim.Native.Nat.{_*_}
+use native.Mathlib.Omega.{arith}
 use borrow.Author.Needs.{needs}
+use lib.Seq.{sets}
+use lib.ListN.{length}
+use Rattle.arena.specs.Builder.{measureStep, MeasuredMade}
+use Rattle.arena.proofs.Accepted.{fits-measure}
 use Rattle.arena.proofs.header.Header.measure.Statement.{statement}
 use Rattle.arena.proofs.header.Header.measure.Tie as tie
-use Rattle.arena.proofs.header.Header.measure.Reads as reads
-use Rattle.arena.proofs.header.Header.measure.Lts as lts
-use Rattle.arena.proofs.checks.check_measure.Reads as check-measure-reads
-use Rattle.arena.proofs.op.MeasId.new.Reads as new-reads
-use Rattle.arena.proofs.pauli_ref.PauliAxis.as_ref.Reads as as-ref-reads
-use Rattle.arena.proofs.writes.put_operation.Reads as put-operation-reads
-use Rattle.arena.proofs.writes.target_word.Reads as target-word-reads
-use Rattle.arena.proofs.writes.with_operation.Reads as with-operation-reads
 
--- src/builder.rt:138:13
 check-measure-requires : tie.Need-check-measure-requires
 check-measure-requires c κs = search needs
 
--- src/builder.rt:139:31
 enum-known-checked : tie.Need-enum-known-checked
 enum-known-checked c = search needs
 
--- src/builder.rt:140:13
 returns : tie.Need-returns
-returns c = ?
+unfolding measureStep
+returns c = rw (sym (c .before .before .before .check-measure .ensures) ∙ c .before .checked .given .1) (refl, refl)
 
 enum-told : tie.Need-enum-told
 enum-told c = search needs
 
--- src/builder.rt:147:13
 as-ref-requires : tie.Need-as-ref-requires
 as-ref-requires c κs = search needs
 
--- src/builder.rt:149:13
 target-word-requires : tie.Need-target-word-requires
-target-word-requires c κs = ?
+target-word-requires c κs = (fits-measure (c .before .before .before .before .before .before .args .self) (length (c .before .before .before .before .before .before .args .operations .now)) (c .before .before .before .before .before .before .args .axis) (c .before .before .before .before .before .before .args .target) (sym (c .before .before .before .before .check-measure .ensures) ∙ c .before .before .enum-told .given .1)) .1
 
--- src/builder.rt:143:9
 put-operation-requires : tie.Need-put-operation-requires
-put-operation-requires c κs = ?
+put-operation-requires c κs = omega (arith, (fits-measure (c .before .before .before .before .before .before .before .args .self) (length (c .before .before .before .before .before .before .before .args .operations .now)) (c .before .before .before .before .before .before .before .args .axis) (c .before .before .before .before .before .before .before .args .target) (sym (c .before .before .before .before .before .check-measure .ensures) ∙ c .before .before .before .enum-told .given .1)) .0)
 
--- src/builder.rt:152:34
 add-with-operation : tie.Need-add-with-operation
-add-with-operation c = ?
+add-with-operation c = omega (arith, (fits-measure (c .before .before .before .before .before .before .before .before .before .before .args .self) (length (c .before .before .before .before .before .before .before .before .before .before .args .operations .now)) (c .before .before .before .before .before .before .before .before .before .before .args .axis) (c .before .before .before .before .before .before .before .before .before .before .args .target) (sym (c .before .before .before .before .before .before .before .before .check-measure .ensures) ∙ c .before .before .before .before .before .before .enum-told .given .1)) .0)
 
--- src/builder.rt:152:13
 with-operation-requires : tie.Need-with-operation-requires
-with-operation-requires c κs = ?
+with-operation-requires c κs = omega (arith, (fits-measure (c .before .before .before .before .before .before .before .before .before .before .args .self) (length (c .before .before .before .before .before .before .before .before .before .before .args .operations .now)) (c .before .before .before .before .before .before .before .before .before .before .args .axis) (c .before .before .before .before .before .before .before .before .before .before .args .target) (sym (c .before .before .before .before .before .before .before .before .check-measure .ensures) ∙ c .before .before .before .before .before .before .enum-told .given .1)) .0)
 
--- src/builder.rt:153:13
 new-requires : tie.Need-new-requires
 new-requires c κs = search needs
 
--- src/builder.rt:134:5
 same-length : tie.Need-same-length
 same-length c = search needs
 
--- src/builder.rt:134:5
 returns-2 : tie.Need-returns-2
-returns-2 c = ?
+unfolding measureStep
+returns-2 c = rw (sym (c .before .before .before .before .before .before .before .before .before .before .check-measure .ensures) ∙ c .before .before .before .before .before .before .before .before .enum-told .given .1)
+    (λ i. MeasuredMade (c .before .with-operation .ensures i) (c .new .ensures i), c .before .before .before .before .put-operation .ensures ∙ ap₂ (λ r t. sets (c .before .before .before .before .before .before .before .before .before .before .before .before .args .operations .now) (4 * c .before .before .before .before .before .before .before .before .before .before .before .before .args .self .operations) (1 ∷ r .word ∷ c .before .before .before .before .before .before .before .before .before .before .before .before .args .self .measurements ∷ t ∷ [])) (c .before .before .before .before .before .before .as-ref .ensures) (c .before .before .before .before .before .target-word .ensures))
 
 pub measure-spec : {M : Type 1} → statement M
 measure-spec =

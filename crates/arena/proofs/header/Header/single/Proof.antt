@@ -1,86 +1,76 @@
+-- `Header::single` meets its contract, refused or not.
+use mathlib.Core.List.{[], _∷_}
+use mathlib.Core.Path.{refl, ap, ap₂, sym, _∙_}
+use Prim.Native.Nat.{_+_, _*_}
+use native.Mathlib.Omega.{arith}
+use borrow.Author.Tests.{eq-eqb, ne-eqb}
 use borrow.Author.Needs.{needs}
+use lib.Seq.{sets}
+use lib.ListN.{length}
+use Rattle.arena.specs.References.{axisOf}
+use Rattle.arena.specs.Builder.{singleStep, SingledMade}
+use Rattle.arena.proofs.Accepted.{fits-single}
 use Rattle.arena.proofs.header.Header.single.Statement.{statement}
 use Rattle.arena.proofs.header.Header.single.Tie as tie
-use Rattle.arena.proofs.header.Header.single.Reads as reads
-use Rattle.arena.proofs.header.Header.single.Lts as lts
-use Rattle.arena.proofs.checks.check_single.Reads as check-single-reads
-use Rattle.arena.proofs.checks.nodes_for.Reads as nodes-for-reads
-use Rattle.arena.proofs.pauli_ref.PauliAxis.assume_hermitian.Reads as assume-hermitian-reads
-use Rattle.arena.proofs.writes.put_node.Reads as put-node-reads
-use Rattle.arena.proofs.writes.reference.Reads as reference-reads
-use Rattle.arena.proofs.writes.with_nodes.Reads as with-nodes-reads
-use Rattle.pauli.proofs.pauli.Pauli.number.Reads as number-reads
 
--- src/builder.rt:89:13
 check-single-requires : tie.Need-check-single-requires
 check-single-requires c κs = search needs
 
--- src/builder.rt:90:31
 enum-known-checked : tie.Need-enum-known-checked
 enum-known-checked c = search needs
 
--- src/builder.rt:91:13
 returns : tie.Need-returns
-returns c = ?
+unfolding singleStep
+returns c = rw (sym (c .before .before .before .check-single .ensures) ∙ c .before .checked .given .1) (refl, refl)
 
 enum-told : tie.Need-enum-told
 enum-told c = search needs
 
--- src/builder.rt:93:12
 nodes-for-requires : tie.Need-nodes-for-requires
 nodes-for-requires c κs = search needs
 
--- src/builder.rt:94:68
 reference-requires : tie.Need-reference-requires
 reference-requires c κs = search needs
 
--- src/builder.rt:94:40
 assume-hermitian-requires : tie.Need-assume-hermitian-requires
 assume-hermitian-requires c κs = search needs
 
--- src/builder.rt:94:13
 returns-2 : tie.Need-returns-2
-returns-2 c = ?
+unfolding singleStep
+returns-2 c = rw (sym (c .before .before .before .before .before .before .check-single .ensures) ∙ c .before .before .before .before .enum-told .given .1, eq-eqb _ _ (sym (c .before .before .before .nodes-for .ensures) ∙ c .before .before .if1 .taken))
+    (ap (λ r. SingledMade (c .before .before .before .before .before .before .before .before .args .self) (axisOf r)) (c .assume-hermitian .ensures ∙ c .before .reference .ensures), refl)
 
--- src/builder.rt:97:39
 number-requires : tie.Need-number-requires
 number-requires c κs = search needs
 
--- src/builder.rt:97:35
 mul-put-node : tie.Need-mul-put-node
-mul-put-node c = ?
+mul-put-node c = omega (arith, (fits-single (c .before .before .before .before .before .before .before .before .args .self) (length (c .before .before .before .before .before .before .before .before .args .nodes .now)) (c .before .before .before .before .before .before .before .before .args .qubit) (c .before .before .before .before .before .before .before .before .args .pauli) (sym (c .before .before .before .before .before .before .check-single .ensures) ∙ c .before .before .before .before .enum-told .given .1)))
 
--- src/builder.rt:97:31
 add-put-node : tie.Need-add-put-node
-add-put-node c = ?
+add-put-node c = omega (arith, (fits-single (c .before .before .before .before .before .before .before .before .args .self) (length (c .before .before .before .before .before .before .before .before .args .nodes .now)) (c .before .before .before .before .before .before .before .before .args .qubit) (c .before .before .before .before .before .before .before .before .args .pauli) (sym (c .before .before .before .before .before .before .check-single .ensures) ∙ c .before .before .before .before .enum-told .given .1)))
 
--- src/builder.rt:97:9
 put-node-requires : tie.Need-put-node-requires
-put-node-requires c κs = ?
+put-node-requires c κs = omega (arith, (fits-single (c .before .before .before .before .before .before .before .before .args .self) (length (c .before .before .before .before .before .before .before .before .args .nodes .now)) (c .before .before .before .before .before .before .before .before .args .qubit) (c .before .before .before .before .before .before .before .before .args .pauli) (sym (c .before .before .before .before .before .before .check-single .ensures) ∙ c .before .before .before .before .enum-told .given .1)))
 
--- src/builder.rt:99:30
 add-with-nodes : tie.Need-add-with-nodes
-add-with-nodes c = ?
+add-with-nodes c = omega (arith, (fits-single (c .before .before .before .before .before .before .before .before .before .before .before .args .self) (length (c .before .before .before .before .before .before .before .before .before .before .before .args .nodes .now)) (c .before .before .before .before .before .before .before .before .before .before .before .args .qubit) (c .before .before .before .before .before .before .before .before .before .before .before .args .pauli) (sym (c .before .before .before .before .before .before .before .before .before .check-single .ensures) ∙ c .before .before .before .before .before .before .before .enum-told .given .1)))
 
--- src/builder.rt:99:13
 with-nodes-requires : tie.Need-with-nodes-requires
 with-nodes-requires c κs = search needs
 
--- src/builder.rt:100:41
 reference-requires-2 : tie.Need-reference-requires-2
-reference-requires-2 c κs = ?
+reference-requires-2 c κs = omega (arith, (fits-single (c .before .before .before .before .before .before .before .before .before .before .before .before .args .self) (length (c .before .before .before .before .before .before .before .before .before .before .before .before .args .nodes .now)) (c .before .before .before .before .before .before .before .before .before .before .before .before .args .qubit) (c .before .before .before .before .before .before .before .before .before .before .before .before .args .pauli) (sym (c .before .before .before .before .before .before .before .before .before .before .check-single .ensures) ∙ c .before .before .before .before .before .before .before .before .enum-told .given .1)))
 
--- src/builder.rt:100:13
 assume-hermitian-requires-2 : tie.Need-assume-hermitian-requires-2
 assume-hermitian-requires-2 c κs = search needs
 
--- src/builder.rt:85:5
 same-length : tie.Need-same-length
 same-length c = search needs
 
--- src/builder.rt:85:5
 returns-3 : tie.Need-returns-3
-returns-3 c = ?
+unfolding singleStep
+returns-3 c = rw (sym (c .before .before .before .before .before .before .before .before .before .before .before .before .check-single .ensures) ∙ c .before .before .before .before .before .before .before .before .before .before .enum-told .given .1, ne-eqb _ _ (λ e. c .before .before .before .before .before .before .before .before .if1 .left (c .before .before .before .before .before .before .before .before .before .nodes-for .ensures ∙ e)))
+    (ap₂ (λ h r. SingledMade h (axisOf r)) (c .before .before .with-nodes .ensures) (c .assume-hermitian2 .ensures ∙ c .before .reference2 .ensures), c .before .before .before .before .before .put-node .ensures ∙ ap (λ k. sets (c .before .before .before .before .before .before .before .before .before .before .before .before .before .before .args .nodes .now) (2 * c .before .before .before .before .before .before .before .before .before .before .before .before .before .before .args .self .nodes) ((1 + 4 * k) ∷ c .before .before .before .before .before .before .before .before .before .before .before .before .before .before .args .qubit ∷ [])) (c .before .before .before .before .before .before .number .ensures))
 
 pub single-spec : {M : Type 1} → statement M
 single-spec =
