@@ -19,10 +19,12 @@ never : (e : PbcError) → Wrong e ≡ Fine → ⊥
 never e p = let z : _≡_ {A = ℕ} 0 1 = cc in omega arith
 
 pub passed-before : (c : Checked) (b : Bool) (e : PbcError) → (c ⟫ b ⇒ e) ≡ Fine → c ≡ Fine
+unfolding _⟫_⇒_
 passed-before Fine b e p = refl
 passed-before (Wrong x) b e p = absurd (never x p)
 
 pub test-passed : (c : Checked) (b : Bool) (e : PbcError) → (c ⟫ b ⇒ e) ≡ Fine → b ≡ false
+unfolding _⟫_⇒_
 test-passed Fine true e p = absurd (never e p)
 test-passed Fine false e p = refl
 test-passed (Wrong x) b e p = absurd (never x p)

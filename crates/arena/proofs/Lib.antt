@@ -2,3 +2,4 @@
 pub mod Words
 pub mod Overlay
 pub mod Accepted
+pub mod Reading

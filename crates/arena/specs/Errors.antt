@@ -32,7 +32,7 @@ refusalIn NoPool = refusalOf 18 0 0
 refusalIn NonHermitianAxis = refusalOf 19 0 0
 
 -- the checks so far, then one more: the first test that holds decides
-abbrev pub _⟫_⇒_ : Checked → Bool → PbcError → Checked
+unfoldable pub _⟫_⇒_ : Checked → Bool → PbcError → Checked
 Fine ⟫ true ⇒ e = Wrong e
 Fine ⟫ false ⇒ e = Fine
 Wrong first ⟫ b ⇒ e = Wrong first

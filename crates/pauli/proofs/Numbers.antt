@@ -1,9 +1,9 @@
 -- Phases and letters by their numbers.
-use mathlib.Core.Path.{_≡_, refl, ap, _∙_}
+use mathlib.Core.Path.{_≡_, refl, ap, sym, _∙_}
 use mathlib.Core.Logic.{_≢_}
 use Prim.Native.Nat.{ℕ, zero, suc, _+_, _*_, _/_, _%_, _<_}
 use native.Mathlib.Omega.{arith}
-use Rattle.pauli.specs.Letters.{Phase, One, PlusI, MinusOne, MinusI, _⊕_, timesI, power, phaseNumber, I, pauliOf}
+use Rattle.pauli.specs.Letters.{Phase, One, PlusI, MinusOne, MinusI, _⊕_, timesI, power, phaseNumber, Pauli, I, X, Y, Z, pauliOf, pauliNumber}
 use Rattle.pauli.proofs.Finite.{turns, phase, law₁, law₂}
 
 four-i : (p : Phase) → timesI (timesI (timesI (timesI p))) ≡ p
@@ -36,3 +36,20 @@ pauliOf-rest (suc zero) p q r = absurd (p refl)
 pauliOf-rest (suc (suc zero)) p q r = absurd (q refl)
 pauliOf-rest (suc (suc (suc zero))) p q r = absurd (r refl)
 pauliOf-rest (suc (suc (suc (suc n)))) p q r = refl
+
+-- a phase times iⁿ, by the numbers
+pub power-plus : (n : ℕ) (p : Phase) → power ((n + phaseNumber p) % 4) ≡ p ⊕ power n
+unfolding power
+power-plus n p = sym (power-rest (n + phaseNumber p) ((n + phaseNumber p) % 4) refl) ∙ go p
+  where
+    go : (p : Phase) → power (n + phaseNumber p) ≡ p ⊕ power n
+    go One = let e : n + 0 ≡ n = omega arith in ap power e
+    go PlusI = let e : n + 1 ≡ suc n = omega arith in ap power e
+    go MinusOne = let e : n + 2 ≡ suc (suc n) = omega arith in ap power e
+    go MinusI = let e : n + 3 ≡ suc (suc (suc n)) = omega arith in ap power e
+
+pub pauliNumber-small : (a : Pauli) → pauliNumber a < 4
+pauliNumber-small I = omega arith
+pauliNumber-small X = omega arith
+pauliNumber-small Y = omega arith
+pauliNumber-small Z = omega arith

@@ -1,6 +1,8 @@
 -- `check_new` meets its contract, check by check.
 use mathlib.Core.Path.{ap, _∙_}
 use borrow.Author.Needs.{needs}
+use Prim.Native.Nat.{_+_, _*_, _/_}
+use lib.Dec.{ltb}
 use Rattle.arena.specs.Errors.{_⟫_⇒_, NoFrame, NoNodes}
 use Rattle.arena.specs.Builder.{newCheck}
 use Rattle.arena.proofs.checks.check_new.Statement.{statement}
@@ -28,8 +30,8 @@ returns : tie.Need-returns
 unfolding newCheck
 returns c =
     let r1 = c .before .before .refuse-if .ensures in
-    let r2 = c .before .refuse-if2 .ensures ∙ ap (λ k. k ⟫ _ ⇒ NoFrame) r1 in
-    c .refuse-if3 .ensures ∙ ap (λ k. k ⟫ _ ⇒ NoNodes) r2
+    let r2 = c .before .refuse-if2 .ensures ∙ ap (λ k. k ⟫ ltb (c .before .before .before .args .frame) (2 * c .before .before .before .args .qubits) ⇒ NoFrame) r1 in
+    c .refuse-if3 .ensures ∙ ap (λ k. k ⟫ ltb (c .before .before .before .args .nodes / 2) (1 + 2 * c .before .before .before .args .qubits) ⇒ NoNodes) r2
 
 pub check-new-spec : {M : Type 1} → statement M
 check-new-spec =

@@ -2,6 +2,7 @@
 use mathlib.Core.Path.{ap, ap₂, _∙_}
 use mathlib.Core.Bool.{_||_}
 use borrow.Author.Needs.{needs}
+use lib.Dec.{leb}
 use Rattle.arena.specs.Errors.{Fine, _⟫_⇒_, BadStore, QubitOutOfRange, NoNodes}
 use Rattle.arena.specs.Builder.{singleCheck}
 use Rattle.arena.specs.Store.{noNodeRoom}
@@ -33,7 +34,7 @@ returns : tie.Need-returns
 unfolding singleCheck
 returns c =
     let r1 = c .before .before .before .before .before .refuse-if .ensures ∙ ap (λ b. Fine ⟫ b ⇒ BadStore) (ap₂ _||_ (c .before .before .before .before .before .before .before .breaks-limit .ensures) (c .before .before .before .before .before .before .exceeds-nodes .ensures)) in
-    let r2 = c .before .before .before .refuse-if2 .ensures ∙ ap (λ k. k ⟫ _ ⇒ QubitOutOfRange 0 (c .before .before .before .before .before .before .before .before .args .qubit)) r1 in
+    let r2 = c .before .before .before .refuse-if2 .ensures ∙ ap (λ k. k ⟫ leb (c .before .before .before .before .before .before .before .before .args .header .qubits) (c .before .before .before .before .before .before .before .before .args .qubit) ⇒ QubitOutOfRange 0 (c .before .before .before .before .before .before .before .before .args .qubit)) r1 in
     c .refuse-if3 .ensures ∙ ap₂ (λ k b. k ⟫ b ⇒ NoNodes) r2 (c .before .no-node-room .ensures ∙ ap (noNodeRoom (c .before .before .before .before .before .before .before .before .args .header) (c .before .before .before .before .before .before .before .before .args .nodes)) (c .before .before .nodes-for .ensures))
 
 pub check-single-spec : {M : Type 1} → statement M

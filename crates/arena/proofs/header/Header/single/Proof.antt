@@ -7,6 +7,7 @@ use borrow.Author.Tests.{eq-eqb, ne-eqb}
 use borrow.Author.Needs.{needs}
 use lib.Seq.{sets}
 use lib.ListN.{length}
+use Rattle.pauli.proofs.Numbers.{pauliNumber-small}
 use Rattle.arena.specs.References.{axisOf}
 use Rattle.arena.specs.Builder.{singleStep, SingledMade}
 use Rattle.arena.proofs.Accepted.{fits-single}
@@ -44,10 +45,10 @@ number-requires : tie.Need-number-requires
 number-requires c κs = search needs
 
 mul-put-node : tie.Need-mul-put-node
-mul-put-node c = omega (arith, (fits-single (c .before .before .before .before .before .before .before .before .args .self) (length (c .before .before .before .before .before .before .before .before .args .nodes .now)) (c .before .before .before .before .before .before .before .before .args .qubit) (c .before .before .before .before .before .before .before .before .args .pauli) (sym (c .before .before .before .before .before .before .check-single .ensures) ∙ c .before .before .before .before .enum-told .given .1)))
+mul-put-node c = omega (arith, pauliNumber-small (c .before .before .before .before .before .before .before .before .args .pauli))
 
 add-put-node : tie.Need-add-put-node
-add-put-node c = omega (arith, (fits-single (c .before .before .before .before .before .before .before .before .args .self) (length (c .before .before .before .before .before .before .before .before .args .nodes .now)) (c .before .before .before .before .before .before .before .before .args .qubit) (c .before .before .before .before .before .before .before .before .args .pauli) (sym (c .before .before .before .before .before .before .check-single .ensures) ∙ c .before .before .before .before .enum-told .given .1)))
+add-put-node c = omega (arith, pauliNumber-small (c .before .before .before .before .before .before .before .before .args .pauli))
 
 put-node-requires : tie.Need-put-node-requires
 put-node-requires c κs = omega (arith, (fits-single (c .before .before .before .before .before .before .before .before .args .self) (length (c .before .before .before .before .before .before .before .before .args .nodes .now)) (c .before .before .before .before .before .before .before .before .args .qubit) (c .before .before .before .before .before .before .before .before .args .pauli) (sym (c .before .before .before .before .before .before .check-single .ensures) ∙ c .before .before .before .before .enum-told .given .1)))
