@@ -3,3 +3,5 @@ pub mod Words
 pub mod Overlay
 pub mod Accepted
 pub mod Reading
+pub mod Spans
+pub mod Images

@@ -20,7 +20,7 @@ sets₄ ws i a b c d =
     let e₃ : i + 3 ≡ suc (suc (suc i)) = omega arith in
     rw (e₁, e₂, e₃)
 
-length-overlay : (us ws : List ℕ) → length us ≤ length ws → length (overlay us ws) ≡ length ws
+pub length-overlay : (us ws : List ℕ) → length us ≤ length ws → length (overlay us ws) ≡ length ws
 length-overlay us ws h = rw (length-append, length-drop) (omega arith)
 
 -- one word more

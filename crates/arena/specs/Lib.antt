@@ -8,3 +8,4 @@ pub mod Nodes
 pub mod Operations
 pub mod Store
 pub mod Builder
+pub mod Calls

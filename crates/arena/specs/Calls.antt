@@ -1,0 +1,102 @@
+-- The six calls as one: what any of them is refused by, and what it leaves in the slices lent.
+use mathlib.Core.Path.{_≡_}
+use mathlib.Core.Logic.{_⊎_}
+use Prim.Native.Nat.{ℕ, _+_, _*_, _<_, _≤_}
+use mathlib.Core.List.{List}
+use lib.ListN.{length, getD}
+use Rattle.arena.specs.Types.{Pauli, PauliAngle}
+use Rattle.arena.specs.Limits.{nodeWords, operationWords}
+use Rattle.arena.specs.Errors.{Checked}
+use Rattle.arena.specs.References.{PauliRef, PauliAxis}
+use Rattle.arena.specs.Operations.{MeasId, Target}
+use Rattle.arena.specs.Store.{Header}
+use Rattle.arena.specs.Builder.{nodesFor, newCheck, newStep, singleCheck, singleStep, productCheck, productStep, rotateCheck, rotateStep, measureCheck, measureStep, conditionalCheck, conditionalStep}
+
+-- a call with all its arguments but the slices
+pub data Call : Type 0 where
+  callNew : (qubits cbits owner : ℕ) → Call
+  callSingle : Header → (qubit : ℕ) → Pauli → Call
+  callProduct : Header → (left right : PauliRef) → Call
+  callRotate : Header → PauliAxis → PauliAngle → Call
+  callMeasure : Header → PauliAxis → Target → Call
+  callConditional : Header → PauliAxis → PauliAngle → MeasId → Call
+
+-- the slices lent
+pub record Slices : Type 0 where
+  pub nodes : List ℕ
+  pub operations : List ℕ
+  pub frame : List ℕ
+
+unfoldable pub checked : Call → Slices → Checked
+checked (callNew n c o) s = newCheck n c (length (s .nodes)) (length (s .frame))
+checked (callSingle h q a) s = singleCheck h (length (s .nodes)) q a
+checked (callProduct h l r) s = productCheck h (length (s .nodes)) l r
+checked (callRotate h x k) s = rotateCheck h (length (s .operations)) x
+checked (callMeasure h x t) s = measureCheck h (length (s .operations)) x t
+checked (callConditional h x k m) s = conditionalCheck h (length (s .operations)) x m
+
+abbrev pub withNodeWords : List ℕ → Slices → Slices
+withNodeWords ws s = record { nodes = ws; operations = s .operations; frame = s .frame }
+
+abbrev pub withOperationWords : List ℕ → Slices → Slices
+withOperationWords ws s = record { nodes = s .nodes; operations = ws; frame = s .frame }
+
+-- the slices afterwards, by the definitions that the contracts cite
+unfoldable pub after : Call → Slices → Slices
+after (callNew n c o) s = record {
+  nodes = newStep n c o (s .nodes) (s .frame) .words .nodes;
+  operations = s .operations;
+  frame = newStep n c o (s .nodes) (s .frame) .words .frame;
+}
+after (callSingle h q a) s = withNodeWords (singleStep h (s .nodes) q a .words) s
+after (callProduct h l r) s = withNodeWords (productStep h (s .nodes) l r .words) s
+after (callRotate h x k) s = withOperationWords (rotateStep h (s .operations) x k .words) s
+after (callMeasure h x t) s = withOperationWords (measureStep h (s .operations) x t .words) s
+after (callConditional h x k m) s = withOperationWords (conditionalStep h (s .operations) x k m .words) s
+
+-- ---- the entries that a call may write: those it takes into use
+
+pub record Span : Type 0 where
+  pub from : ℕ
+  pub to : ℕ
+
+abbrev pub span : ℕ → ℕ → Span
+span from to = record { from = from; to = to }
+
+abbrev pub nodeSpan : Call → Span
+nodeSpan (callNew n c o) = span 0 (nodeWords * (1 + 2 * n))
+nodeSpan (callSingle h q a) = span (nodeWords * h .nodes) (nodeWords * (h .nodes + nodesFor a))
+nodeSpan (callProduct h l r) = span (nodeWords * h .nodes) (nodeWords * (h .nodes + 1))
+nodeSpan (callRotate h x k) = span 0 0
+nodeSpan (callMeasure h x t) = span 0 0
+nodeSpan (callConditional h x k m) = span 0 0
+
+abbrev pub operationSpan : Call → Span
+operationSpan (callNew n c o) = span 0 0
+operationSpan (callSingle h q a) = span 0 0
+operationSpan (callProduct h l r) = span 0 0
+operationSpan (callRotate h x k) = span (operationWords * h .operations) (operationWords * (h .operations + 1))
+operationSpan (callMeasure h x t) = span (operationWords * h .operations) (operationWords * (h .operations + 1))
+operationSpan (callConditional h x k m) = span (operationWords * h .operations) (operationWords * (h .operations + 1))
+
+abbrev pub frameSpan : Call → Span
+frameSpan (callNew n c o) = span 0 (2 * n)
+frameSpan (callSingle h q a) = span 0 0
+frameSpan (callProduct h l r) = span 0 0
+frameSpan (callRotate h x k) = span 0 0
+frameSpan (callMeasure h x t) = span 0 0
+frameSpan (callConditional h x k m) = span 0 0
+
+-- place i lies outside
+abbrev pub Outside : Span → ℕ → Type 0
+Outside s i = (i < s .from) ⊎ (s .to ≤ i)
+
+-- a slice keeps its length, and its words outside a span
+pub record Kept (sp : Span) (was now : List ℕ) : Type 0 where
+  pub size : length now ≡ length was
+  pub outside : (i : ℕ) → Outside sp i → getD now i 0 ≡ getD was i 0
+
+pub record KeptSlices (c : Call) (was now : Slices) : Type 0 where
+  pub nodes : Kept (nodeSpan c) (was .nodes) (now .nodes)
+  pub operations : Kept (operationSpan c) (was .operations) (now .operations)
+  pub frame : Kept (frameSpan c) (was .frame) (now .frame)
