@@ -1,30 +1,30 @@
 -- What the references that the calls answer stand for.
 use mathlib.Core.Path.{_≡_, refl, ap, ap₂, sym, _∙_}
-use mathlib.Core.Bool.{true, false}
+use mathlib.Core.Bool.{true}
 use mathlib.Core.List.{List, [], _∷_, _++_, map}
-use Prim.Native.Nat.{ℕ, zero, suc, _+_, _*_, _/_, _%_, _≤_, _<_}
+use Prim.Native.Nat.{ℕ, zero, suc, _+_, _*_, _/_, _≤_, _<_}
 use native.Mathlib.Nat.{not-suc-le-zero, zero-add, add-zero, suc-add, add-suc}
 use native.Mathlib.Decide.{ℕ-discrete}
 use native.Mathlib.Numerals.{add-one}
 use native.Mathlib.Omega.{arith}
 use lib.ListN.{length, getD, take, drop, set, length-append, List·getD-append}
 use lib.Seq.{sets, take-set-le, take-at, getD-set-same, getD-set-other, getD-append-add, lt-length-set}
-use Rattle.pauli.specs.Rows.{Row, _★_, identity, single, present}
+use Rattle.pauli.specs.Rows.{Row, _★_, single, present}
 use Rattle.pauli.specs.Table.{column, start}
 use Rattle.arena.specs.Types.{Pauli, I, X, Y, Z}
 use Rattle.arena.specs.Errors.{Fine}
 use Rattle.arena.specs.References.{PauliRef, nodeIn}
-use Rattle.arena.specs.Nodes.{Single, Product, singleWord, productWord, decode, nodeAt, rowOf, values, image}
+use Rattle.arena.specs.Nodes.{singleWord, productWord, decode, nodeAt, rowOf, values, image}
 use Rattle.arena.specs.Store.{Header}
-use Rattle.arena.specs.Builder.{overlay, qubitNodes, startNodes, imageWords, startFrame, nodePut, nodesFor, newCheck, newStep, singleCheck, singleStep, productCheck, productStep}
-use Rattle.arena.proofs.Accepted.{FitsSingle, fits-single, FitsProduct, fits-product, fits-new}
+use Rattle.arena.specs.Builder.{overlay, qubitNodes, startNodes, imageWords, startFrame, nodePut, nodesFor, singleCheck, productCheck}
+use Rattle.arena.proofs.Accepted.{FitsSingle, fits-single, FitsProduct, fits-product}
 use Rattle.arena.proofs.Overlay.{length-qubitNodes, length-imageWords}
 use Rattle.arena.proofs.Reading.{image-older, image-of-node, single-decodes, product-decodes}
 
 -- ---- a node put after k others
 
 module _ (ws : List ℕ) (k a b : ℕ) (room : 2 * k + 1 < length ws) where
-  put-older : take (2 * k) ws ≡ take (2 * k) (sets ws (2 * k) (a ∷ b ∷ []))
+  pub put-older : take (2 * k) ws ≡ take (2 * k) (sets ws (2 * k) (a ∷ b ∷ []))
   put-older = sym (take-set-le (2 * k) (set ws (2 * k) a) (suc (2 * k)) b (omega arith) ∙ take-set-le (2 * k) ws (2 * k) a (omega arith))
 
   put-node : (n : ℕ) → nodeAt n (sets ws (2 * k) (a ∷ b ∷ [])) k ≡ decode n k a b

@@ -5,3 +5,5 @@ pub mod Accepted
 pub mod Reading
 pub mod Spans
 pub mod Images
+pub mod Answers
+pub mod Theorems

@@ -1,12 +1,10 @@
 -- A refused call leaves every slice; an accepted one writes the entries that it takes into use, and no other.
-use mathlib.Core.Path.{_≡_, refl, ap, sym, _∙_}
-use mathlib.Core.Logic.{_⊎_, inl, inr}
-use mathlib.Core.Bool.{Bool, true, false, cond}
-use mathlib.Core.List.{List, [], _∷_, _++_}
-use Prim.Native.Nat.{ℕ, zero, suc, _+_, _-_, _*_, _≤_, _<_}
+use mathlib.Core.Path.{_≡_, refl, ap, _∙_}
+use mathlib.Core.Logic.{inl, inr}
+use mathlib.Core.List.{List, [], _∷_}
+use Prim.Native.Nat.{ℕ, suc, _+_, _-_, _*_, _≤_, _<_}
 use native.Mathlib.Omega.{arith}
-use lib.Dec.{eqb}
-use lib.ListN.{length, getD, drop, set, length-append, length-drop}
+use lib.ListN.{length, getD, drop, set, length-append}
 use lib.Seq.{sets, length-sets, getD-set-other, getD-append-add, getD-drop}
 use Rattle.arena.specs.Types.{Pauli, I, X, Y, Z}
 use Rattle.arena.specs.Errors.{PbcError, Checked, Fine, Wrong}
@@ -14,7 +12,7 @@ use Rattle.pauli.specs.Angle.{eighthsOf}
 use Rattle.arena.specs.Nodes.{singleWord, productWord}
 use Rattle.arena.specs.Operations.{rotateWords, measureWords, conditionalWords}
 use Rattle.arena.specs.Store.{Header}
-use Rattle.arena.specs.Builder.{Lent, Step, decided, overlay, qubitNodes, startNodes, imageWords, startFrame, nodesFor, newCheck, newStep, singleCheck, singleStep, productCheck, productStep, rotateCheck, rotateStep, measureCheck, measureStep, conditionalCheck, conditionalStep}
+use Rattle.arena.specs.Builder.{Lent, Step, decided, overlay, startNodes, imageWords, startFrame, newCheck, newStep, singleCheck, singleStep, productCheck, productStep, rotateCheck, rotateStep, measureCheck, measureStep, conditionalCheck, conditionalStep}
 use Rattle.arena.specs.Calls.{Call, callNew, callSingle, callProduct, callRotate, callMeasure, callConditional, Slices, checked, withNodeWords, withOperationWords, after, Span, span, nodeSpan, operationSpan, frameSpan, Outside, Kept, KeptSlices}
 use Rattle.arena.proofs.Accepted.{fits-new}
 use Rattle.arena.proofs.Overlay.{length-overlay, length-qubitNodes, length-imageWords}

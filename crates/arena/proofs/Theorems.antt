@@ -1,0 +1,62 @@
+-- What is proved of the arena, in the words of specs/ alone.
+use mathlib.Core.Path.{_≡_}
+use mathlib.Core.Bool.{true}
+use mathlib.Core.List.{List, map}
+use Prim.Native.Nat.{ℕ, _*_, _≤_, _<_}
+use lib.ListN.{take}
+use Rattle.pauli.specs.Rows.{_★_, scaled, single, present}
+use Rattle.pauli.specs.Table.{start}
+use Rattle.arena.specs.Types.{Pauli, Phase}
+use Rattle.arena.specs.Errors.{PbcError, Fine, Wrong}
+use Rattle.arena.specs.References.{PauliRef, PauliAxis, nodeIn, scaledWord}
+use Rattle.arena.specs.Nodes.{image}
+use Rattle.arena.specs.Store.{Header}
+use Rattle.arena.specs.Builder.{CreatedMade, SingledMade, MultipliedMade, newStep, singleStep, productStep}
+use Rattle.arena.specs.Calls.{Call, Slices, checked, after, KeptSlices}
+use Rattle.arena.proofs.Reading
+use Rattle.arena.proofs.Answers
+use Rattle.arena.proofs.Spans
+
+-- ---- demand 1, for the calls of this crate
+
+-- a refused call leaves every slice as it was
+pub refused-untouched : (c : Call) (s : Slices) (e : PbcError) → checked c s ≡ Wrong e → after c s ≡ s
+refused-untouched = Spans.refused-untouched
+
+-- an accepted one writes the entries that it takes into use, and no other
+pub accepted-used-only : (s : Slices) (c : Call) → checked c s ≡ Fine → KeptSlices c s (after c s)
+accepted-used-only = Spans.accepted-used-only
+
+-- ---- appending nodes changes no older image
+
+pub image-older : (n k m : ℕ) (ws vs : List ℕ) (w : ℕ) → nodeIn w < k → k ≤ m → take (2 * k) ws ≡ take (2 * k) vs → image n m vs w ≡ image n k ws w
+image-older = Reading.image-older
+
+pub single-older : (h : Header) (ws : List ℕ) (q : ℕ) (a : Pauli) (h′ : Header) (x : PauliAxis) → singleStep h ws q a .answer ≡ SingledMade h′ x
+    → (w : ℕ) → nodeIn w < h .nodes → image (h′ .qubits) (h′ .nodes) (singleStep h ws q a .words) w ≡ image (h .qubits) (h .nodes) ws w
+single-older = Answers.single-older
+
+pub product-older : (h : Header) (ws : List ℕ) (l r : PauliRef) (h′ : Header) (x : PauliRef) → productStep h ws l r .answer ≡ MultipliedMade h′ x
+    → (w : ℕ) → nodeIn w < h .nodes → image (h′ .qubits) (h′ .nodes) (productStep h ws l r .words) w ≡ image (h .qubits) (h .nodes) ws w
+product-older = Answers.product-older
+
+-- ---- what the answers stand for
+
+-- the letter on that qubit, for a letter other than I (I answers node 0, whatever stands there)
+pub single-image : (h : Header) (ws : List ℕ) (q : ℕ) (a : Pauli) (h′ : Header) (x : PauliAxis) → present a ≡ true → singleStep h ws q a .answer ≡ SingledMade h′ x
+    → image (h′ .qubits) (h′ .nodes) (singleStep h ws q a .words) (x .0 .word) ≡ single (h .qubits) q a
+single-image = Answers.single-answer
+
+-- the product of the two images, left times right
+pub product-image : (h : Header) (ws : List ℕ) (l r : PauliRef) (h′ : Header) (x : PauliRef) → productStep h ws l r .answer ≡ MultipliedMade h′ x
+    → image (h′ .qubits) (h′ .nodes) (productStep h ws l r .words) (x .word) ≡ image (h .qubits) (h .nodes) ws (l .word) ★ image (h .qubits) (h .nodes) ws (r .word)
+product-image = Answers.product-answer
+
+-- a phase in front of a word is in front of its image
+pub scaled-image : (n k : ℕ) (words : List ℕ) (p : Phase) (w : ℕ) → image n k words (scaledWord p w) ≡ scaled p (image n k words w)
+scaled-image = Reading.image-scaled
+
+-- the frame words of a new circuit stand for the rows of the plain table's start
+pub new-images : (qubits cbits owner : ℕ) (nodes frame : List ℕ) (h : Header) → newStep qubits cbits owner nodes frame .answer ≡ CreatedMade h
+    → map (image (h .qubits) (h .nodes) (newStep qubits cbits owner nodes frame .words .nodes)) (take (2 * h .qubits) (newStep qubits cbits owner nodes frame .words .frame)) ≡ start (h .qubits)
+new-images = Answers.new-answer
