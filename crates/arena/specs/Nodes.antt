@@ -1,5 +1,5 @@
 -- Nodes (document 01): what two words stand for, and the row of each node, read from the front.
-use mathlib.Core.Bool.{Bool, true, false, cond, _&&_}
+use mathlib.Core.Bool.{cond, _&&_}
 use mathlib.Core.List.{List, [], _∷_, _++_}
 use Prim.Native.Nat.{ℕ, zero, suc, _+_, _*_, _/_, _%_}
 use lib.Dec.{leb, ltb, eqb}
@@ -30,12 +30,6 @@ decode n i a b = decodeAs (a % 4) n i (a / 4) b
 -- node i among the words
 unfoldable pub nodeAt : ℕ → List ℕ → ℕ → PauliNode
 nodeAt n words i = decode n i (getD words (2 * i) 0) (getD words (2 * i + 1) 0)
-
-abbrev pub wellFormed : PauliNode → Bool
-wellFormed Identity = true
-wellFormed (Single q a) = true
-wellFormed (Product l r) = true
-wellFormed Malformed = false
 
 -- ---- what a word stands for
 
