@@ -9,3 +9,5 @@ pub mod Operations
 pub mod Store
 pub mod Builder
 pub mod Calls
+pub mod Sparse
+pub mod Walk
