@@ -9,7 +9,6 @@ mod limits;
 mod node;
 mod op;
 mod pauli_ref;
-mod writes;
 
 pub use builder::Created;
 pub use builder::Measured;

@@ -136,181 +136,93 @@ fn header(qubits: u32, cbits: u32, nodes: u32, operations: u32, measurements: u3
     }
 }
 
-fn single(label: &[u8], h: Header, nodes: &mut [u32], qubit: u32, pauli: Pauli) {
+// A node added to a slice of six.
+fn single(label: &[u8], h: Header, qubit: u32, pauli: Pauli) {
+    let mut nodes = [7u32; 12];
     text(label);
-    match h.single(nodes, qubit, pauli) {
+    match h.single(&mut nodes, qubit, pauli) {
         Singled::Made(made, axis) => {
             accepted(made);
-            number(axis.as_ref().word as u64);
+            word(axis.as_ref().word);
         }
         Singled::Refused(e) => refused(e),
     }
-    ends(nodes);
+    ends(&nodes);
+}
+
+fn bad(label: &[u8], h: Header) {
+    single(label, h, 0, Pauli::X);
+}
+
+fn bad_stores() {
+    let most: u32 = 4294967295;
+    bad(b"over the qubits", header(257, 0, 5, 0, 0));
+    bad(b"over the bits", header(2, 65537, 5, 0, 0));
+    bad(b"with no node", header(2, 0, 0, 0, 0));
+    bad(b"over the nodes", header(2, 0, 65537, 0, 0));
+    bad(b"over the operations", header(2, 0, 5, 65537, 0));
+    bad(b"over the measurements", header(2, 0, 5, 3, 4));
+    bad(b"over the slice", header(2, 0, 7, 0, 0));
+    bad(b"all greatest", header(most, most, most, most, most));
 }
 
 fn singles() {
-    let mut nodes = [7u32; 12];
-    single(
-        b"single over the qubits",
-        header(257, 0, 5, 0, 0),
-        &mut nodes,
-        0,
-        Pauli::X,
-    );
-    single(
-        b"single over the bits",
-        header(2, 65537, 5, 0, 0),
-        &mut nodes,
-        0,
-        Pauli::X,
-    );
-    single(
-        b"single with no node",
-        header(2, 0, 0, 0, 0),
-        &mut nodes,
-        0,
-        Pauli::X,
-    );
-    single(
-        b"single over the nodes",
-        header(2, 0, 65537, 0, 0),
-        &mut nodes,
-        0,
-        Pauli::X,
-    );
-    single(
-        b"single over the operations",
-        header(2, 0, 5, 65537, 0),
-        &mut nodes,
-        0,
-        Pauli::X,
-    );
-    single(
-        b"single over the measurements",
-        header(2, 0, 5, 3, 4),
-        &mut nodes,
-        0,
-        Pauli::X,
-    );
-    single(
-        b"single over the slice",
-        header(2, 0, 7, 0, 0),
-        &mut nodes,
-        0,
-        Pauli::X,
-    );
-    single(
-        b"single all greatest",
-        header(4294967295, 4294967295, 4294967295, 4294967295, 4294967295),
-        &mut nodes,
-        0,
-        Pauli::X,
-    );
+    let full = header(2, 0, 6, 0, 0);
+    let last = header(2, 0, 5, 0, 0);
     single(
         b"single of I at no qubit",
         header(0, 0, 1, 0, 0),
-        &mut nodes,
         0,
         Pauli::I,
     );
-    single(
-        b"single past the qubits",
-        header(2, 0, 5, 0, 0),
-        &mut nodes,
-        2,
-        Pauli::Z,
-    );
-    single(
-        b"single far past the qubits",
-        header(2, 0, 6, 0, 0),
-        &mut nodes,
-        4294967295,
-        Pauli::Z,
-    );
-    single(
-        b"single of Z on a full slice",
-        header(2, 0, 6, 0, 0),
-        &mut nodes,
-        1,
-        Pauli::Z,
-    );
-    single(
-        b"single of I on a full slice",
-        header(2, 0, 6, 0, 0),
-        &mut nodes,
-        1,
-        Pauli::I,
-    );
-    single(
-        b"single of Y in the last place",
-        header(2, 0, 5, 0, 0),
-        &mut nodes,
-        1,
-        Pauli::Y,
-    );
-}
-
-fn product(label: &[u8], h: Header, nodes: &mut [u32], left: PauliRef, right: PauliRef) {
-    text(label);
-    match h.product(nodes, left, right) {
-        Multiplied::Made(made, reference) => {
-            accepted(made);
-            number(reference.word as u64);
-        }
-        Multiplied::Refused(e) => refused(e),
-    }
-    ends(nodes);
+    single(b"single past the qubits", last, 2, Pauli::Z);
+    single(b"single far past the qubits", full, 4294967295, Pauli::Z);
+    single(b"single of Z on a full slice", full, 1, Pauli::Z);
+    single(b"single of I on a full slice", full, 1, Pauli::I);
+    single(b"single of Y in the last place", last, 1, Pauli::Y);
 }
 
 fn reference(owner: u64, word: u32) -> PauliRef {
     PauliRef { owner, word }
 }
 
-fn products() {
+// A product added to a slice of six.
+fn product(label: &[u8], used: u32, left: PauliRef, right: PauliRef) {
     let mut nodes = [7u32; 12];
-    let h = header(2, 0, 5, 0, 0);
-    product(
-        b"product of another's",
-        h,
-        &mut nodes,
-        reference(12, 4),
-        reference(OWNER, 4),
-    );
-    product(
-        b"product with another's",
-        h,
-        &mut nodes,
-        reference(OWNER, 4),
-        reference(12, 4),
-    );
-    product(
-        b"product of an unused node",
-        h,
-        &mut nodes,
-        reference(OWNER, 20),
-        reference(OWNER, 4),
-    );
+    text(label);
+    match header(2, 0, used, 0, 0).product(&mut nodes, left, right) {
+        Multiplied::Made(made, reference) => {
+            accepted(made);
+            word(reference.word);
+        }
+        Multiplied::Refused(e) => refused(e),
+    }
+    ends(&nodes);
+}
+
+fn products() {
+    let own = reference(OWNER, 4);
+    let other = reference(12, 4);
+    product(b"product of another's", 5, other, own);
+    product(b"product with another's", 5, own, other);
+    product(b"product of an unused node", 5, reference(OWNER, 20), own);
     product(
         b"product with the greatest word",
-        h,
-        &mut nodes,
-        reference(OWNER, 4),
+        5,
+        own,
         reference(OWNER, 4294967295),
     );
-    product(
-        b"product in a full slice",
-        header(2, 0, 6, 0, 0),
-        &mut nodes,
-        reference(OWNER, 4),
-        reference(OWNER, 12),
-    );
+    product(b"product in a full slice", 6, own, own);
     product(
         b"product in the last place",
-        h,
-        &mut nodes,
+        5,
         reference(OWNER, 19),
         reference(OWNER, 13),
     );
+}
+
+fn axis(word: u32) -> PauliAxis {
+    PauliAxis::assume_hermitian(reference(OWNER, word))
 }
 
 fn pushed(answer: Pushed) {
@@ -320,148 +232,73 @@ fn pushed(answer: Pushed) {
     }
 }
 
-fn rotate(label: &[u8], h: Header, operations: &mut [u32], word: u32) {
+// An operation added to a slice of two, with three words more.
+fn rotate(label: &[u8], operations: u32, word: u32) {
+    let mut words = [7u32; 11];
     text(label);
-    pushed(h.rotate(
-        operations,
-        PauliAxis::assume_hermitian(reference(OWNER, word)),
-        PauliAngle::new(-1),
-    ));
-    ends(operations);
+    let h = header(1, 2, 3, operations, 0);
+    pushed(h.rotate(&mut words, axis(word), PauliAngle::new(-1)));
+    ends(&words);
 }
 
-fn measure(label: &[u8], h: Header, operations: &mut [u32], word: u32, target: Target) {
+fn rotations() {
+    rotate(b"rotate over the slice", 3, 4);
+    rotate(b"rotate along an unused node", 1, 12);
+    rotate(b"rotate in a full slice", 2, 4);
+    rotate(b"rotate at the limit", 65536, 4);
+    rotate(b"rotate in the last place", 1, 4);
+    rotate(b"rotate in the first place", 0, 11);
+}
+
+fn measure(label: &[u8], cbits: u32, measurements: u32, target: Target) {
+    let mut words = [7u32; 8];
     text(label);
-    match h.measure(
-        operations,
-        PauliAxis::assume_hermitian(reference(OWNER, word)),
-        target,
-    ) {
+    match header(1, cbits, 3, 1, measurements).measure(&mut words, axis(6), target) {
         Measured::Made(made, outcome) => {
             accepted(made);
-            number(outcome.index() as u64);
+            word(outcome.index());
         }
         Measured::Refused(e) => refused(e),
     }
-    ends(operations);
+    ends(&words);
 }
 
-fn conditional(label: &[u8], h: Header, operations: &mut [u32], outcome: MeasId) {
-    text(label);
-    pushed(h.conditional_rotate(
-        operations,
-        PauliAxis::assume_hermitian(reference(OWNER, 4)),
-        PauliAngle::new(4),
-        outcome,
-    ));
-    ends(operations);
-}
-
-fn operations() {
-    let mut words = [7u32; 8];
-    let mut odd = [7u32; 11];
-    rotate(
-        b"rotate over the slice",
-        header(1, 2, 3, 3, 0),
-        &mut words,
-        4,
-    );
-    rotate(
-        b"rotate along an unused node",
-        header(1, 2, 3, 1, 0),
-        &mut words,
-        12,
-    );
-    rotate(
-        b"rotate in a full slice",
-        header(1, 2, 3, 2, 0),
-        &mut words,
-        4,
-    );
-    rotate(
-        b"rotate past an odd tail",
-        header(1, 2, 3, 2, 0),
-        &mut odd,
-        4,
-    );
-    rotate(
-        b"rotate at the limit",
-        header(1, 2, 3, 65536, 0),
-        &mut words,
-        4,
-    );
-    rotate(
-        b"rotate in the last place",
-        header(1, 2, 3, 1, 0),
-        &mut words,
-        4,
-    );
-    measure(
-        b"measure into bit 2 of 2",
-        header(1, 2, 3, 0, 0),
-        &mut words,
-        4,
-        Target::Bit(2),
-    );
+fn measurements() {
+    measure(b"measure into bit 2 of 2", 2, 0, Target::Bit(2));
     measure(
         b"measure into the greatest bit",
-        header(1, 65536, 3, 0, 0),
-        &mut words,
-        4,
+        65536,
+        0,
         Target::Bit(4294967295),
     );
-    measure(
-        b"measure into bit 1 of 2",
-        header(1, 2, 3, 1, 0),
-        &mut words,
-        6,
-        Target::Bit(1),
-    );
-    measure(
-        b"measure into bit 65535",
-        header(1, 65536, 3, 1, 1),
-        &mut words,
-        6,
-        Target::Bit(65535),
-    );
-    measure(
-        b"measure into none",
-        header(0, 0, 1, 1, 1),
-        &mut words,
-        0,
-        Target::None,
-    );
-    conditional(
-        b"condition on another's",
-        header(1, 2, 3, 1, 1),
-        &mut words,
-        MeasId::new(12, 0),
-    );
-    conditional(
-        b"condition not yet given",
-        header(1, 2, 3, 1, 1),
-        &mut words,
-        MeasId::new(OWNER, 1),
-    );
-    conditional(
-        b"condition in a full slice",
-        header(1, 2, 3, 2, 1),
-        &mut words,
-        MeasId::new(OWNER, 0),
-    );
-    conditional(
-        b"condition in the last place",
-        header(1, 2, 3, 1, 1),
-        &mut words,
-        MeasId::new(OWNER, 0),
-    );
+    measure(b"measure into bit 1 of 2", 2, 0, Target::Bit(1));
+    measure(b"measure into bit 65535", 65536, 1, Target::Bit(65535));
+    measure(b"measure into none", 0, 1, Target::None);
+}
+
+fn conditional(label: &[u8], operations: u32, outcome: MeasId) {
+    let mut words = [7u32; 8];
+    text(label);
+    let h = header(1, 2, 3, operations, 1);
+    pushed(h.conditional_rotate(&mut words, axis(4), PauliAngle::new(4), outcome));
+    ends(&words);
+}
+
+fn conditions() {
+    conditional(b"condition on another's", 1, MeasId::new(12, 0));
+    conditional(b"condition not yet given", 1, MeasId::new(OWNER, 1));
+    conditional(b"condition in a full slice", 2, MeasId::new(OWNER, 0));
+    conditional(b"condition in the last place", 1, MeasId::new(OWNER, 0));
 }
 
 fn main() {
     refused_news();
     small_news();
     large_news();
+    bad_stores();
     singles();
     products();
-    operations();
+    rotations();
+    measurements();
+    conditions();
 }

@@ -5,8 +5,8 @@ use native.Mathlib.Omega.{arith}
 use borrow.Author.Needs.{needs}
 use Rattle.arena.specs.Builder.{qubitNodes}
 use Rattle.arena.proofs.Overlay.{overlay-sets, overlay-rest}
-use Rattle.arena.proofs.writes.start_nodes.Statement.{statement}
-use Rattle.arena.proofs.writes.start_nodes.Tie as tie
+use Rattle.arena.proofs.builder.start_nodes.Statement.{statement}
+use Rattle.arena.proofs.builder.start_nodes.Tie as tie
 
 put-node-requires : tie.Need-put-node-requires
 put-node-requires c κs = search needs

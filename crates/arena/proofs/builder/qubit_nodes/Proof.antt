@@ -8,8 +8,8 @@ use lib.Seq.{sets, length-sets}
 use lib.ListN.{length}
 use Rattle.arena.specs.Builder.{overlay, qubitNodes}
 use Rattle.arena.proofs.Overlay.{qubit-more}
-use Rattle.arena.proofs.writes.qubit_nodes.Statement.{statement}
-use Rattle.arena.proofs.writes.qubit_nodes.Tie as tie
+use Rattle.arena.proofs.builder.qubit_nodes.Statement.{statement}
+use Rattle.arena.proofs.builder.qubit_nodes.Tie as tie
 
 abbrev Inv-loop : tie.InvT-loop
 Inv-loop nodes₀ qubits qubit₀ nodes qubit = (qubit ≤ qubits) × (length nodes ≡ length nodes₀) × (nodes ≡ overlay (qubitNodes qubit) nodes₀)

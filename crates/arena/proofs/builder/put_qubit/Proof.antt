@@ -3,8 +3,8 @@ use native.Mathlib.Omega.{arith}
 use borrow.Author.Needs.{needs}
 use lib.ListN.{length-set}
 use Rattle.arena.proofs.Overlay.{sets₄}
-use Rattle.arena.proofs.writes.put_qubit.Statement.{statement}
-use Rattle.arena.proofs.writes.put_qubit.Tie as tie
+use Rattle.arena.proofs.builder.put_qubit.Statement.{statement}
+use Rattle.arena.proofs.builder.put_qubit.Tie as tie
 
 mul-at : tie.Need-mul-at
 mul-at c = search needs

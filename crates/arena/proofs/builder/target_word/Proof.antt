@@ -5,8 +5,8 @@ use native.Mathlib.Omega.{arith}
 use borrow.Author.Needs.{needs}
 use Rattle.arena.specs.Operations.{targetWord}
 use Rattle.arena.specs.Store.{targetBit}
-use Rattle.arena.proofs.writes.target_word.Statement.{statement}
-use Rattle.arena.proofs.writes.target_word.Tie as tie
+use Rattle.arena.proofs.builder.target_word.Statement.{statement}
+use Rattle.arena.proofs.builder.target_word.Tie as tie
 
 enum-known-target : tie.Need-enum-known-target
 enum-known-target c = search needs

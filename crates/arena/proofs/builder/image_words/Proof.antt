@@ -6,8 +6,8 @@ use native.Mathlib.Numerals.{add-one}
 use lib.ListN.{length, set, length-set}
 use Rattle.arena.specs.Builder.{overlay, imageWords}
 use Rattle.arena.proofs.Overlay.{image-word-more}
-use Rattle.arena.proofs.writes.image_words.Statement.{statement}
-use Rattle.arena.proofs.writes.image_words.Tie as tie
+use Rattle.arena.proofs.builder.image_words.Statement.{statement}
+use Rattle.arena.proofs.builder.image_words.Tie as tie
 
 abbrev Inv-loop : tie.InvT-loop
 Inv-loop frame₀ first qubits qubit₀ frame qubit = (qubit ≤ qubits) × (length frame ≡ length frame₀) × (frame ≡ overlay (imageWords first qubit) frame₀)

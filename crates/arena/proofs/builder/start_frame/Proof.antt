@@ -3,8 +3,8 @@ use native.Mathlib.Omega.{arith}
 use borrow.Author.Needs.{needs}
 use Rattle.arena.specs.Builder.{imageWords}
 use Rattle.arena.proofs.Overlay.{length-imageWords, overlay-rest}
-use Rattle.arena.proofs.writes.start_frame.Statement.{statement}
-use Rattle.arena.proofs.writes.start_frame.Tie as tie
+use Rattle.arena.proofs.builder.start_frame.Statement.{statement}
+use Rattle.arena.proofs.builder.start_frame.Tie as tie
 
 image-words-requires : tie.Need-image-words-requires
 image-words-requires c κs = search needs

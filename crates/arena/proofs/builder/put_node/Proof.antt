@@ -1,8 +1,8 @@
 -- `put_node` meets its contract.
 use borrow.Author.Needs.{needs}
 use Rattle.arena.proofs.Overlay.{sets₂}
-use Rattle.arena.proofs.writes.put_node.Statement.{statement}
-use Rattle.arena.proofs.writes.put_node.Tie as tie
+use Rattle.arena.proofs.builder.put_node.Statement.{statement}
+use Rattle.arena.proofs.builder.put_node.Tie as tie
 
 mul-at : tie.Need-mul-at
 mul-at c = search needs
