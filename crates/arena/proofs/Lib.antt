@@ -6,4 +6,6 @@ pub mod Reading
 pub mod Spans
 pub mod Images
 pub mod Answers
+pub mod Outcomes
+pub mod Merging
 pub mod Theorems
