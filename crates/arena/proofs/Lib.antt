@@ -7,5 +7,8 @@ pub mod Spans
 pub mod Images
 pub mod Answers
 pub mod Outcomes
+pub mod Fitting
 pub mod Merging
+pub mod Sums
+pub mod Uses
 pub mod Theorems
