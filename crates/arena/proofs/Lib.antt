@@ -11,4 +11,6 @@ pub mod Fitting
 pub mod Merging
 pub mod Sums
 pub mod Uses
+pub mod Invariant
+pub mod Evaluating
 pub mod Theorems
