@@ -13,4 +13,5 @@ pub mod Sums
 pub mod Uses
 pub mod Invariant
 pub mod Evaluating
+pub mod Meaning
 pub mod Theorems

@@ -4,7 +4,7 @@ use mathlib.Core.Bool.{true}
 use mathlib.Core.List.{List, map}
 use Prim.Native.Nat.{ℕ, _*_, _≤_, _<_}
 use lib.ListN.{take}
-use Rattle.pauli.specs.Rows.{_★_, scaled, single, present}
+use Rattle.pauli.specs.Rows.{_★_, scaled, single, present, weight}
 use Rattle.pauli.specs.Table.{start}
 use Rattle.arena.specs.Types.{Pauli, Phase}
 use Rattle.arena.specs.Errors.{PbcError, Fine, Wrong}
@@ -12,10 +12,13 @@ use Rattle.arena.specs.References.{PauliRef, PauliAxis, nodeIn, scaledWo
 use Rattle.arena.specs.Nodes.{image}
 use Rattle.arena.specs.Store.{Header}
 use Rattle.arena.specs.Builder.{CreatedMade, SingledMade, MultipliedMade, newStep, singleStep, productStep}
+use Rattle.arena.specs.Sparse.{size, dense}
+use Rattle.arena.specs.Walk.{fine, Answer, Named, walk}
 use Rattle.arena.specs.Calls.{Call, Slices, checked, after, KeptSlices}
 use Rattle.arena.proofs.Reading
 use Rattle.arena.proofs.Answers
 use Rattle.arena.proofs.Spans
+use Rattle.arena.proofs.Meaning
 
 -- ---- demand 1, for the calls of this crate
 
@@ -60,3 +63,15 @@ scaled-image = Reading.image-scaled
 pub new-images : (qubits cbits owner : ℕ) (nodes frame : List ℕ) (h : Header) → newStep qubits cbits owner nodes frame .answer ≡ CreatedMade h
     → map (image (h .qubits) (h .nodes) (newStep qubits cbits owner nodes frame .words .nodes)) (take (2 * h .qubits) (newStep qubits cbits owner nodes frame .words .frame)) ≡ start (h .qubits)
 new-images = Answers.new-answer
+
+-- ---- what an accepted walk shows
+
+-- at each root the root's image
+pub walk-means : (limit room n count : ℕ) (words roots : List ℕ) (a : Answer) → Named count roots → walk limit room n count words roots ≡ fine a
+    → map (dense n) (a .shown) ≡ map (image n count words) roots
+walk-means = Meaning.walk-means
+
+-- with as many factors as the image has letters other than I
+pub walk-weights : (limit room n count : ℕ) (words roots : List ℕ) (a : Answer) → Named count roots → walk limit room n count words roots ≡ fine a
+    → map size (a .shown) ≡ map (λ w. weight (image n count words w .letters)) roots
+walk-weights = Meaning.walk-weights
