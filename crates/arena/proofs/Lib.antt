@@ -14,4 +14,7 @@ pub mod Uses
 pub mod Invariant
 pub mod Evaluating
 pub mod Meaning
+pub mod Stepping
+pub mod Running
+pub mod Ending
 pub mod Theorems

@@ -1,24 +1,28 @@
 -- What is proved of the arena, in the words of specs/ alone.
 use mathlib.Core.Path.{_≡_}
 use mathlib.Core.Bool.{true}
-use mathlib.Core.List.{List, map}
-use Prim.Native.Nat.{ℕ, _*_, _≤_, _<_}
+use mathlib.Core.List.{List, [], _∷_, map}
+use Prim.Native.Nat.{ℕ, suc, _*_, _≤_, _<_}
 use lib.ListN.{take}
 use Rattle.pauli.specs.Rows.{_★_, scaled, single, present, weight}
 use Rattle.pauli.specs.Table.{start}
 use Rattle.arena.specs.Types.{Pauli, Phase}
 use Rattle.arena.specs.Errors.{PbcError, Fine, Wrong}
 use Rattle.arena.specs.References.{PauliRef, PauliAxis, nodeIn, scaledWord}
-use Rattle.arena.specs.Nodes.{image}
+use Rattle.arena.specs.Nodes.{nodeAt, image}
 use Rattle.arena.specs.Store.{Header}
 use Rattle.arena.specs.Builder.{CreatedMade, SingledMade, MultipliedMade, newStep, singleStep, productStep}
 use Rattle.arena.specs.Sparse.{size, dense}
-use Rattle.arena.specs.Walk.{fine, Answer, Named, walk}
+use Rattle.arena.specs.Walk.{Named, fine, State, Walked, eval, walkNodes, Answer, walk}
+use Rattle.arena.specs.Machine.{run}
 use Rattle.arena.specs.Calls.{Call, Slices, checked, after, KeptSlices}
 use Rattle.arena.proofs.Reading
 use Rattle.arena.proofs.Answers
 use Rattle.arena.proofs.Spans
+use Rattle.arena.proofs.Fitting
 use Rattle.arena.proofs.Meaning
+use Rattle.arena.proofs.Running
+use Rattle.arena.proofs.Ending
 
 -- ---- demand 1, for the calls of this crate
 
@@ -75,3 +79,17 @@ walk-means = Meaning.walk-means
 pub walk-weights : (limit room n count : ℕ) (words roots : List ℕ) (a : Answer) → Named count roots → walk limit room n count words roots ≡ fine a
     → map size (a .shown) ≡ map (λ w. weight (image n count words w .letters)) roots
 walk-weights = Meaning.walk-weights
+
+-- afterwards no use is left, and no record is held
+pub walk-uses : (limit room n count : ℕ) (words roots : List ℕ) (r : Walked) → Named count roots → walkNodes limit room (nodeAt n words) count roots ≡ fine r
+    → (j : ℕ) → r .state .uses j ≡ 0
+walk-uses limit room n count words roots r h e = Ending.accepted-empty limit room n count words roots r h e .no-use
+
+pub walk-held : (limit room n count : ℕ) (words roots : List ℕ) (r : Walked) → Named count roots → walkNodes limit room (nodeAt n words) count roots ≡ fine r
+    → r .state .held ≡ 0
+walk-held limit room n count words roots r h e = Ending.accepted-empty limit room n count words roots r h e .no-record
+
+-- the machine does what the recursion does, within (count + 1)² steps
+pub machine-evaluates : (limit room n count : ℕ) (words : List ℕ) (k i : ℕ) (s : State) → i < count → suc count * suc count ≤ k
+    → run limit room (nodeAt n words) k (i ∷ []) s ≡ eval limit room (nodeAt n words) count i s
+machine-evaluates limit room n count words = Running.run-enough limit room n count (nodeAt n words) (Fitting.node-fits n words)
