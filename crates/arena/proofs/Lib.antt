@@ -17,4 +17,5 @@ pub mod Meaning
 pub mod Stepping
 pub mod Running
 pub mod Ending
+pub mod Examples
 pub mod Theorems
