@@ -17,5 +17,8 @@ pub mod Meaning
 pub mod Stepping
 pub mod Running
 pub mod Ending
+pub mod Loops
+pub mod Links
+pub mod Bounds
 pub mod Examples
 pub mod Theorems
