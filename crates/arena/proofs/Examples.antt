@@ -1,13 +1,15 @@
--- The walk, computed: circuits C, D, F, I and L of document 01, and where each refusal falls.
+-- The walk and its readers, computed: circuits C, D, F, I and L of document 01, and where each refusal falls.
 use mathlib.Core.Path.{_≡_, refl}
+use mathlib.Core.Bool.{false}
 use mathlib.Core.List.{List, [], _∷_}
 use Prim.Native.Nat.{ℕ}
 use Rattle.pauli.specs.Letters.{power}
-use Rattle.arena.specs.Types.{X, Y, Z, One, MinusOne, MinusI}
-use Rattle.arena.specs.Errors.{ExpansionLimit, NoPool}
+use Rattle.arena.specs.Types.{I, X, Y, Z, One, MinusOne, MinusI}
+use Rattle.arena.specs.Errors.{ExpansionLimit, NoPool, NonHermitianAxis}
 use Rattle.arena.specs.Nodes.{decode, nodeAt, values, image}
-use Rattle.arena.specs.Sparse.{factor}
+use Rattle.arena.specs.Sparse.{factor, dense}
 use Rattle.arena.specs.Walk.{Out, fine, refused, bind, Answer, walk}
+use Rattle.arena.specs.Readers.{Weighed, expandWalk, hermitianWalk, reportWalk}
 
 abbrev workOf : Out Answer → Out ℕ
 workOf o = bind o (λ a. fine (a .work))
@@ -28,6 +30,14 @@ c-stops : walk 5 9 1 4 c-words (15 ∷ []) ≡ refused ExpansionLimit
 unfolding walk nodeAt decode power c-words
 c-stops = refl
 
+c-expands : expandWalk 7 9 1 4 c-words 15 ≡ fine (record { row = record { letters = Y ∷ []; phase = MinusOne }; work = 6 })
+unfolding expandWalk walk nodeAt decode power dense c-words
+c-expands = refl
+
+c-lacks-cells : expandWalk 6 9 1 4 c-words 15 ≡ refused ExpansionLimit
+unfolding expandWalk walk nodeAt decode power dense c-words
+c-lacks-cells = refl
+
 l-passes : walk 6 9 1 4 c-words (12 ∷ []) ≡ fine (record { shown = record { phase = MinusI; factors = factor 0 Y ∷ [] } ∷ []; work = 6 })
 unfolding walk nodeAt decode power c-words
 l-passes = refl
@@ -35,6 +45,14 @@ l-passes = refl
 l-stops : walk 5 9 1 4 c-words (12 ∷ []) ≡ refused ExpansionLimit
 unfolding walk nodeAt decode power c-words
 l-stops = refl
+
+l-not-hermitian : hermitianWalk 6 9 1 4 c-words 12 ≡ refused NonHermitianAxis
+unfolding hermitianWalk walk nodeAt decode power c-words
+l-not-hermitian = refl
+
+l-stops-before : hermitianWalk 5 9 1 4 c-words 12 ≡ refused ExpansionLimit
+unfolding hermitianWalk walk nodeAt decode power c-words
+l-stops-before = refl
 
 -- D: two qubits, node 5 = X₀ X₁ and node 6 = Z₀ Z₁
 d-words : List ℕ
@@ -71,6 +89,19 @@ f-needs-room : walk 34 5 3 11 f-words f-roots ≡ refused NoPool
 unfolding walk nodeAt decode power f-words f-roots
 f-needs-room = refl
 
+f-axis : ℕ → Weighed
+f-axis w = record { word = w; clifford = false }
+
+f-report : reportWalk 34 6 3 11 f-words (f-axis 8 ∷ f-axis 16 ∷ f-axis 20 ∷ f-axis 28 ∷ f-axis 32 ∷ f-axis 36 ∷ f-axis 40 ∷ [])
+    ≡ fine (record { weights = record { nonClifford = 3; clifford = 0 }; work = 34 })
+unfolding reportWalk walk nodeAt decode power f-words f-axis
+f-report = refl
+
+-- no operations
+no-report : reportWalk 0 0 3 11 f-words [] ≡ fine (record { weights = record { nonClifford = 0; clifford = 0 }; work = 0 })
+unfolding reportWalk walk nodeAt decode power f-words
+no-report = refl
+
 -- I: the identity
 i-passes : workOf (walk 2 0 2 7 d-words (0 ∷ [])) ≡ fine 2
 unfolding walk nodeAt decode power d-words
@@ -79,6 +110,14 @@ i-passes = refl
 i-stops : walk 1 0 2 7 d-words (0 ∷ []) ≡ refused ExpansionLimit
 unfolding walk nodeAt decode power d-words
 i-stops = refl
+
+i-expands : expandWalk 4 0 2 7 d-words 0 ≡ fine (record { row = record { letters = I ∷ I ∷ []; phase = One }; work = 2 })
+unfolding expandWalk walk nodeAt decode power dense d-words
+i-expands = refl
+
+i-lacks-cells : expandWalk 3 0 2 7 d-words 0 ≡ refused ExpansionLimit
+unfolding expandWalk walk nodeAt decode power dense d-words
+i-lacks-cells = refl
 
 -- ---- which refusal comes first
 

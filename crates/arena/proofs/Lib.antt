@@ -20,5 +20,6 @@ pub mod Ending
 pub mod Loops
 pub mod Links
 pub mod Bounds
+pub mod Reports
 pub mod Examples
 pub mod Theorems
