@@ -91,13 +91,15 @@ module _ (limit room n count : ℕ) (node : ℕ → PauliNode) (fits : (i : ℕ)
       charge-then limit (size (t .value (nodeIn w))) t _ _ (λ paid.
       post-bind (showRoots limit room node count ws (release (nodeIn w) (worked (size (t .value (nodeIn w))) t))) _ _ _
       (show-post ws (release (nodeIn w) (worked (size (t .value (nodeIn w))) t)) (h .1)
-      (release-inv w ws (worked (size (t .value (nodeIn w))) t) (h .0) (g .1 .marked) (inv-worked limit room n count node total (rootUses (w ∷ ws)) none 0 (size (t .value (nodeIn w))) t paid (g .0)))) (λ r k.
+      (release-inv w ws (worked (size (t .value (nodeIn w))) t) (h .0) (g .1 .marked)
+      (inv-worked limit room n count node total (rootUses (w ∷ ws)) none 0 (size (t .value (nodeIn w))) t paid (g .0)))) (λ r k.
       ((right-shows n count node w (t .value (nodeIn w)) (g .0 .right (nodeIn w) (h .0) (g .1 .marked)), k .0), k .1))))
 
 module _ (limit room n count : ℕ) (node : ℕ → PauliNode) (fits : (i : ℕ) → Fits n i (node i)) (roots : List ℕ) where
   -- it holds when the nodes are counted and nothing is done
   pub begin-inv : (amount : ℕ) → 0 + amount ≤ limit
-      → let c = scan node count (rootUses roots) in Inv limit room n count node (c .uses) (rootUses roots) none 0 (worked amount (begin c))
+      → let c = scan node count (rootUses roots) in
+      Inv limit room n count node (c .uses) (rootUses roots) none 0 (worked amount (begin c))
   begin-inv amount h = record {
     right = λ j l d. let z : _≡_ {A = ℕ} 0 1 = cc in absurd (omega arith);
     counts = λ j. omega (arith, scan-uses n node fits count (rootUses roots) j);

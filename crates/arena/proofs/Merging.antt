@@ -152,7 +152,8 @@ merge-means (suc k) at hi fs gs h rf rg = go (front at hi fs rf) (front at hi gs
       phase-is = rw (merge-right hi g fs gs (subst (λ q. Rising (suc q) hi fs) (sym eg) rf), spread-hit k at g gs eg, spread-miss k at hi fs rf) (m .phase-is);
     }
     go (miss fs rf) (miss gs rg) ih = let m = ih fs gs rf rg in record {
-      letters-are = rw (spread-miss k at hi (merge fs gs .factors) (merge-rising (suc at) hi fs gs rf rg), spread-miss k at hi fs rf, spread-miss k at hi gs rg) (ap (λ l. I ∷ l) (m .letters-are));
+      letters-are = rw (spread-miss k at hi (merge fs gs .factors) (merge-rising (suc at) hi fs gs rf rg), spread-miss k at hi fs rf, spread-miss k at hi gs rg)
+          (ap (λ l. I ∷ l) (m .letters-are));
       phase-is = rw (spread-miss k at hi fs rf, spread-miss k at hi gs rg) (m .phase-is);
     }
 
@@ -162,7 +163,8 @@ product-proper n u v ru rv = merge-rising 0 n (u .factors) (v .factors) ru rv
 -- dense of the sparse product is the row product of the denses
 pub dense-product : (n : ℕ) (u v : Sparse) → Proper n u → Proper n v → dense n (multiply u v) ≡ dense n u ★ dense n v
 unfolding dense
-dense-product n u v ru rv = let m = merge-means n 0 n (u .factors) (v .factors) (omega arith) ru rv in row-eq (m .letters-are) (ap (λ p. u .phase ⊕ v .phase ⊕ p) (m .phase-is))
+dense-product n u v ru rv = let m = merge-means n 0 n (u .factors) (v .factors) (omega arith) ru rv in
+    row-eq (m .letters-are) (ap (λ p. u .phase ⊕ v .phase ⊕ p) (m .phase-is))
 
 -- a phase, the identity, a single letter
 pub dense-turned : (n : ℕ) (p : Phase) (v : Sparse) → dense n (turned p v) ≡ scaled p (dense n v)

@@ -9,6 +9,8 @@ use lib.Dec.{leb, ltb, eqb}
 use Rattle.arena.specs.Errors.{ExpansionLimit, NoPool}
 use Rattle.arena.specs.Walk.{Out, fine, refused, bind, update, State, worked, lent, charge, lend}
 
+-- ---- numbers, and functions changed at one place
+
 pub data Order (a b : ℕ) : Type 0 where
   below : a < b → Order a b
   same : a ≡ b → Order a b

@@ -143,7 +143,8 @@ run-enough limit room n count node fits k i s h enough = go (s .done i) refl k e
   where
     go : (b : Bool) → s .done i ≡ b → (k : ℕ) → suc count * suc count ≤ k → run limit room node k (i ∷ []) s ≡ eval limit room node count i s
     go true d zero e = absurd (omega arith)
-    go true d (suc k) e = ap (λ b. bind (stepUnless limit room b (node i) i [] s) (λ q. run limit room node k (q .path) (q .state))) d ∙ stops k ∙ sym (eval-done limit room node count i s d)
+    go true d (suc k) e = ap (λ b. bind (stepUnless limit room b (node i) i [] s) (λ q. run limit room node k (q .path) (q .state))) d
+        ∙ stops k ∙ sym (eval-done limit room node count i s d)
       where
         stops : (k : ℕ) → run limit room node k [] s ≡ fine s
         stops zero = refl
