@@ -21,13 +21,13 @@ use Rattle.arena.specs.Nodes.{PauliNode, Identity, Single, Product, Malf
 
 -- ---- a product's children are older
 
-abbrev Older : ℕ → PauliNode → Type 0
+abbrev pub Older : ℕ → PauliNode → Type 0
 Older i Identity = Unit {0}
 Older i (Single q a) = Unit {0}
 Older i (Product l r) = (nodeIn l < i) × (nodeIn r < i)
 Older i Malformed = Unit {0}
 
-both-true : (a b : Bool) → (a && b) ≡ true → (a ≡ true) × (b ≡ true)
+pub both-true : (a b : Bool) → (a && b) ≡ true → (a ≡ true) × (b ≡ true)
 both-true true b e = (refl, e)
 both-true false b e = let z : _≡_ {A = ℕ} 0 1 = cc in absurd (omega arith)
 
@@ -42,7 +42,7 @@ older-as (suc (suc zero)) n i rest b = older-cond (ltb (nodeIn rest) i && ltb (n
     (λ e. let p = both-true (ltb (nodeIn rest) i) (ltb (nodeIn b) i) e in (ltb-true (nodeIn rest) i (p .0), ltb-true (nodeIn b) i (p .1)))
 older-as (suc (suc (suc k))) n i rest b = tt
 
-older : (n : ℕ) (words : List ℕ) (i : ℕ) → Older i (nodeAt n words i)
+pub older : (n : ℕ) (words : List ℕ) (i : ℕ) → Older i (nodeAt n words i)
 unfolding nodeAt decode
 older n words i = older-as (getD words (2 * i) 0 % 4) n i (getD words (2 * i) 0 / 4) (getD words (2 * i + 1) 0)
 

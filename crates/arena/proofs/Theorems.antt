@@ -1,21 +1,31 @@
 -- What is proved of the arena, in the words of specs/ alone.
 use mathlib.Core.Path.{_≡_}
-use mathlib.Core.Bool.{true}
-use mathlib.Core.List.{List, map}
-use Prim.Native.Nat.{ℕ, _*_, _≤_, _<_}
+use mathlib.Core.Bool.{true, cond}
+use mathlib.Core.List.{List, [], _∷_, map}
+use Prim.Native.Nat.{ℕ, suc, _*_, _≤_, _<_}
 use lib.ListN.{take}
-use Rattle.pauli.specs.Rows.{_★_, scaled, single, present}
+use Rattle.pauli.specs.Letters.{real}
+use Rattle.pauli.specs.Rows.{_★_, scaled, single, present, weight}
 use Rattle.pauli.specs.Table.{start}
 use Rattle.arena.specs.Types.{Pauli, Phase}
-use Rattle.arena.specs.Errors.{PbcError, Fine, Wrong}
+use Rattle.arena.specs.Errors.{PbcError, NonHermitianAxis, Fine, Wrong}
 use Rattle.arena.specs.References.{PauliRef, PauliAxis, nodeIn, scaledWord}
-use Rattle.arena.specs.Nodes.{image}
+use Rattle.arena.specs.Nodes.{nodeAt, image}
 use Rattle.arena.specs.Store.{Header}
 use Rattle.arena.specs.Builder.{CreatedMade, SingledMade, MultipliedMade, newStep, singleStep, productStep}
+use Rattle.arena.specs.Sparse.{size, dense}
+use Rattle.arena.specs.Walk.{Named, fine, refused, State, Walked, eval, walkNodes, Answer, walk}
+use Rattle.arena.specs.Machine.{run}
+use Rattle.arena.specs.Readers.{Expanded, expandWalk, hermitianWalk, Weighed, largest, wordsOf, reportWalk}
 use Rattle.arena.specs.Calls.{Call, Slices, checked, after, KeptSlices}
 use Rattle.arena.proofs.Reading
 use Rattle.arena.proofs.Answers
 use Rattle.arena.proofs.Spans
+use Rattle.arena.proofs.Fitting
+use Rattle.arena.proofs.Meaning
+use Rattle.arena.proofs.Running
+use Rattle.arena.proofs.Ending
+use Rattle.arena.proofs.Reports
 
 -- ---- demand 1, for the calls of this crate
 
@@ -60,3 +70,48 @@ scaled-image = Reading.image-scaled
 pub new-images : (qubits cbits owner : ℕ) (nodes frame : List ℕ) (h : Header) → newStep qubits cbits owner nodes frame .answer ≡ CreatedMade h
     → map (image (h .qubits) (h .nodes) (newStep qubits cbits owner nodes frame .words .nodes)) (take (2 * h .qubits) (newStep qubits cbits owner nodes frame .words .frame)) ≡ start (h .qubits)
 new-images = Answers.new-answer
+
+-- ---- what an accepted walk shows
+
+-- at each root the root's image
+pub walk-means : (limit room n count : ℕ) (words roots : List ℕ) (a : Answer) → Named count roots → walk limit room n count words roots ≡ fine a
+    → map (dense n) (a .shown) ≡ map (image n count words) roots
+walk-means = Meaning.walk-means
+
+-- with as many factors as the image has letters other than I
+pub walk-weights : (limit room n count : ℕ) (words roots : List ℕ) (a : Answer) → Named count roots → walk limit room n count words roots ≡ fine a
+    → map size (a .shown) ≡ map (λ w. weight (image n count words w .letters)) roots
+walk-weights = Meaning.walk-weights
+
+-- afterwards no use is left, and no record is held
+pub walk-uses : (limit room n count : ℕ) (words roots : List ℕ) (r : Walked) → Named count roots → walkNodes limit room (nodeAt n words) count roots ≡ fine r
+    → (j : ℕ) → r .state .uses j ≡ 0
+walk-uses limit room n count words roots r h e = Ending.accepted-empty limit room n count words roots r h e .no-use
+
+pub walk-held : (limit room n count : ℕ) (words roots : List ℕ) (r : Walked) → Named count roots → walkNodes limit room (nodeAt n words) count roots ≡ fine r
+    → r .state .held ≡ 0
+walk-held limit room n count words roots r h e = Ending.accepted-empty limit room n count words roots r h e .no-record
+
+-- the machine does what the recursion does, within (count + 1)² steps
+pub machine-evaluates : (limit room n count : ℕ) (words : List ℕ) (k i : ℕ) (s : State) → i < count → suc count * suc count ≤ k
+    → run limit room (nodeAt n words) k (i ∷ []) s ≡ eval limit room (nodeAt n words) count i s
+machine-evaluates limit room n count words = Running.run-enough limit room n count (nodeAt n words) (Fitting.node-fits n words)
+
+-- ---- what is read from a walk
+
+-- an accepted expansion is the image
+pub expand-means : (cells room n count : ℕ) (words : List ℕ) (w : ℕ) (x : Expanded) → nodeIn w < count → expandWalk cells room n count words w ≡ fine x
+    → x .row ≡ image n count words w
+expand-means cells room n count words w x h = Reports.expand-means room n count words w h cells x
+
+-- an axis passes if its image's phase is 1 or -1
+pub hermitian-means : (limit room n count : ℕ) (words : List ℕ) (w : ℕ) (a : Answer) → nodeIn w < count → walk limit room n count words (w ∷ []) ≡ fine a
+    → hermitianWalk limit room n count words w ≡ cond (real (image n count words w .phase)) (fine (a .work)) (refused NonHermitianAxis)
+hermitian-means limit room n count words w a h = Reports.hermitian-means room n count words w h limit a
+
+-- the report is about the weights of the images
+pub report-means : (limit room n count : ℕ) (words : List ℕ) (axes : List Weighed) (a : Answer) → Named count (wordsOf axes)
+    → walk limit room n count words (wordsOf axes) ≡ fine a
+    → reportWalk limit room n count words axes
+    ≡ fine (record { weights = largest axes (map (λ w. weight (image n count words w .letters)) (wordsOf axes)); work = a .work })
+report-means = Reports.report-means

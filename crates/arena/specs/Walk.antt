@@ -2,13 +2,18 @@
 -- with its charges and its two refusals: 17 above the limit, 18 above the room, 17 first within a step.
 use mathlib.Core.Bool.{Bool, true, false, cond}
 use mathlib.Core.List.{List, [], _∷_}
-use Prim.Native.Nat.{ℕ, zero, suc, _+_, _-_, min}
+use Prim.Native.Nat.{ℕ, zero, suc, _+_, _-_, _<_, min}
 use lib.Dec.{leb, eqb}
 use lib.ListN.{length}
 use Rattle.arena.specs.Errors.{PbcError, ExpansionLimit, NoPool}
 use Rattle.arena.specs.References.{nodeIn, phaseIn}
 use Rattle.arena.specs.Nodes.{PauliNode, Identity, Single, Product, Malformed, nodeAt}
 use Rattle.arena.specs.Sparse.{Sparse, empty, one, turned, size, multiply}
+
+-- every root names a node below count
+abbrev pub Named : ℕ → List ℕ → Type 0
+Named count [] = Unit {0}
+Named count (w ∷ ws) = (nodeIn w < count) × Named count ws
 
 -- an answer, or a refusal
 pub data Out (A : Type 0) : Type 0 where
