@@ -17,6 +17,7 @@ pub use builder::Pushed;
 pub use builder::Singled;
 pub use error::Checked;
 pub use error::PbcError;
+pub use error::Refusal;
 pub use header::Header;
 pub use limits::MAX_CBITS;
 pub use limits::MAX_NODES;
