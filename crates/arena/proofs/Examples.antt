@@ -1,15 +1,19 @@
 -- The walk and its readers, computed: circuits C, D, F, I and L of document 01, and where each refusal falls.
 use mathlib.Core.Path.{_≡_, refl}
 use mathlib.Core.Bool.{false}
-use mathlib.Core.List.{List, [], _∷_}
+use mathlib.Core.List.{List, [], _∷_, _++_}
 use Prim.Native.Nat.{ℕ}
+use lib.ListN.{replicate}
 use Rattle.pauli.specs.Letters.{power}
 use Rattle.arena.specs.Types.{I, X, Y, Z, One, MinusOne, MinusI}
-use Rattle.arena.specs.Errors.{ExpansionLimit, NoPool, NonHermitianAxis}
+use Rattle.arena.specs.Errors.{ExpansionLimit, NoPool, NonHermitianAxis, _⟫_⇒_}
 use Rattle.arena.specs.Nodes.{decode, nodeAt, values, image}
 use Rattle.arena.specs.Sparse.{factor, dense}
 use Rattle.arena.specs.Walk.{Out, fine, refused, bind, Answer, walk}
-use Rattle.arena.specs.Readers.{Weighed, expandWalk, hermitianWalk, reportWalk}
+use Rattle.arena.specs.Operations.{decodeOp}
+use Rattle.arena.specs.Store.{Header, breaksLimit, exceedsNodes, exceedsOperations, foreign, unknown}
+use Rattle.arena.specs.Readers.{Weighed, Report, expandWalk, hermitianWalk, reportWalk}
+use Rattle.arena.specs.Expansion.{WalkStep, opAt, reportCheck, reportStep}
 
 abbrev workOf : Out Answer → Out ℕ
 workOf o = bind o (λ a. fine (a .work))
@@ -145,3 +149,29 @@ square-passes = refl
 square-needs-room : walk 5 1 1 4 square-words (12 ∷ []) ≡ refused NoPool
 unfolding walk nodeAt decode power square-words
 square-needs-room = refl
+
+-- ---- the whole report of F: the operations of its ccx, seven records, scratch for eleven nodes
+
+f-header : Header
+f-header = record { qubits = 3; cbits = 0; owner = 5; nodes = 11; operations = 7; measurements = 0 }
+
+f-operations : List ℕ
+f-operations =
+    4 ∷ 8 ∷ 0 ∷ 0 ∷ 4 ∷ 16 ∷ 0 ∷ 0 ∷ 4 ∷ 20 ∷ 0 ∷ 0 ∷ 28 ∷ 28 ∷ 0 ∷ 0 ∷ 28 ∷ 32 ∷ 0 ∷ 0 ∷ 28 ∷ 36 ∷ 0 ∷ 0 ∷ 4 ∷ 40 ∷ 0 ∷ 0 ∷ []
+
+f-reported : (limit pool : ℕ) → WalkStep Report
+f-reported limit pool = reportStep f-header f-words f-operations (replicate 45 7) (replicate pool 7) limit
+
+f-report-step : f-reported 34 21
+    ≡ record { answer = fine (record { weights = record { nonClifford = 3; clifford = 0 }; work = 34 }); scratch = replicate 44 0 ++ 7 ∷ []; pool = replicate 21 0 }
+unfolding f-reported reportStep reportCheck breaksLimit exceedsNodes exceedsOperations foreign unknown opAt decodeOp reportWalk walk nodeAt decode power f-header f-operations f-words _⟫_⇒_
+f-report-step = refl
+
+-- one less of either: refused, and both are zero all the same
+f-report-limit : f-reported 33 21 ≡ record { answer = refused ExpansionLimit; scratch = replicate 44 0 ++ 7 ∷ []; pool = replicate 21 0 }
+unfolding f-reported reportStep reportCheck breaksLimit exceedsNodes exceedsOperations foreign unknown opAt decodeOp reportWalk walk nodeAt decode power f-header f-operations f-words _⟫_⇒_
+f-report-limit = refl
+
+f-report-pool : f-reported 34 20 ≡ record { answer = refused NoPool; scratch = replicate 44 0 ++ 7 ∷ []; pool = replicate 18 0 ++ 7 ∷ 7 ∷ [] }
+unfolding f-reported reportStep reportCheck breaksLimit exceedsNodes exceedsOperations foreign unknown opAt decodeOp reportWalk walk nodeAt decode power f-header f-operations f-words _⟫_⇒_
+f-report-pool = refl

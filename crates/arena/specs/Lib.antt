@@ -14,3 +14,4 @@ pub mod Sparse
 pub mod Walk
 pub mod Machine
 pub mod Readers
+pub mod Expansion

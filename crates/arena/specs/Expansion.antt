@@ -1,0 +1,143 @@
+-- What the three readers answer, and what they leave in the letters, the scratch words and the pool: for acceptance and every refusal.
+use mathlib.Core.Bool.{Bool, true, false, _||_}
+use mathlib.Core.List.{List, [], _∷_, _++_, map}
+use Prim.Native.Nat.{ℕ, zero, suc, _+_, _-_, _*_, _/_, _%_, min}
+use lib.Dec.{ltb, eqb}
+use lib.ListN.{length, getD, replicate, drop}
+use Rattle.pauli.specs.Letters.{pauliNumber}
+use Rattle.pauli.specs.Angle.{eighthsOf}
+use Rattle.arena.specs.Limits.{operationWords}
+use Rattle.arena.specs.Errors.{BadStore, ForeignPauli, NoScratch, Checked, Fine, Wrong, _⟫_⇒_}
+use Rattle.arena.specs.References.{PauliRef}
+use Rattle.arena.specs.Nodes.{PauliNode, Identity, Single, Product, Malformed, nodeAt}
+use Rattle.arena.specs.Operations.{PbcOp, Rotate, Measure, ConditionalRotate, decodeOp, Malformed as MalformedOp}
+use Rattle.arena.specs.Store.{Header, breaksLimit, exceedsNodes, exceedsOperations, foreign, unknown}
+use Rattle.arena.specs.Walk.{Out, fine, refused}
+use Rattle.arena.specs.Readers.{Expanded, expandWalk, hermitianWalk, Weighed, Report, reportWalk}
+
+-- ---- 3 BadStore, for a walk: a used node is malformed
+
+abbrev pub isMalformed : PauliNode → Bool
+isMalformed Identity = false
+isMalformed (Single q a) = false
+isMalformed (Product l r) = false
+isMalformed Malformed = true
+
+-- some node below k
+abbrev pub anyMalformed : (ℕ → PauliNode) → ℕ → Bool
+anyMalformed node zero = false
+anyMalformed node (suc k) = anyMalformed node k || isMalformed (node k)
+
+abbrev pub badNodes : Header → List ℕ → Bool
+badNodes h nodes = breaksLimit h || exceedsNodes h (length nodes) || anyMalformed (nodeAt (h .qubits) nodes) (h .nodes)
+
+-- ---- and for a walk over operations: a used one is malformed, or names an unused node or measurement
+
+unfoldable pub opAt : Header → List ℕ → ℕ → PbcOp
+opAt h ops i = decodeOp (h .owner) (h .cbits) (getD ops (operationWords * i) 0) (getD ops (operationWords * i + 1) 0)
+    (getD ops (operationWords * i + 2) 0) (getD ops (operationWords * i + 3) 0)
+
+abbrev pub isBadOp : Header → PbcOp → Bool
+isBadOp h (Rotate x k) = foreign h (x .0)
+isBadOp h (Measure x m t) = foreign h (x .0) || unknown h m
+isBadOp h (ConditionalRotate x k m) = foreign h (x .0) || unknown h m
+isBadOp h MalformedOp = true
+
+abbrev pub anyBadOp : Header → (ℕ → PbcOp) → ℕ → Bool
+anyBadOp h op zero = false
+anyBadOp h op (suc k) = anyBadOp h op k || isBadOp h (op k)
+
+abbrev pub badOperations : Header → List ℕ → Bool
+badOperations h ops = exceedsOperations h (length ops) || anyBadOp h (opAt h ops) (h .operations)
+
+-- ---- scratch and pool: four words a used node, three words a counted record; at most 65,536 records count, and record 0 is never lent
+
+abbrev pub recordsIn : ℕ → ℕ
+recordsIn words = min (words / 3) 65536
+
+abbrev pub roomIn : List ℕ → ℕ
+roomIn pool = recordsIn (length pool) - 1
+
+-- the first k words are zero, and past them nothing has changed
+abbrev pub zeroed : ℕ → List ℕ → List ℕ
+zeroed k ws = replicate k 0 ++ drop k ws
+
+-- what a walk leaves of them, accepted or not
+abbrev pub scratchLeft : Header → List ℕ → List ℕ
+scratchLeft h scratch = zeroed (4 * h .nodes) scratch
+
+abbrev pub poolLeft : List ℕ → List ℕ
+poolLeft pool = zeroed (3 * recordsIn (length pool)) pool
+
+-- ---- expand: 3, 4, 16, then the walk
+
+pub record ExpandStep : Type 0 where
+  pub answer : Out Expanded
+  pub letters : List ℕ
+  pub scratch : List ℕ
+  pub pool : List ℕ
+
+unfoldable pub expandCheck : Header → List ℕ → PauliRef → (letters scratch : ℕ) → Checked
+expandCheck h nodes r letters scratch =
+    Fine
+    ⟫ badNodes h nodes ⇒ BadStore
+    ⟫ foreign h r ⇒ ForeignPauli
+    ⟫ ltb scratch (4 * h .nodes) || ltb letters (h .qubits) ⇒ NoScratch
+
+-- the letters of an accepted expansion, over what was there
+abbrev pub lettersLeft : Out Expanded → List ℕ → List ℕ
+lettersLeft (fine x) letters = map pauliNumber (x .row .letters) ++ drop (length (x .row .letters)) letters
+lettersLeft (refused e) letters = letters
+
+abbrev pub expandBy : Checked → Out Expanded → Header → (letters scratch pool : List ℕ) → ExpandStep
+expandBy Fine o h letters scratch pool = record { answer = o; letters = lettersLeft o letters; scratch = scratchLeft h scratch; pool = poolLeft pool }
+expandBy (Wrong e) o h letters scratch pool = record { answer = refused e; letters = letters; scratch = scratch; pool = pool }
+
+unfoldable pub expandStep : Header → (nodes letters scratch pool : List ℕ) → PauliRef → (cells : ℕ) → ExpandStep
+expandStep h nodes letters scratch pool r cells =
+    expandBy (expandCheck h nodes r (length letters) (length scratch)) (expandWalk cells (roomIn pool) (h .qubits) (h .nodes) nodes (r .word)) h letters scratch pool
+
+-- ---- hermitian_axis and max_axis_weights: the same without letters
+
+pub record WalkStep (A : Type 0) : Type 0 where
+  pub answer : Out A
+  pub scratch : List ℕ
+  pub pool : List ℕ
+
+abbrev pub walkBy : {A : Type 0} → Checked → Out A → Header → (scratch pool : List ℕ) → WalkStep A
+walkBy Fine o h scratch pool = record { answer = o; scratch = scratchLeft h scratch; pool = poolLeft pool }
+walkBy (Wrong e) o h scratch pool = record { answer = refused e; scratch = scratch; pool = pool }
+
+unfoldable pub hermitianCheck : Header → List ℕ → PauliRef → (scratch : ℕ) → Checked
+hermitianCheck h nodes r scratch =
+    Fine
+    ⟫ badNodes h nodes ⇒ BadStore
+    ⟫ foreign h r ⇒ ForeignPauli
+    ⟫ ltb scratch (4 * h .nodes) ⇒ NoScratch
+
+-- the work; the axis is the reference itself
+unfoldable pub hermitianStep : Header → (nodes scratch pool : List ℕ) → PauliRef → (limit : ℕ) → WalkStep ℕ
+hermitianStep h nodes scratch pool r limit =
+    walkBy (hermitianCheck h nodes r (length scratch)) (hermitianWalk limit (roomIn pool) (h .qubits) (h .nodes) nodes (r .word)) h scratch pool
+
+-- even angles, 0 too, count as Clifford, all else does not
+abbrev pub weighedOf : PbcOp → Weighed
+weighedOf (Rotate x k) = record { word = x .0 .word; clifford = eqb (eighthsOf k % 2) 0 }
+weighedOf (Measure x m t) = record { word = x .0 .word; clifford = false }
+weighedOf (ConditionalRotate x k m) = record { word = x .0 .word; clifford = eqb (eighthsOf k % 2) 0 }
+weighedOf MalformedOp = record { word = 0; clifford = false }
+
+-- the axes of the first k operations, in order
+abbrev pub axesTo : (ℕ → PbcOp) → ℕ → List Weighed
+axesTo op zero = []
+axesTo op (suc k) = axesTo op k ++ (weighedOf (op k) ∷ [])
+
+unfoldable pub reportCheck : Header → (nodes operations : List ℕ) → (scratch : ℕ) → Checked
+reportCheck h nodes ops scratch =
+    Fine
+    ⟫ badNodes h nodes || badOperations h ops ⇒ BadStore
+    ⟫ ltb scratch (4 * h .nodes) ⇒ NoScratch
+
+unfoldable pub reportStep : Header → (nodes operations scratch pool : List ℕ) → (limit : ℕ) → WalkStep Report
+reportStep h nodes ops scratch pool limit =
+    walkBy (reportCheck h nodes ops (length scratch)) (reportWalk limit (roomIn pool) (h .qubits) (h .nodes) nodes (axesTo (opAt h ops) (h .operations))) h scratch pool
