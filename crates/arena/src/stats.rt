@@ -2,6 +2,8 @@
 
 use crate::error::PbcError;
 ghost use mathlib.Core.Path.{_≡_};
+ghost use Prim.Native.Nat.{_+_};
+ghost use lib.Dec.{leb};
 ghost use Rattle.arena.specs.Stats.{workAfter, answerOf, statsAfter};
 
 /// The work so far, and the most that it may come to.
@@ -16,14 +18,24 @@ pub enum Charged {
     Refused(PbcError),
 }
 
-// The work after a charge. The subtraction stands in for a sum that could pass a word.
-pub(crate) fn work_after(work: u64, limit: u64, amount: u64) -> u64
-    ensures { λ r. ⌜ r ≡ workAfter work limit amount ⌝ }
+// Whether the charge is within the limit. The subtraction stands in for a sum that could pass a word.
+fn within(work: u64, limit: u64, amount: u64) -> bool
+    ensures { λ r. ⌜ r ≡ leb (work + amount) limit ⌝ }
 {
     if amount <= limit {
         if work <= limit - amount {
-            return work + amount;
+            return true;
         }
+    }
+    false
+}
+
+// The work after a charge.
+pub(crate) fn work_after(work: u64, limit: u64, amount: u64) -> u64
+    ensures { λ r. ⌜ r ≡ workAfter work limit amount ⌝ }
+{
+    if within(work, limit, amount) {
+        return work + amount;
     }
     work
 }
@@ -32,10 +44,8 @@ pub(crate) fn work_after(work: u64, limit: u64, amount: u64) -> u64
 pub(crate) fn answer_of(work: u64, limit: u64, amount: u64) -> Charged
     ensures { λ r. ⌜ r ≡ answerOf work limit amount ⌝ }
 {
-    if amount <= limit {
-        if work <= limit - amount {
-            return Charged::Within;
-        }
+    if within(work, limit, amount) {
+        return Charged::Within;
     }
     Charged::Refused(PbcError::ExpansionLimit)
 }

@@ -1,29 +1,19 @@
-use Prim.Native.Nat.{_+_}
-use native.Mathlib.Omega.{arith}
-use borrow.Author.Tests.{le-leb, lt-leb}
+use mathlib.Core.Path.{sym, _∙_}
+use borrow.Author.Needs.{needs}
 use Rattle.arena.specs.Stats.{answerOf}
 use Rattle.arena.proofs.stats.answer_of.Statement.{statement}
 use Rattle.arena.proofs.stats.answer_of.Tie as tie
-use Rattle.arena.proofs.stats.answer_of.Reads as reads
-use Rattle.arena.proofs.stats.answer_of.Lts as lts
+
+within-requires : tie.Need-within-requires
+within-requires c κs = search needs
 
 returns : tie.Need-returns
 unfolding answerOf
-returns c =
-    let a = c .before .before .args in
-    rw (le-leb (a .work + a .amount) (a .limit) (omega arith))
+returns c = rw (sym (c .before .within .ensures) ∙ c .if1 .taken)
 
 returns-2 : tie.Need-returns-2
 unfolding answerOf
-returns-2 c =
-    let a = c .before .before .args in
-    rw (lt-leb (a .work + a .amount) (a .limit) (omega arith))
-
-returns-3 : tie.Need-returns-3
-unfolding answerOf
-returns-3 c =
-    let a = c .before .args in
-    rw (lt-leb (a .work + a .amount) (a .limit) (omega arith))
+returns-2 c = rw (sym (c .before .within .ensures) ∙ c .if1 .left)
 
 pub answer-of-spec : {M : Type 1} → statement M
-answer-of-spec = tie.close (tie.spec returns returns-2 returns-3)
+answer-of-spec = tie.close (tie.spec within-requires returns returns-2)

@@ -1,33 +1,28 @@
+use mathlib.Core.Path.{sym, _∙_}
 use Prim.Native.Nat.{_+_}
 use native.Mathlib.Omega.{arith}
-use borrow.Author.Tests.{le-leb, lt-leb}
-use Rattle.arena.specs.Stats.{workAfter}
 use borrow.Author.Needs.{needs}
+use borrow.Author.Tests.{leb-true}
+use Rattle.arena.specs.Stats.{workAfter}
 use Rattle.arena.proofs.stats.work_after.Statement.{statement}
 use Rattle.arena.proofs.stats.work_after.Tie as tie
-use Rattle.arena.proofs.stats.work_after.Reads as reads
-use Rattle.arena.proofs.stats.work_after.Lts as lts
 
+within-requires : tie.Need-within-requires
+within-requires c κs = search needs
+
+-- the sum is at most the limit, which fits
 add-result : tie.Need-add-result
-add-result c = search needs
+add-result c =
+    let a = c .before .before .args in
+    omega (arith, leb-true (a .work + a .amount) (a .limit) (sym (c .before .within .ensures) ∙ c .if1 .taken))
 
 returns : tie.Need-returns
 unfolding workAfter
-returns c =
-    let a = c .before .before .args in
-    rw (le-leb (a .work + a .amount) (a .limit) (omega arith))
+returns c = rw (sym (c .before .within .ensures) ∙ c .if1 .taken)
 
 returns-2 : tie.Need-returns-2
 unfolding workAfter
-returns-2 c =
-    let a = c .before .before .args in
-    rw (lt-leb (a .work + a .amount) (a .limit) (omega arith))
-
-returns-3 : tie.Need-returns-3
-unfolding workAfter
-returns-3 c =
-    let a = c .before .args in
-    rw (lt-leb (a .work + a .amount) (a .limit) (omega arith))
+returns-2 c = rw (sym (c .before .within .ensures) ∙ c .if1 .left)
 
 pub work-after-spec : {M : Type 1} → statement M
-work-after-spec = tie.close (tie.spec add-result returns returns-2 returns-3)
+work-after-spec = tie.close (tie.spec within-requires add-result returns returns-2)
