@@ -21,5 +21,6 @@ pub mod Loops
 pub mod Links
 pub mod Bounds
 pub mod Reports
+pub mod Charging
 pub mod Examples
 pub mod Theorems

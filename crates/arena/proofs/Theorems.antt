@@ -14,9 +14,10 @@ use Rattle.arena.specs.Nodes.{nodeAt, image}
 use Rattle.arena.specs.Store.{Header}
 use Rattle.arena.specs.Builder.{CreatedMade, SingledMade, MultipliedMade, newStep, singleStep, productStep}
 use Rattle.arena.specs.Sparse.{size, dense}
-use Rattle.arena.specs.Walk.{Named, fine, refused, State, Walked, eval, walkNodes, Answer, walk}
+use Rattle.arena.specs.Walk.{Named, fine, refused, State, Walked, charge, eval, walkNodes, Answer, walk}
 use Rattle.arena.specs.Machine.{run}
 use Rattle.arena.specs.Readers.{Expanded, expandWalk, hermitianWalk, Weighed, largest, wordsOf, reportWalk}
+use Rattle.arena.specs.Stats.{Within, Refused, workAfter, answerOf}
 use Rattle.arena.specs.Calls.{Call, Slices, checked, after, KeptSlices}
 use Rattle.arena.proofs.Reading
 use Rattle.arena.proofs.Answers
@@ -26,6 +27,7 @@ use Rattle.arena.proofs.Meaning
 use Rattle.arena.proofs.Running
 use Rattle.arena.proofs.Ending
 use Rattle.arena.proofs.Reports
+use Rattle.arena.proofs.Charging
 
 -- ---- demand 1, for the calls of this crate
 
@@ -115,3 +117,19 @@ pub report-means : (limit room n count : ℕ) (words : List ℕ) (axes : List We
     → reportWalk limit room n count words axes
     ≡ fine (record { weights = largest axes (map (λ w. weight (image n count words w .letters)) (wordsOf axes)); work = a .work })
 report-means = Reports.report-means
+
+-- ---- a charge is the walk's charge
+
+-- answered Within, it is fine, with the work that the charge leaves
+pub charge-within : (limit amount : ℕ) (s : State) → answerOf (s .work) limit amount ≡ Within
+    → (t : State) × ((charge limit amount s ≡ fine t) × (t .work ≡ workAfter (s .work) limit amount))
+charge-within = Charging.within-fine
+
+-- fine, it is answered Within
+pub charge-fine : (limit amount : ℕ) (s t : State) → charge limit amount s ≡ fine t
+    → (answerOf (s .work) limit amount ≡ Within) × (t .work ≡ workAfter (s .work) limit amount)
+charge-fine = Charging.fine-within
+
+-- a refusal is the same refusal
+pub charge-refused : (limit amount : ℕ) (s : State) (e : PbcError) → answerOf (s .work) limit amount ≡ Refused e → charge limit amount s ≡ refused e
+charge-refused = Charging.refused-alike

@@ -1,6 +1,6 @@
 -- The arena of a circuit: what its words stand for, what its calls do.
 -- From the reader's end: what things are (Limits, Errors, References, Nodes, Operations), what is tested (Store), what calls do (Builder), what is claimed (Calls),
--- how products are expanded (Sparse, Walk, Machine: the walk without recursion), what is read from that (Readers).
+-- how products are expanded (Sparse, Walk, Machine: the walk without recursion), what is read from that (Readers), how work is charged (Stats).
 pub mod Types
 pub mod Limits
 pub mod Errors
@@ -15,3 +15,4 @@ pub mod Walk
 pub mod Machine
 pub mod Readers
 pub mod Expansion
+pub mod Stats

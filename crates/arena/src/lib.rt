@@ -9,6 +9,7 @@ mod limits;
 mod node;
 mod op;
 mod pauli_ref;
+mod stats;
 
 pub use builder::Created;
 pub use builder::Measured;
@@ -32,3 +33,6 @@ pub use op::PbcOp;
 pub use op::Target;
 pub use pauli_ref::PauliAxis;
 pub use pauli_ref::PauliRef;
+pub use stats::Charged;
+pub use stats::ExpansionStats;
+pub use stats::charge;
