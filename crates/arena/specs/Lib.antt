@@ -10,4 +10,6 @@ pub mod Store
 pub mod Builder
 pub mod Calls
 pub mod Sparse
+pub mod Pool
+pub mod PoolSteps
 pub mod Walk
