@@ -9,6 +9,7 @@ mod limits;
 mod node;
 mod op;
 mod pauli_ref;
+mod pool;
 mod writes;
 
 pub use builder::Created;
