@@ -1,5 +1,4 @@
 -- What the tags mean: two chains of different tags, and a chain and the free list, have no record in common, and a chain has no record twice.
---
 use mathlib.Core.Path.{_≡_, ap, _∙_}
 use mathlib.Core.List.{List, [], _∷_}
 use mathlib.Core.Logic.{_⊎_, inl, inr}

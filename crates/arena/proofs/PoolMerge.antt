@@ -6,7 +6,10 @@ use Prim.Native.Nat.{ℕ, zero, suc, _+_, _-_, _*_, _%_, _≤_, _<_}
 use native.Mathlib.Omega.{arith}
 use lib.ListN.{length, set}
 use lib.Seq.{getD-set-same, getD-set-other}
-use borrow.Author.Tests.{eq-eqb, ne-eqb, lt-ltb, le-ltb}
+use native.Mathlib.Nat.{add-zero}
+use mathlib.Core.Bool.{Bool, true, false}
+use lib.Dec.{eqb, ltb}
+use borrow.Author.Tests.{eq-eqb, ne-eqb, lt-ltb, le-ltb, eqb-true, eqb-false, ltb-true, ltb-false}
 use Rattle.pauli.proofs.Finite.{⊕-one, ⊕-assoc}
 use Rattle.pauli.proofs.Numbers.{phaseNumber-small}
 use Rattle.pauli.specs.declared.pauli.NumberProduct.{NumberProduct}
@@ -15,7 +18,7 @@ use Rattle.arena.specs.Types.{Phase, One}
 use Rattle.arena.specs.Sparse.{Factor, Sparse, factor, merge, withFactor, turned, together}
 use Rattle.arena.proofs.PoolLetters.{of-number, number-power, power-one, power-times, together-none, together-some, third-some}
 use Rattle.arena.specs.Pool.{loose, spare, held, Who, nextAt, qubitAt, letterAt, Lendable, Holds, Chain, Free, Made, onto}
-use Rattle.arena.specs.PoolSteps.{Operands, Multiplied, attached, headOf, met}
+use Rattle.arena.specs.PoolSteps.{Operands, Multiplied, attached, headOf, Meeting, Turn, keptTurn, third, turnBy, metTurn, metPool, mergeTurn, mergePool}
 use Rattle.arena.proofs.PoolLaws.{Step, put, upd, upd-same, upd-other, no-mix, one-tag, counted-step, chain-step, free-step}
 use Rattle.arena.proofs.PoolParts.{Job, Parts, swap, of-loose, append, push, detach, close, chain-lower, chain-own, free-own, retag, retag-same, retag-other, retag-spare, made-put, made-own, last-held, last-room, LastHeld}
 
@@ -38,18 +41,11 @@ pub length-onto : (rs fs : List Factor) → length (onto rs fs) ≡ length rs + 
 length-onto [] fs = omega arith
 length-onto (r ∷ rs) fs = omega (arith, length-onto rs (r ∷ fs))
 
--- the letter and the phase of the product of the factors at a and b, as numbers
-abbrev pub third : List ℕ → ℕ → ℕ → ℕ
-third p a b = numberProduct (letterAt p a) (letterAt p b) .pauli
-
-abbrev pub turn : List ℕ → ℕ → ℕ → ℕ
-turn p a b = numberProduct (letterAt p a) (letterAt p b) .phase
-
 module _ (p : List ℕ) (a b : ℕ) (f h : Factor) (f-is : letterAt p a ≡ pauliNumber (f .pauli)) (h-is : letterAt p b ≡ pauliNumber (h .pauli)) where
   third-is : third p a b ≡ pauliNumber (f .pauli · h .pauli)
   third-is = rw (f-is, h-is, of-number (f .pauli), of-number (h .pauli))
 
-  turn-is : turn p a b ≡ phaseNumber (phaseOf (f .pauli) (h .pauli))
+  turn-is : turnBy p a b ≡ phaseNumber (phaseOf (f .pauli) (h .pauli))
   turn-is = rw (f-is, h-is, of-number (f .pauli), of-number (h .pauli))
 
 -- ---- the invariant
@@ -222,7 +218,7 @@ module _ {p₀ : List ℕ} {free₀ a₀ na b₀ nb : ℕ} (g : Operands p₀ fr
     join-both : (fa fb : List Factor) → Before g p free a b tail made left phase fa fb
         → (a ≡ 0 → ⊥) → (b ≡ 0 → ⊥) → qubitAt p a ≡ qubitAt p b → (third p a b ≡ 0 → ⊥)
         → Merging g (set (set (set p (3 * a + 2) (third p a b)) (3 * tail) a) (3 * b) free) b (nextAt p a) (nextAt p b) a (made + 1) (left - 2)
-        ((phase + turn p a b) % 4)
+        ((phase + turnBy p a b) % 4)
     join-both [] fb s na′ nb′ q le = absurd (na′ (s .parts .chain-a))
     join-both (f ∷ fa) [] s na′ nb′ q le = absurd (nb′ (s .parts .chain-b))
     join-both (f ∷ fa) (h ∷ fb) s na′ nb′ q le =
@@ -239,7 +235,7 @@ module _ {p₀ : List ℕ} {free₀ a₀ na b₀ nb : ℕ} (g : Operands p₀ fr
         let f′ : Factor = factor (f .qubit) (f .pauli · h .pauli) in
         let k : Phase = phaseOf (f .pauli) (h .pauli) in
         let e : merge (f ∷ fa) (h ∷ fb) ≡ turned k (withFactor f′ (merge fa fb)) = merge-eq f h fa fb qe ∙ together-some f h _ ne in
-        let ke : turn p a b ≡ phaseNumber k = turn-is p a b f h (x .letter-is) (y .letter-is) in
+        let ke : turnBy p a b ≡ phaseNumber k = turn-is p a b f h (x .letter-is) (y .letter-is) in
         let who₂ : Who = upd (upd who a loose) b loose in
         let w₂ = swap (detach (inr (inl refl)) h (swap (detach (inl refl) f w))) in
         let la : who₂ a ≡ loose = upd-other (upd who a loose) b loose a a-b ∙ upd-same who a loose in
@@ -297,7 +293,7 @@ module _ {p₀ : List ℕ} {free₀ a₀ na b₀ nb : ℕ} (g : Operands p₀ fr
 
     pub join : Merging g p free a b tail made left phase → (a ≡ 0 → ⊥) → (b ≡ 0 → ⊥) → qubitAt p a ≡ qubitAt p b → (third p a b ≡ 0 → ⊥)
         → Merging g (set (set (set p (3 * a + 2) (third p a b)) (3 * tail) a) (3 * b) free) b (nextAt p a) (nextAt p b) a (made + 1) (left - 2)
-        ((phase + turn p a b) % 4)
+        ((phase + turnBy p a b) % 4)
     join s = join-both (s .fa) (s .fb) (s .at)
 
 -- ---- the end: what is left of one chain follows what was made
@@ -396,13 +392,7 @@ module _ {p₀ : List ℕ} {free₀ a₀ na b₀ nb : ℕ} (g : Operands p₀ fr
 -- ---- what the code needs to be safe, as plain facts on numbers
 
 pub record Ready (p : List ℕ) (free a b tail made left phase na nb : ℕ) : Type 0 where
-  pub a-low : a < 65536
-  pub a-room : 3 * a + 2 < length p
-  pub b-low : b < 65536
-  pub b-room : 3 * b + 2 < length p
-  pub tail-low : tail < 65536
-  pub tail-room : 3 * tail < length p
-  pub free-low : free < 65536
+  pub room : Meeting p free tail a b
   pub two : 2 ≤ left
   pub fewer : made + left ≤ na + nb
   pub few : na + nb < 65536
@@ -436,13 +426,15 @@ module _ {p₀ : List ℕ} {free₀ a₀ na b₀ nb : ℕ} (g : Operands p₀ fr
       let x : Holds p who (g .ta) f a = w .chain-a .0 in
       let y : Holds p who (g .tb) h b = w .chain-b .0 in
       record {
-        a-low = x .counted .low;
-        a-room = x .counted .room;
-        b-low = y .counted .low;
-        b-room = y .counted .room;
-        tail-low = last-low p who (g .tr) (s .lo) tail (s .rs) (w .made);
-        tail-room = last-room p who (g .tr) (s .lo) tail (s .rs) (omega (arith, x .counted .room)) (w .made);
-        free-low = free-low p who free (s .n) (w .freed);
+        room = record {
+          free-low = free-low p who free (s .n) (w .freed);
+          tail-low = last-low p who (g .tr) (s .lo) tail (s .rs) (w .made);
+          a-low = x .counted .low;
+          b-low = y .counted .low;
+          tail-room = last-room p who (g .tr) (s .lo) tail (s .rs) (omega (arith, x .counted .room)) (w .made);
+          a-room = x .counted .room;
+          b-room = y .counted .room;
+        };
         two = omega arith;
         fewer = s .fewer;
         few = g .few;
@@ -467,34 +459,92 @@ module _ {p₀ : List ℕ} {free₀ a₀ na b₀ nb : ℕ} (g : Operands p₀ fr
   pub sum-fits : Merging g p free a b tail made left phase → made + left < 65536
   sum-fits s = omega (arith, s .at .fewer, g .few)
 
--- ---- the arms, as the code has them: each value with the equation that a call gives
+-- ---- a turn, as the code has it
 
 module _ {p₀ : List ℕ} {free₀ a₀ na b₀ nb : ℕ} (g : Operands p₀ free₀ a₀ na b₀ nb) {p : List ℕ} {free a b tail made left phase : ℕ}
-    (s : Merging g p free a b tail made left phase) (na′ : a ≡ 0 → ⊥) (nb′ : b ≡ 0 → ⊥) {qa qb : ℕ} (qa-is : qa ≡ qubitAt p a) (qb-is : qb ≡ qubitAt p b) where
-  pub take-a′ : {x : ℕ} {p′ : List ℕ} → qa < qb → x ≡ nextAt p a → p′ ≡ set p (3 * tail) a
-      → Merging g p′ free x b a (made + 1) (left - 1) phase
-  take-a′ l x-is p-is = rw (x-is, p-is) (take-a g s na′ nb′ (omega arith))
+    (s : Merging g p free a b tail made left phase) (na′ : a ≡ 0 → ⊥) (nb′ : b ≡ 0 → ⊥) where
+  no-turn : (phase + 0) % 4 ≡ phase
+  no-turn = omega (arith, s .at .small)
 
-  pub take-b′ : {x : ℕ} {p′ : List ℕ} → qb < qa → x ≡ nextAt p b → p′ ≡ set p (3 * tail) b
-      → Merging g p′ free a x b (made + 1) (left - 1) phase
-  take-b′ l x-is p-is = rw (x-is, p-is) (take-b g s na′ nb′ (omega arith))
+  abbrev After : List ℕ → Turn → Type 0
+  After p′ t = Merging g p′ (t .free) (t .a) (t .b) (t .tail) (made + t .made) (left - t .used) ((phase + t .phase) % 4)
 
-  pub cancel′ : {x y : ℕ} {p′ : List ℕ} {m : NumberProduct} → qa ≤ qb → qb ≤ qa → x ≡ nextAt p a → y ≡ nextAt p b
-      → m ≡ numberProduct (letterAt p a) (letterAt p b) → m .pauli ≡ 0 → p′ ≡ met p free tail a b (m .pauli)
-      → Merging g p′ b x y tail made (left - 2) phase
-  cancel′ l k x-is y-is m-is z e =
-      rw (x-is, y-is, e, eq-eqb _ 0 z) (cancel g s na′ nb′ (omega arith) (sym (ap (λ (r : NumberProduct). r .pauli) m-is) ∙ z))
+  met-after : qubitAt p a ≡ qubitAt p b → (c : Bool) → eqb (third p a b) 0 ≡ c → After (metPool p free tail a b) (metTurn p tail a b)
+  met-after q true e = rw (e, no-turn, add-zero made) (cancel g s na′ nb′ q (eqb-true (third p a b) 0 e))
+  met-after q false e = rw e (join g s na′ nb′ q (eqb-false (third p a b) 0 e))
 
-  pub join′ : {x y t : ℕ} {p′ : List ℕ} {m : NumberProduct} → qa ≤ qb → qb ≤ qa → x ≡ nextAt p a → y ≡ nextAt p b
-      → m ≡ numberProduct (letterAt p a) (letterAt p b) → (m .pauli ≡ 0 → ⊥) → p′ ≡ met p free tail a b (m .pauli) → t ≡ m .phase
-      → Merging g p′ b x y a (made + 1) (left - 2) ((phase + t) % 4)
-  join′ l k x-is y-is m-is ne e t-is =
-      let n-is = ap (λ (r : NumberProduct). r .pauli) m-is in
-      rw (x-is, y-is, e, ne-eqb _ 0 ne, t-is, n-is, ap (λ (r : NumberProduct). r .phase) m-is)
-      (join g s na′ nb′ (omega arith) (λ z. ne (n-is ∙ z)))
+  turn-after : (c d : Bool) → ltb (qubitAt p a) (qubitAt p b) ≡ c → ltb (qubitAt p b) (qubitAt p a) ≡ d → After (mergePool p free tail a b) (mergeTurn p free tail a b)
+  turn-after true d e f = rw (e, no-turn) (take-a g s na′ nb′ (ltb-true _ _ e))
+  turn-after false true e f = rw (e, f, no-turn) (take-b g s na′ nb′ (ltb-true _ _ f))
+  turn-after false false e f = rw (e, f) (met-after (omega (arith, ltb-false (qubitAt p a) (qubitAt p b) e, ltb-false (qubitAt p b) (qubitAt p a) f)) _ refl)
 
-pub turn-low : (a b : ℕ) {t : ℕ} {m : NumberProduct} → m ≡ numberProduct a b → t ≡ m .phase → t < 4
-turn-low a b m-is t-is = omega (arith, t-is ∙ ap (λ (r : NumberProduct). r .phase) m-is, phaseNumber-small (phaseOf (pauliOf a) (pauliOf b)))
+  pub turn′ : {t : Turn} {p′ : List ℕ} → t ≡ mergeTurn p free tail a b → p′ ≡ mergePool p free tail a b → After p′ t
+  turn′ t-is p-is = rw (t-is, p-is) (turn-after _ _ refl refl)
+
+-- what the code answers at each way out of a turn
+module _ (p : List ℕ) (free tail a b : ℕ) where
+  module _ {x y la lb : ℕ} {m : NumberProduct} (x-is : x ≡ nextAt p a) (y-is : y ≡ nextAt p b) (la-is : la ≡ letterAt p a) (lb-is : lb ≡ letterAt p b) (m-is : m ≡ numberProduct la lb) where
+    letter-is′ : m .pauli ≡ third p a b
+    letter-is′ = ap (λ (r : NumberProduct). r .pauli) m-is ∙ rw (la-is, lb-is)
+
+    turn-is′ : m .phase ≡ turnBy p a b
+    turn-is′ = ap (λ (r : NumberProduct). r .phase) m-is ∙ rw (la-is, lb-is)
+
+    pub met-none : {p₁ p₂ : List ℕ} → m .pauli ≡ 0 → p₁ ≡ set p (3 * a) free → p₂ ≡ set p₁ (3 * b) a
+        → (record { free = b; a = x; b = y; tail = tail; made = 0; used = 2; phase = 0 } ≡ metTurn p tail a b) × (p₂ ≡ metPool p free tail a b)
+    met-none z e₁ e₂ = rw (eq-eqb (third p a b) 0 (sym letter-is′ ∙ z)) (rw (x-is, y-is), rw (e₂, e₁))
+
+    pub met-some : {p₁ p₂ p₃ : List ℕ} {t : ℕ} → (m .pauli ≡ 0 → ⊥) → p₁ ≡ set p (3 * a + 2) (m .pauli) → p₂ ≡ set p₁ (3 * tail) a → p₃ ≡ set p₂ (3 * b) free → t ≡ m .phase
+        → (record { free = b; a = x; b = y; tail = a; made = 1; used = 2; phase = t } ≡ metTurn p tail a b) × (p₃ ≡ metPool p free tail a b)
+    met-some ne e₁ e₂ e₃ t-is =
+        rw (ne-eqb (third p a b) 0 (λ z. ne (letter-is′ ∙ z))) (rw (x-is, y-is, t-is, turn-is′), rw (e₃, e₂, e₁, letter-is′))
+
+  module _ {qa qb : ℕ} {t : Turn} {p′ : List ℕ} (qa-is : qa ≡ qubitAt p a) (qb-is : qb ≡ qubitAt p b) where
+    pub first-turn : {x : ℕ} → qa < qb → x ≡ nextAt p a → t ≡ keptTurn free x b a → p′ ≡ set p (3 * tail) a
+        → (t ≡ mergeTurn p free tail a b) × (p′ ≡ mergePool p free tail a b)
+    first-turn l x-is t-is p-is = rw (lt-ltb (qubitAt p a) (qubitAt p b) (omega arith)) (t-is ∙ rw x-is, p-is)
+
+    pub second-turn : {x : ℕ} → qb < qa → x ≡ nextAt p b → t ≡ keptTurn free a x b → p′ ≡ set p (3 * tail) b
+        → (t ≡ mergeTurn p free tail a b) × (p′ ≡ mergePool p free tail a b)
+    second-turn l x-is t-is p-is =
+        rw (le-ltb (qubitAt p a) (qubitAt p b) (omega arith), lt-ltb (qubitAt p b) (qubitAt p a) (omega arith)) (t-is ∙ rw x-is, p-is)
+
+    pub third-turn : qa ≤ qb → qb ≤ qa → t ≡ metTurn p tail a b → p′ ≡ metPool p free tail a b
+        → (t ≡ mergeTurn p free tail a b) × (p′ ≡ mergePool p free tail a b)
+    third-turn l k t-is p-is =
+        rw (le-ltb (qubitAt p a) (qubitAt p b) (omega arith), le-ltb (qubitAt p b) (qubitAt p a) (omega arith)) (t-is, p-is)
+
+-- how much a turn counts
+pub record Small (t : Turn) : Type 0 where
+  pub made-low : t .made ≤ 1
+  pub used-some : 1 ≤ t .used
+  pub used-low : t .used ≤ 2
+  pub fewer : t .made ≤ t .used
+  pub phase-low : t .phase < 4
+
+module _ (p : List ℕ) (free tail a b : ℕ) where
+  small-met : (c : Bool) → eqb (third p a b) 0 ≡ c → Small (metTurn p tail a b)
+  small-met true e =
+      rw e (record { made-low = omega arith; used-some = omega arith; used-low = omega arith; fewer = omega arith; phase-low = omega arith })
+  small-met false e =
+      rw e
+      (record {
+        made-low = omega arith;
+        used-some = omega arith;
+        used-low = omega arith;
+        fewer = omega arith;
+        phase-low = phaseNumber-small (phaseOf (pauliOf (letterAt p a)) (pauliOf (letterAt p b)));
+      })
+
+  small-turn : (c d : Bool) → ltb (qubitAt p a) (qubitAt p b) ≡ c → ltb (qubitAt p b) (qubitAt p a) ≡ d → Small (mergeTurn p free tail a b)
+  small-turn true d e f =
+      rw e (record { made-low = omega arith; used-some = omega arith; used-low = omega arith; fewer = omega arith; phase-low = omega arith })
+  small-turn false true e f =
+      rw (e, f) (record { made-low = omega arith; used-some = omega arith; used-low = omega arith; fewer = omega arith; phase-low = omega arith })
+  small-turn false false e f = rw (e, f) (small-met _ refl)
+
+  pub small : {t : Turn} → t ≡ mergeTurn p free tail a b → Small t
+  small t-is = rw t-is (small-turn _ _ refl refl)
 
 -- which chain is left
 abbrev pub Rest : ℕ → ℕ → ℕ → Type 0

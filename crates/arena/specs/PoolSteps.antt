@@ -4,11 +4,12 @@ use mathlib.Core.Path.{_≡_}
 use mathlib.Core.List.{List, [], _∷_, _++_}
 use Prim.Native.Nat.{ℕ, suc, _+_, _*_, _-_, _/_, _≤_, _<_, min}
 use lib.ListN.{length, set, replicate, drop}
-use lib.Dec.{eqb}
+use lib.Dec.{eqb, ltb}
 use mathlib.Core.Bool.{cond}
-use Rattle.pauli.specs.Letters.{phaseNumber}
+use Rattle.pauli.specs.Letters.{phaseNumber, numberProduct}
 use Rattle.arena.specs.Sparse.{Factor, merge}
-use Rattle.arena.specs.Pool.{Who, spare, Chain, Free, nextAt}
+use Rattle.arena.specs.Pool.{Who, spare, Chain, Free, nextAt, qubitAt, letterAt}
+pub use Rattle.arena.specs.declared.pool.Turn.{Turn}
 
 -- ---- the start and the end
 
@@ -113,7 +114,7 @@ pub record GivenBack {p : List ℕ} {free a count : ℕ} (g : Holding p free a c
 
 -- ---- the product
 
--- two factors of one qubit, at a and b: what must stand for the records to be read and written
+-- one turn of the merge of the chains at a and b, into the chain that ends at tail: what must stand for the records to be read and written
 pub record Meeting (p : List ℕ) (free tail a b : ℕ) : Type 0 where
   pub free-low : free < 65536
   pub tail-low : tail < 65536
@@ -123,10 +124,37 @@ pub record Meeting (p : List ℕ) (free tail a b : ℕ) : Type 0 where
   pub a-room : 3 * a + 2 < length p
   pub b-room : 3 * b + 2 < length p
 
--- the letter 0: both records are free. Another one: a holds it, after tail, and b is free
-abbrev pub met : List ℕ → ℕ → ℕ → ℕ → ℕ → ℕ → List ℕ
-met p free tail a b letter =
-    cond (eqb letter 0) (set (set p (3 * a) free) (3 * b) a) (set (set (set p (3 * a + 2) letter) (3 * tail) a) (3 * b) free)
+-- the record `tail` went to the product, and the chains go on at a and b
+abbrev pub keptTurn : ℕ → ℕ → ℕ → ℕ → Turn
+keptTurn free a b tail = record { free = free; a = a; b = b; tail = tail; made = 1; used = 1; phase = 0 }
+
+-- the letter and the phase of the product of the factors at a and b, as numbers
+abbrev pub third : List ℕ → ℕ → ℕ → ℕ
+third p a b = numberProduct (letterAt p a) (letterAt p b) .pauli
+
+abbrev pub turnBy : List ℕ → ℕ → ℕ → ℕ
+turnBy p a b = numberProduct (letterAt p a) (letterAt p b) .phase
+
+-- two factors of one qubit. The letter 0: both records are free. Another one: a holds it, after tail, and b is free
+abbrev pub metTurn : List ℕ → ℕ → ℕ → ℕ → Turn
+metTurn p tail a b =
+    cond (eqb (third p a b) 0) (record { free = b; a = nextAt p a; b = nextAt p b; tail = tail; made = 0; used = 2; phase = 0 })
+    (record { free = b; a = nextAt p a; b = nextAt p b; tail = a; made = 1; used = 2; phase = turnBy p a b })
+
+abbrev pub metPool : List ℕ → ℕ → ℕ → ℕ → ℕ → List ℕ
+metPool p free tail a b =
+    cond (eqb (third p a b) 0) (set (set p (3 * a) free) (3 * b) a) (set (set (set p (3 * a + 2) (third p a b)) (3 * tail) a) (3 * b) free)
+
+-- the factor with the lower qubit comes first
+abbrev pub mergeTurn : List ℕ → ℕ → ℕ → ℕ → ℕ → Turn
+mergeTurn p free tail a b =
+    cond (ltb (qubitAt p a) (qubitAt p b)) (keptTurn free (nextAt p a) b a)
+    (cond (ltb (qubitAt p b) (qubitAt p a)) (keptTurn free a (nextAt p b) b) (metTurn p tail a b))
+
+abbrev pub mergePool : List ℕ → ℕ → ℕ → ℕ → ℕ → List ℕ
+mergePool p free tail a b =
+    cond (ltb (qubitAt p a) (qubitAt p b)) (set p (3 * tail) a)
+    (cond (ltb (qubitAt p b) (qubitAt p a)) (set p (3 * tail) b) (metPool p free tail a b))
 
 -- a pool with two chains to multiply: who holds what, the tags, the factors, and how many records are free
 pub record Operands (p : List ℕ) (free a na b nb : ℕ) : Type 0 where

@@ -1,15 +1,14 @@
 //! The factor pool: a lent slice of records of three words, next, qubit and letter, in chains that rise by qubit; a next of 0 ends a chain.
 //! Record 0 is never lent: its next is where a chain in the making starts. What a chain and the free list are: specs/Pool.antt.
 
-use pauli::NumberProduct;
 use pauli::times_numbers;
 ghost use mathlib.Core.Path.{_≡_};
 ghost use Prim.Native.Nat.{_+_, _*_, _≤_, _<_};
 ghost use lib.ListN.{length, set};
-ghost use Rattle.pauli.specs.Letters.{pauliOf, numberProduct};
+ghost use Rattle.pauli.specs.Letters.{pauliOf};
 ghost use Rattle.arena.specs.Sparse.{factor};
 ghost use Rattle.arena.specs.Pool.{nextAt, qubitAt, letterAt};
-ghost use Rattle.arena.specs.PoolSteps.{attached, headOf, Meeting, met, Operands, Multiplied, Lender, Lent, Source, Copied, Holding, GivenBack, Usable, Used, capOf, AllFree, cleared};
+ghost use Rattle.arena.specs.PoolSteps.{attached, headOf, Meeting, keptTurn, metTurn, metPool, mergeTurn, mergePool, Operands, Multiplied, Lender, Lent, Source, Copied, Holding, GivenBack, Usable, Used, capOf, AllFree, cleared};
 
 // A chain, and the free list after it.
 pub struct Taken {
@@ -23,6 +22,18 @@ pub struct Outcome {
     pub count: usize,
     pub phase: usize,
     pub free: usize,
+}
+
+// One turn of a merge: where the free list, the two chains and the product's last record are after it, how many records went to the product,
+// how many left the two chains, and the phase.
+pub struct Turn {
+    pub free: usize,
+    pub a: usize,
+    pub b: usize,
+    pub tail: usize,
+    pub made: usize,
+    pub used: usize,
+    pub phase: usize,
 }
 
 fn wide(x: u32) -> usize
@@ -208,12 +219,28 @@ fn append(pool: &mut [u32], tail: usize, r: usize) -> usize
     next
 }
 
-// Two factors of one qubit: the record a holds their product and is the last of the chain in the making, b is free. If they cancel, both are free.
-fn meet(pool: &mut [u32], free: usize, tail: usize, a: usize, b: usize) -> NumberProduct
-    requires { ⌜ Meeting (now pool) free tail a b ⌝ }
-    ensures { λ r. ⌜ r ≡ numberProduct (letterAt (now (pool .entry)) a) (letterAt (now (pool .entry)) b) ⌝ }
-    ensures { λ r. ⌜ now (pool .exit) ≡ met (now (pool .entry)) free tail a b (r .pauli) ⌝ }
+// The record tail went from a chain to the product; the chains go on at a and b.
+fn kept(free: usize, a: usize, b: usize, tail: usize) -> Turn
+    ensures { λ r. ⌜ r ≡ keptTurn free a b tail ⌝ }
 {
+    Turn {
+        free,
+        a,
+        b,
+        tail,
+        made: 1,
+        used: 1,
+        phase: 0,
+    }
+}
+
+// Two factors of one qubit: the record a holds their product and is the last of the chain in the making, b is free. If they cancel, both are free.
+fn meet(pool: &mut [u32], free: usize, tail: usize, a: usize, b: usize) -> Turn
+    requires { ⌜ Meeting (now pool) free tail a b ⌝ }
+    ensures { λ r. ⌜ (r ≡ metTurn (now (pool .entry)) tail a b) × (now (pool .exit) ≡ metPool (now (pool .entry)) free tail a b) ⌝ }
+{
+    let next_a = next_of(pool, a);
+    let next_b = next_of(pool, b);
     let la = letter_of(pool, a);
     let lb = letter_of(pool, b);
     let product = times_numbers(la, lb);
@@ -221,12 +248,46 @@ fn meet(pool: &mut [u32], free: usize, tail: usize, a: usize, b: usize) -> Numbe
     if letter == 0 {
         link(pool, a, free);
         link(pool, b, a);
-        return product;
+        return Turn {
+            free: b,
+            a: next_a,
+            b: next_b,
+            tail,
+            made: 0,
+            used: 2,
+            phase: 0,
+        };
     }
     set_letter(pool, a, letter);
     link(pool, tail, a);
     link(pool, b, free);
-    product
+    Turn {
+        free: b,
+        a: next_a,
+        b: next_b,
+        tail: a,
+        made: 1,
+        used: 2,
+        phase: wide(product.phase),
+    }
+}
+
+// One turn of the merge: the factor with the lower qubit comes first, and factors of one qubit are multiplied.
+fn merge_turn(pool: &mut [u32], free: usize, tail: usize, a: usize, b: usize) -> Turn
+    requires { ⌜ Meeting (now pool) free tail a b ⌝ }
+    ensures { λ r. ⌜ (r ≡ mergeTurn (now (pool .entry)) free tail a b) × (now (pool .exit) ≡ mergePool (now (pool .entry)) free tail a b) ⌝ }
+{
+    let qa = qubit_of(pool, a);
+    let qb = qubit_of(pool, b);
+    if qa < qb {
+        let next = append(pool, tail, a);
+        return kept(free, next, b, a);
+    }
+    if qb < qa {
+        let next = append(pool, tail, b);
+        return kept(free, a, next, b);
+    }
+    meet(pool, free, tail, a, b)
 }
 
 // The ordered product of two chains, made of their own records; what cancels is given back.
@@ -252,34 +313,14 @@ pub(crate) fn multiply(
         if b == 0 {
             break;
         }
-        let qa = qubit_of(pool, a);
-        let qb = qubit_of(pool, b);
-        if qa < qb {
-            let next = append(pool, tail, a);
-            tail = a;
-            a = next;
-            made += 1;
-            left -= 1;
-        } else if qb < qa {
-            let next = append(pool, tail, b);
-            tail = b;
-            b = next;
-            made += 1;
-            left -= 1;
-        } else {
-            let next_a = next_of(pool, a);
-            let next_b = next_of(pool, b);
-            let product = meet(pool, free, tail, a, b);
-            free = b;
-            left -= 2;
-            if product.pauli != 0 {
-                phase = (phase + wide(product.phase)) % 4;
-                tail = a;
-                made += 1;
-            }
-            a = next_a;
-            b = next_b;
-        }
+        let t = merge_turn(pool, free, tail, a, b);
+        free = t.free;
+        a = t.a;
+        b = t.b;
+        tail = t.tail;
+        made += t.made;
+        left -= t.used;
+        phase = (phase + t.phase) % 4;
     }
     let rest = if a == 0 { b } else { a };
     let head = attach(pool, tail, rest);
