@@ -13,4 +13,5 @@ pub mod PoolMoves
 pub mod PoolMerge
 pub mod PoolEnds
 pub mod PoolApart
+pub mod PoolSafe
 pub mod Theorems

@@ -7,12 +7,8 @@ use native.Mathlib.Omega.{arith}
 use lib.ListN.{length}
 use Rattle.arena.specs.Sparse.{Factor}
 use Rattle.arena.specs.Pool.{spare, held, Who, nextAt, Chain, Free}
+use Rattle.arena.specs.PoolRuns.{Reached}
 use Rattle.arena.proofs.PoolLaws.{no-mix, one-tag, one-qubit}
-
--- r is one of the n records from h on
-abbrev pub Reached : List ℕ → ℕ → ℕ → ℕ → Type 0
-Reached p h zero r = ⊥
-Reached p h (suc n) r = (r ≡ h) ⊎ Reached p (nextAt p h) n r
 
 pub record HeldFrom (who : Who) (t lo r : ℕ) : Type 0 where
   pub at : ℕ

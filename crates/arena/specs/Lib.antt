@@ -12,4 +12,5 @@ pub mod Calls
 pub mod Sparse
 pub mod Pool
 pub mod PoolSteps
+pub mod PoolRuns
 pub mod Walk
