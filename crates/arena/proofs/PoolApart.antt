@@ -1,14 +1,14 @@
 -- What the tags mean: two chains of different tags, and a chain and the free list, have no record in common, and a chain has no record twice.
-use mathlib.Core.Path.{_≡_, ap, _∙_}
+use mathlib.Core.Path.{_≡_, ap, sym, subst, _∙_}
 use mathlib.Core.List.{List, [], _∷_}
 use mathlib.Core.Logic.{_⊎_, inl, inr}
 use Prim.Native.Nat.{ℕ, zero, suc, _≤_}
 use native.Mathlib.Omega.{arith}
 use lib.ListN.{length}
 use Rattle.arena.specs.Sparse.{Factor}
-use Rattle.arena.specs.Pool.{spare, held, Who, nextAt, Chain, Free}
-use Rattle.arena.specs.PoolRuns.{Reached}
-use Rattle.arena.proofs.PoolLaws.{no-mix, one-tag, one-qubit}
+use Rattle.arena.specs.Pool.{spare, held, Who, nextAt, Lendable, Chain, Free}
+use Rattle.arena.specs.PoolRuns.{Reached, Once}
+use Rattle.arena.proofs.PoolLaws.{no-mix, one-tag, one-qubit, one-place}
 
 pub record HeldFrom (who : Who) (t lo r : ℕ) : Type 0 where
   pub at : ℕ
@@ -45,3 +45,31 @@ spare-by p who h (suc n) r c (inr m) =
 
 pub not-free : (p : List ℕ) (who : Who) (t lo h k n : ℕ) (fs : List Factor) (r : ℕ) → Chain p who t lo h fs → Free p who k n → Reached p h (length fs) r → Reached p k n r → ⊥
 not-free p who t lo h k n fs r c d m l = no-mix (spare-by p who k n r d l .is) (held-by p who t lo h fs r c m .is)
+
+-- ---- no record twice
+
+pub chain-once : (p : List ℕ) (who : Who) (t lo h : ℕ) (fs : List Factor) → Chain p who t lo h fs → Once p h (length fs)
+chain-once p who t lo h [] c = tt
+chain-once p who t lo h (f ∷ fs) c = (once p who t lo h f fs c, chain-once p who t (suc (f .qubit)) (nextAt p h) fs (c .2))
+
+pub free-once : (p : List ℕ) (who : Who) (h n : ℕ) → Free p who h n → Once p h n
+free-once p who h zero c = tt
+free-once p who h (suc n) c =
+    (
+      (λ m.
+        let q : SpareUpTo who n h = spare-by p who (nextAt p h) n h (c .2) m in
+        omega (arith, q .upto, one-place (c .1) (q .is))),
+      free-once p who (nextAt p h) n (c .2)
+    )
+
+-- ---- only counted records, and never record 0
+
+pub chain-counted : (p : List ℕ) (who : Who) (t lo h : ℕ) (fs : List Factor) (r : ℕ) → Chain p who t lo h fs → Reached p h (length fs) r → Lendable p r
+chain-counted p who t lo h [] r c m = absurd m
+chain-counted p who t lo h (f ∷ fs) r c (inl e) = subst (Lendable p) (sym e) (c .0 .counted)
+chain-counted p who t lo h (f ∷ fs) r c (inr m) = chain-counted p who t (suc (f .qubit)) (nextAt p h) fs r (c .2) m
+
+pub free-counted : (p : List ℕ) (who : Who) (h n r : ℕ) → Free p who h n → Reached p h n r → Lendable p r
+free-counted p who h zero r c m = absurd m
+free-counted p who h (suc n) r c (inl e) = subst (Lendable p) (sym e) (c .0)
+free-counted p who h (suc n) r c (inr m) = free-counted p who (nextAt p h) n r (c .2) m

@@ -20,7 +20,7 @@ use Rattle.arena.proofs.PoolLetters.{of-number, number-power, power-one
 use Rattle.arena.specs.Pool.{loose, spare, held, Who, nextAt, qubitAt, letterAt, Lendable, Holds, Chain, Free, Made, onto}
 use Rattle.arena.specs.PoolSteps.{Operands, Multiplied, attached, headOf, Meeting, Turn, keptTurn, third, turnBy, metTurn, metPool, mergeTurn, mergePool}
 use Rattle.arena.proofs.PoolLaws.{Step, put, upd, upd-same, upd-other, no-mix, one-tag, counted-step, chain-step, free-step}
-use Rattle.arena.proofs.PoolParts.{Job, Parts, swap, of-loose, append, push, detach, close, chain-lower, chain-own, free-own, retag, retag-same, retag-other, retag-spare, made-put, made-own, last-held, last-room, LastHeld}
+use Rattle.arena.proofs.PoolParts.{Job, Parts, swap, of-loose, append, push, detach, close, chain-lower, chain-own, free-own, retag, retag-same, retag-other, retag-spare, made-put, made-own, last-held, last-room, LastHeld, free-low, chain-low, last-low, last-fits}
 
 -- ---- the merge, one factor at a time
 
@@ -398,22 +398,6 @@ pub record Ready (p : List ℕ) (free a b tail made left phase na nb : ℕ) : Ty
   pub few : na + nb < 65536
   pub small : phase < 4
 
-free-low : (p : List ℕ) (who : Who) (h n : ℕ) → Free p who h n → h < 65536
-free-low p who h zero c = omega arith
-free-low p who h (suc n) c = c .0 .low
-
-pub chain-low : (p : List ℕ) (who : Who) (t lo h : ℕ) (fs : List Factor) → Chain p who t lo h fs → h < 65536
-chain-low p who t lo h [] c = omega arith
-chain-low p who t lo h (f ∷ fs) c = c .0 .counted .low
-
-last-low : (p : List ℕ) (who : Who) (t hi e : ℕ) (fs : List Factor) → Made p who t hi e fs → e < 65536
-last-low p who t hi e [] m = omega arith
-last-low p who t hi e (f ∷ fs) m = m .0 .counted .low
-
-last-room′ : (p : List ℕ) (who : Who) (t hi e : ℕ) (fs : List Factor) → Made p who t hi e fs → (e ≡ 0 → ⊥) → 3 * e < length p
-last-room′ p who t hi e [] m ne = absurd (ne m)
-last-room′ p who t hi e (f ∷ fs) m ne = omega (arith, m .0 .counted .room)
-
 module _ {p₀ : List ℕ} {free₀ a₀ na b₀ nb : ℕ} (g : Operands p₀ free₀ a₀ na b₀ nb) {p : List ℕ} {free a b tail made left phase : ℕ} where
   of-both : (fa fb : List Factor) → Before g p free a b tail made left phase fa fb
       → (a ≡ 0 → ⊥) → (b ≡ 0 → ⊥)
@@ -454,7 +438,7 @@ module _ {p₀ : List ℕ} {free₀ a₀ na b₀ nb : ℕ} (g : Operands p₀ fr
   low-tail s = last-low p (s .at .who) (g .tr) (s .at .lo) tail (s .at .rs) (s .at .parts .made)
 
   pub room-tail : Merging g p free a b tail made left phase → (tail ≡ 0 → ⊥) → 3 * tail < length p
-  room-tail s = last-room′ p (s .at .who) (g .tr) (s .at .lo) tail (s .at .rs) (s .at .parts .made)
+  room-tail s = last-fits p (s .at .who) (g .tr) (s .at .lo) tail (s .at .rs) (s .at .parts .made)
 
   pub sum-fits : Merging g p free a b tail made left phase → made + left < 65536
   sum-fits s = omega (arith, s .at .fewer, g .few)

@@ -13,7 +13,7 @@ use Rattle.arena.specs.Sparse.{Factor}
 use Rattle.arena.specs.Pool.{loose, held, Who, nextAt, qubitAt, letterAt, Lendable, Holds, Chain, Free, Made, onto}
 use Rattle.arena.specs.PoolSteps.{Lender, Lent, Source, Copied, Holding, GivenBack, Usable, Used, attached, headOf}
 use Rattle.arena.proofs.PoolLaws.{Step, put, upd, upd-same, give, both, no-mix, one-tag, counted-step, chain-step, free-step}
-use Rattle.arena.proofs.PoolParts.{Job, Parts, of-loose, append, push, pop, detach, advance, close, made-put, last-held, last-room, LastHeld, chain-own, free-own, retag, retag-same, retag-other, retag-spare}
+use Rattle.arena.proofs.PoolParts.{Job, Parts, of-loose, append, push, pop, detach, advance, close, made-put, last-held, last-room, LastHeld, chain-own, free-own, retag, retag-same, retag-other, retag-spare, free-low, chain-low, last-low, last-fits}
 
 -- a record whose qubit and letter are written
 module _ (p : List ℕ) (x q l : ℕ) where
@@ -122,14 +122,6 @@ pub record CopyReady (p : List ℕ) (free a tail : ℕ) : Type 0 where
   pub tail-low : tail < 65536
   pub tail-room : 3 * tail < length p
 
-last-low : (p : List ℕ) (who : Who) (t hi e : ℕ) (fs : List Factor) → Made p who t hi e fs → e < 65536
-last-low p who t hi e [] m = omega arith
-last-low p who t hi e (f ∷ fs) m = m .0 .counted .low
-
-last-room′ : (p : List ℕ) (who : Who) (t hi e : ℕ) (fs : List Factor) → Made p who t hi e fs → (e ≡ 0 → ⊥) → 3 * e < length p
-last-room′ p who t hi e [] m ne = absurd (ne m)
-last-room′ p who t hi e (f ∷ fs) m ne = omega (arith, m .0 .counted .room)
-
 module _ {p₀ : List ℕ} {free₀ a₀ count : ℕ} (g : Source p₀ free₀ a₀ count) where
   pub copy-begin : Copying g p₀ free₀ a₀ 0 count
   copy-begin =
@@ -204,7 +196,7 @@ module _ {p₀ : List ℕ} {free₀ a₀ count : ℕ} (g : Source p₀ free₀ a
     copy-tail-low s = last-low p (s .who) (g .tr) (s .lo) tail (s .rs) (s .parts .made)
 
     pub copy-tail-room : Copying g p free a tail left → (tail ≡ 0 → ⊥) → 3 * tail < length p
-    copy-tail-room s = last-room′ p (s .who) (g .tr) (s .lo) tail (s .rs) (s .parts .made)
+    copy-tail-room s = last-fits p (s .who) (g .tr) (s .lo) tail (s .rs) (s .parts .made)
 
     end-of : (who : Who) (lo : ℕ) (fs rs : List Factor) (n : ℕ) → Parts (copying g) p who lo a fs 0 0 [] lo tail rs free n
         → onto rs fs ≡ g .fs → left ≡ length fs → n ≡ left + g .n → left ≡ 0
@@ -269,10 +261,6 @@ pub record GiveReady (p : List ℕ) (free a : ℕ) : Type 0 where
   pub a-low : a < 65536
   pub a-room : 3 * a + 2 < length p
   pub free-low : free < 65536
-
-free-low : (p : List ℕ) (who : Who) (h n : ℕ) → Free p who h n → h < 65536
-free-low p who h zero c = omega arith
-free-low p who h (suc n) c = c .0 .low
 
 module _ {p₀ : List ℕ} {free₀ a₀ count : ℕ} (g : Holding p₀ free₀ a₀ count) where
   pub give-begin : Giving g p₀ free₀ a₀ count

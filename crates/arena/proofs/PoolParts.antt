@@ -71,6 +71,24 @@ close p who t hi e (f ∷ rs) fs m c =
     close p who t (f .qubit) d rs (f ∷ fs) (m .2 .2)
     (subst (λ (y : ℕ). Chain p who t (f .qubit) y (f ∷ fs)) (sym (m .2 .1)) (m .0, omega arith, chain-lower p who t hi (nextAt p e) (suc (f .qubit)) fs (m .1) c))
 
+-- ---- bounds
+
+pub free-low : (p : List ℕ) (who : Who) (h n : ℕ) → Free p who h n → h < 65536
+free-low p who h zero c = omega arith
+free-low p who h (suc n) c = c .0 .low
+
+pub chain-low : (p : List ℕ) (who : Who) (t lo h : ℕ) (fs : List Factor) → Chain p who t lo h fs → h < 65536
+chain-low p who t lo h [] c = omega arith
+chain-low p who t lo h (f ∷ fs) c = c .0 .counted .low
+
+pub last-low : (p : List ℕ) (who : Who) (t hi e : ℕ) (fs : List Factor) → Made p who t hi e fs → e < 65536
+last-low p who t hi e [] m = omega arith
+last-low p who t hi e (f ∷ fs) m = m .0 .counted .low
+
+pub last-fits : (p : List ℕ) (who : Who) (t hi e : ℕ) (fs : List Factor) → Made p who t hi e fs → (e ≡ 0 → ⊥) → 3 * e < length p
+last-fits p who t hi e [] m ne = absurd (ne m)
+last-fits p who t hi e (f ∷ fs) m ne = omega (arith, m .0 .counted .room)
+
 -- ---- a chain gets another tag
 
 abbrev pub renamed : ℕ → ℕ → Owner → Owner

@@ -7,10 +7,11 @@ use native.Mathlib.Omega.{arith}
 use lib.ListN.{length}
 use borrow.Author.Tests.{ne-eqb}
 use Rattle.arena.specs.Sparse.{Factor, merge}
-use Rattle.arena.specs.Pool.{Who, spare, Chain, Free}
+use Rattle.arena.specs.Pool.{Who, spare, Lendable, Chain, Free}
 use Rattle.arena.specs.PoolSteps.{Lender, Lent, Source, Copied, Usable, Used, Holding, GivenBack, Operands, Multiplied, AllFree, capOf}
-use Rattle.arena.specs.PoolRuns.{Held, heldAs, World, factorsHeld, Fresh, Without, Singles, Copies, Moves, GivesBack, Multiplies, Does, singles, copies, moves, givesBack, multiplies, Begins, Run, InChain, InFree}
-use Rattle.arena.proofs.PoolApart.{apart, not-free}
+use Rattle.arena.specs.PoolRuns.{Held, heldAs, World, factorsHeld, Fresh, Without, Singles, Copies, Uses, Moves, GivesBack, Multiplies, Does, singles, copies, uses, moves, givesBack, multiplies, Begins, Run, Once, InChain, InFree}
+use Rattle.arena.proofs.PoolApart
+use Rattle.arena.proofs.PoolApart.{apart, not-free, chain-once, free-once, chain-counted}
 
 -- every chain stands
 abbrev pub Each : List ℕ → Who → List Held → Type 0
@@ -118,8 +119,37 @@ module _ {words : ℕ} {w w′ : World} (s : Sound words w) where
         balance = omega (arith, ap factorsHeld (d .chains-are), d .spares-are, s .balance);
       }
 
-  abbrev usable : (d : Moves w w′) → Usable (w .pool) (w .free) (d .from .head) (length (d .from .factors)) (d .last)
+  abbrev usable : (d : Uses w w′) → Usable (w .pool) (w .free) (d .from .head) (length (d .from .factors)) 0
   usable d =
+      record {
+        who = s .who;
+        ta = d .from .tag;
+        tr = d .tag;
+        a-r = without-fresh (d .tag) (d .from) (w .chains) (d .others) (d .stands) (d .fresh) .0;
+        fs = d .from .factors;
+        n = w .spares;
+        chain = without-each (w .pool) (s .who) (d .from) (w .chains) (d .others) (d .stands) (s .each) .0;
+        freed = s .freed;
+        count-is = refl;
+        room = λ z. omega (arith, d .spares-are);
+      }
+
+  of-use : Uses w w′ → Sound words w′
+  of-use d =
+      let m = d .met (usable d) in
+      let t : ℕ = d .tag in
+      let n-is : w .spares - length (d .from .factors) ≡ w′ .spares = omega (arith, d .spares-are) in
+      record {
+        who = m .who′;
+        freed = subst (λ (n : ℕ). Free (w′ .pool) (m .who′) (w′ .free) n) n-is (m .freed);
+        each = subst (Each (w′ .pool) (m .who′)) (sym (d .chains-are))
+            (m .chain, each-kept (w .pool) (s .who) (w′ .pool) (m .who′) t t t (λ u lo h fs x _ _ c. m .kept u lo h fs x (λ z. absurd (z refl)) c) (w .chains) (d .fresh) (d .fresh) (d .fresh) (s .each));
+        distinct = subst Distinct (sym (d .chains-are)) (d .fresh, s .distinct);
+        balance = omega (arith, ap factorsHeld (d .chains-are), d .spares-are, s .balance);
+      }
+
+  abbrev movable : (d : Moves w w′) → Usable (w .pool) (w .free) (d .from .head) (length (d .from .factors)) (d .last)
+  movable d =
       record {
         who = s .who;
         ta = d .from .tag;
@@ -135,7 +165,7 @@ module _ {words : ℕ} {w w′ : World} (s : Sound words w) where
 
   of-move : Moves w w′ → Sound words w′
   of-move d =
-      let m = d .met (usable d) in
+      let m = d .met (movable d) in
       let t : ℕ = d .tag in
       let ta : ℕ = d .from .tag in
       let fr = without-fresh t (d .from) (w .chains) (d .others) (d .stands) (d .fresh) .1 in
@@ -240,6 +270,7 @@ module _ {words : ℕ} {w w′ : World} (s : Sound words w) where
   pub sound-step : Does w w′ → Sound words w′
   sound-step (singles d) = of-single d
   sound-step (copies d) = of-copy d
+  sound-step (uses d) = of-use d
   sound-step (moves d) = of-move d
   sound-step (givesBack d) = of-give d
   sound-step (multiplies d) = of-multiply d
@@ -281,3 +312,27 @@ pub never-free : (words : ℕ) (vs : List World) (w : World) → Run words vs w 
 never-free words vs w run c others r a =
     let s = run-sound words vs w run in
     not-free (w .pool) (s .who) (c .tag) 0 (c .head) (w .free) (w .spares) (c .factors) r (without-each (w .pool) (s .who) c (w .chains) others a (s .each) .0) (s .freed)
+
+-- no record is twice in a chain, nor in the free list
+pub never-twice : (words : ℕ) (vs : List World) (w : World) → Run words vs w → (c : Held) (others : List Held)
+    → Without c (w .chains) others → Once (w .pool) (c .head) (length (c .factors))
+never-twice words vs w run c others a =
+    let s = run-sound words vs w run in
+    chain-once (w .pool) (s .who) (c .tag) 0 (c .head) (c .factors) (without-each (w .pool) (s .who) c (w .chains) others a (s .each) .0)
+
+pub free-never-twice : (words : ℕ) (vs : List World) (w : World) → Run words vs w → Once (w .pool) (w .free) (w .spares)
+free-never-twice words vs w run =
+    let s = run-sound words vs w run in
+    free-once (w .pool) (s .who) (w .free) (w .spares) (s .freed)
+
+-- only counted records are held or free, and never record 0
+pub held-counted : (words : ℕ) (vs : List World) (w : World) → Run words vs w → (c : Held) (others : List Held) (r : ℕ)
+    → Without c (w .chains) others → InChain w c r → Lendable (w .pool) r
+held-counted words vs w run c others r a =
+    let s = run-sound words vs w run in
+    chain-counted (w .pool) (s .who) (c .tag) 0 (c .head) (c .factors) r (without-each (w .pool) (s .who) c (w .chains) others a (s .each) .0)
+
+pub free-counted : (words : ℕ) (vs : List World) (w : World) → Run words vs w → (r : ℕ) → InFree w r → Lendable (w .pool) r
+free-counted words vs w run r =
+    let s = run-sound words vs w run in
+    PoolApart.free-counted (w .pool) (s .who) (w .free) (w .spares) r (s .freed)

@@ -50,7 +50,6 @@ pub record Singles (w w′ : World) : Type 0 where
   pub spares-are : w .spares ≡ suc (w′ .spares)
   pub chains-are : w′ .chains ≡ heldAs tag head (one ∷ []) ∷ w .chains
 
--- a use that is not the last
 pub record Copies (w w′ : World) : Type 0 where
   pub tag : ℕ
   pub head : ℕ
@@ -62,7 +61,19 @@ pub record Copies (w w′ : World) : Type 0 where
   pub spares-are : w .spares ≡ length (from .factors) + w′ .spares
   pub chains-are : w′ .chains ≡ heldAs tag head (from .factors) ∷ w .chains
 
--- the last use
+-- `take`, for a use that is not the last
+pub record Uses (w w′ : World) : Type 0 where
+  pub tag : ℕ
+  pub head : ℕ
+  pub from : Held
+  pub others : List Held
+  pub fresh : Fresh tag (w .chains)
+  pub stands : Without from (w .chains) others
+  pub met : (g : Usable (w .pool) (w .free) (from .head) (length (from .factors)) 0) → Used g (w′ .pool) head (w′ .free)
+  pub spares-are : w .spares ≡ length (from .factors) + w′ .spares
+  pub chains-are : w′ .chains ≡ heldAs tag head (from .factors) ∷ w .chains
+
+-- `take`, for the last use
 pub record Moves (w w′ : World) : Type 0 where
   pub tag : ℕ
   pub head : ℕ
@@ -102,6 +113,7 @@ pub record Multiplies (w w′ : World) : Type 0 where
 pub data Does (w w′ : World) : Type 0 where
   singles : Singles w w′ → Does w w′
   copies : Copies w w′ → Does w w′
+  uses : Uses w w′ → Does w w′
   moves : Moves w w′ → Does w w′
   givesBack : GivesBack w w′ → Does w w′
   multiplies : Multiplies w w′ → Does w w′
@@ -125,6 +137,11 @@ Run words (v ∷ vs) w = Run words vs v × Does v w
 abbrev pub Reached : List ℕ → ℕ → ℕ → ℕ → Type 0
 Reached p h zero r = ⊥
 Reached p h (suc n) r = (r ≡ h) ⊎ Reached p (nextAt p h) n r
+
+-- none of the n records from h on is there twice
+abbrev pub Once : List ℕ → ℕ → ℕ → Type 0
+Once p h zero = Unit {0}
+Once p h (suc n) = (Reached p (nextAt p h) n h → ⊥) × Once p (nextAt p h) n
 
 abbrev pub InChain : World → Held → ℕ → Type 0
 InChain w c r = Reached (w .pool) (c .head) (length (c .factors)) r
