@@ -1,7 +1,7 @@
 -- What the tags mean: two chains of different tags, and a chain and the free list, have no record in common, and a chain has no record twice.
 use mathlib.Core.Path.{_≡_, ap, sym, subst, _∙_}
 use mathlib.Core.List.{List, [], _∷_}
-use mathlib.Core.Logic.{_⊎_, inl, inr}
+use mathlib.Core.Logic.{inl, inr}
 use Prim.Native.Nat.{ℕ, zero, suc, _≤_}
 use native.Mathlib.Omega.{arith}
 use lib.ListN.{length}
@@ -54,13 +54,12 @@ chain-once p who t lo h (f ∷ fs) c = (once p who t lo h f fs c, chain-once p w
 
 pub free-once : (p : List ℕ) (who : Who) (h n : ℕ) → Free p who h n → Once p h n
 free-once p who h zero c = tt
-free-once p who h (suc n) c =
-    (
-      (λ m.
-        let q : SpareUpTo who n h = spare-by p who (nextAt p h) n h (c .2) m in
-        omega (arith, q .upto, one-place (c .1) (q .is))),
-      free-once p who (nextAt p h) n (c .2)
-    )
+free-once p who h (suc n) c = (
+  (λ m.
+      let q : SpareUpTo who n h = spare-by p who (nextAt p h) n h (c .2) m in
+      omega (arith, q .upto, one-place (c .1) (q .is))),
+  free-once p who (nextAt p h) n (c .2),
+)
 
 -- ---- only counted records, and never record 0
 

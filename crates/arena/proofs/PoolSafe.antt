@@ -1,15 +1,19 @@
 -- Whatever operations a pool goes through: its chains and its free list stand, no two of them have a record in common, and the records lent are the factors held.
 use mathlib.Core.Path.{_≡_, refl, sym, ap, subst, _∙_}
-use mathlib.Core.Logic.{_⊎_, inl, inr}
+use mathlib.Core.Logic.{inl, inr}
 use mathlib.Core.List.{List, [], _∷_}
-use Prim.Native.Nat.{ℕ, zero, suc, _+_, _-_, _<_}
+use Prim.Native.Nat.{ℕ, suc, _+_, _-_, _≤_}
 use native.Mathlib.Omega.{arith}
 use lib.ListN.{length}
 use borrow.Author.Tests.{ne-eqb}
-use Rattle.arena.specs.Sparse.{Factor, merge}
+use mathlib.Core.Bool.{Bool, true, false, cond}
+use lib.Dec.{ltb}
+use Rattle.pauli.specs.Letters.{_·_}
+use Rattle.arena.specs.Types.{Pauli, I, X, Y, Z}
+use Rattle.arena.specs.Sparse.{Factor, Sparse, withFactor, withLetter, together, mergeOne, merge}
 use Rattle.arena.specs.Pool.{Who, spare, Lendable, Chain, Free}
-use Rattle.arena.specs.PoolSteps.{Lender, Lent, Source, Copied, Usable, Used, Holding, GivenBack, Operands, Multiplied, AllFree, capOf}
-use Rattle.arena.specs.PoolRuns.{Held, heldAs, World, factorsHeld, Fresh, Without, Singles, Copies, Uses, Moves, GivesBack, Multiplies, Does, singles, copies, uses, moves, givesBack, multiplies, Begins, Run, Once, InChain, InFree}
+use Rattle.arena.specs.PoolSteps.{Lender, Source, Usable, Holding, Operands, capOf}
+use Rattle.arena.specs.PoolRuns.{Held, World, factorsHeld, Fresh, Without, Singles, Copies, Uses, Moves, GivesBack, Multiplies, Does, singles, copies, uses, moves, givesBack, multiplies, Begins, Run, lentBy, backBy, lentIn, backIn, Once, InChain, InFree}
 use Rattle.arena.proofs.PoolApart
 use Rattle.arena.proofs.PoolApart.{apart, not-free, chain-once, free-once, chain-counted}
 
@@ -70,6 +74,28 @@ each-kept : (p : List ℕ) (who : Who) (p′ : List ℕ) (who′ : Who) (ta tb t
 each-kept p who p′ who′ ta tb tr k [] a b r e = tt
 each-kept p who p′ who′ ta tb tr k (c ∷ cs) a b r e =
     (k (c .tag) 0 (c .head) (c .factors) (a .0) (b .0) (r .0) (e .0), each-kept p who p′ who′ ta tb tr k cs (a .1) (b .1) (r .1) (e .1))
+
+-- a product has no more factors than its operands together
+letter-length : (q : ℕ) (a : Pauli) (r : Sparse) → length (withLetter q a r .factors) ≤ suc (length (r .factors))
+letter-length q I r = omega arith
+letter-length q X r = omega arith
+letter-length q Y r = omega arith
+letter-length q Z r = omega arith
+
+one-length : (f : Factor) (fs : List Factor) (rest : List Factor → Sparse) → ((gs : List Factor) → length (rest gs .factors) ≤ length fs + length gs)
+    → (gs : List Factor) → length (mergeOne f fs rest gs .factors) ≤ suc (length fs) + length gs
+one-length f fs rest k [] = omega arith
+one-length f fs rest k (g ∷ gs) = go (one-length f fs rest k gs) (ltb (f .qubit) (g .qubit)) (ltb (g .qubit) (f .qubit))
+  where
+    go : length (mergeOne f fs rest gs .factors) ≤ suc (length fs) + length gs → (b c : Bool)
+        → length (cond b (withFactor f (rest (g ∷ gs))) (cond c (withFactor g (mergeOne f fs rest gs)) (together f g (rest gs))) .factors) ≤ suc (length fs) + length (g ∷ gs)
+    go i true c = omega (arith, k (g ∷ gs))
+    go i false true = omega (arith, i)
+    go i false false = omega (arith, letter-length (f .qubit) (f .pauli · g .pauli) (rest gs), k gs)
+
+merge-length : (fs gs : List Factor) → length (merge fs gs .factors) ≤ length fs + length gs
+merge-length [] gs = omega arith
+merge-length (f ∷ fs) gs = one-length f fs (λ hs. merge fs hs) (λ hs. merge-length fs hs) gs
 
 -- ---- each operation
 
@@ -260,11 +286,15 @@ module _ {words : ℕ} {w w′ : World} (s : Sound words w) where
           each = subst (Each (w′ .pool) (m .who′)) (sym (d .chains-are))
               (m .chain, each-kept (w .pool) (s .who) (w′ .pool) (m .who′) (d .left .tag) (d .right .tag) (d .tag) (λ u lo h fs x y z c. m .kept u lo h fs x y z c) (d .others) (a-fresh .1) (b-distinct .0) (others-fresh .1) (b-each .1));
           distinct = subst Distinct (sym (d .chains-are)) (others-fresh .1, b-distinct .1);
-          balance = omega
-              (
-                arith, ap factorsHeld (d .chains-are), m .count-is, without-sum (d .left) (w .chains) (d .some) (d .left-stands),
-                without-sum (d .right) (d .some) (d .others) (d .right-stands), d .spares-are, s .balance
-              );
+          balance = omega (
+            arith,
+            ap factorsHeld (d .chains-are),
+            m .count-is,
+            without-sum (d .left) (w .chains) (d .some) (d .left-stands),
+            without-sum (d .right) (d .some) (d .others) (d .right-stands),
+            d .spares-are,
+            s .balance,
+          );
         }
 
   pub sound-step : Does w w′ → Sound words w′
@@ -292,9 +322,30 @@ pub run-sound : (words : ℕ) (vs : List World) (w : World) → Run words vs w �
 run-sound words [] w b = sound-start words w b
 run-sound words (v ∷ vs) w r = sound-step (run-sound words vs v (r .0)) (r .1)
 
--- the records lent and not given back are the factors held
+-- the free records and the factors held are all the counted records but record 0
 pub records-balance : (words : ℕ) (vs : List World) (w : World) → Run words vs w → w .spares + factorsHeld (w .chains) ≡ capOf words - 1
 records-balance words vs w r = run-sound words vs w r .balance
+
+-- the records lent, less the records given back, are the factors held
+step-count : {words : ℕ} {w w′ : World} (s : Sound words w) (d : Does w w′) → factorsHeld (w′ .chains) + backBy d ≡ factorsHeld (w .chains) + lentBy d
+step-count s (singles d) = omega (arith, ap factorsHeld (d .chains-are))
+step-count s (copies d) = omega (arith, ap factorsHeld (d .chains-are))
+step-count s (uses d) = omega (arith, ap factorsHeld (d .chains-are))
+step-count {w = w} s (moves d) = omega (arith, ap factorsHeld (d .chains-are), without-sum (d .from) (w .chains) (d .others) (d .stands))
+step-count {w = w} {w′} s (givesBack d) = omega (arith, without-sum (d .from) (w .chains) (w′ .chains) (d .stands))
+step-count {w = w} s (multiplies d) =
+    omega (
+      arith,
+      ap factorsHeld (d .chains-are),
+      d .met (operands s d) .count-is,
+      merge-length (d .left .factors) (d .right .factors),
+      without-sum (d .left) (w .chains) (d .some) (d .left-stands),
+      without-sum (d .right) (d .some) (d .others) (d .right-stands),
+    )
+
+pub records-held : (words : ℕ) (vs : List World) (w : World) (r : Run words vs w) → factorsHeld (w .chains) + backIn words vs w r ≡ lentIn words vs w r
+records-held words [] w r = omega (arith, ap factorsHeld (r .chains-are))
+records-held words (v ∷ vs) w r = omega (arith, records-held words vs v (r .0), step-count (run-sound words vs v (r .0)) (r .1))
 
 -- no record is in two chains
 pub never-shared : (words : ℕ) (vs : List World) (w : World) → Run words vs w → (c d : Held) (some others : List Held) (r : ℕ)

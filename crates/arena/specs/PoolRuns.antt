@@ -133,6 +133,32 @@ abbrev pub Run : ℕ → List World → World → Type 0
 Run words [] w = Begins words w
 Run words (v ∷ vs) w = Run words vs v × Does v w
 
+-- the records that an operation takes from the free list, and those that it gives back
+abbrev pub lentBy : {w w′ : World} → Does w w′ → ℕ
+lentBy (singles d) = 1
+lentBy (copies d) = length (d .from .factors)
+lentBy (uses d) = length (d .from .factors)
+lentBy (moves d) = 0
+lentBy (givesBack d) = 0
+lentBy (multiplies d) = 0
+
+abbrev pub backBy : {w w′ : World} → Does w w′ → ℕ
+backBy (singles d) = 0
+backBy (copies d) = 0
+backBy (uses d) = 0
+backBy (moves d) = 0
+backBy (givesBack d) = length (d .from .factors)
+backBy (multiplies d) = length (d .left .factors) + length (d .right .factors) - d .count
+
+-- the same in a whole run
+abbrev pub lentIn : (words : ℕ) (vs : List World) (w : World) → Run words vs w → ℕ
+lentIn words [] w r = 0
+lentIn words (v ∷ vs) w r = lentIn words vs v (r .0) + lentBy (r .1)
+
+abbrev pub backIn : (words : ℕ) (vs : List World) (w : World) → Run words vs w → ℕ
+backIn words [] w r = 0
+backIn words (v ∷ vs) w r = backIn words vs v (r .0) + backBy (r .1)
+
 -- r is one of the n records from h on
 abbrev pub Reached : List ℕ → ℕ → ℕ → ℕ → Type 0
 Reached p h zero r = ⊥
