@@ -1,4 +1,4 @@
--- The merge of two chains: what holds at each turn of `multiply`'s loop, and that each arm keeps it.
+-- The merge of two chains: what holds at each turn of `multiply`'s loop, and that each turn keeps it.
 use mathlib.Core.Path.{_≡_, refl, sym, ap, subst, _∙_}
 use mathlib.Core.List.{List, [], _∷_}
 use mathlib.Core.Logic.{_⊎_, inl, inr, ⊎-elim}

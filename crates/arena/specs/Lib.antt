@@ -1,5 +1,6 @@
 -- The arena of a circuit: what its words stand for, what its calls do.
 -- From the reader's end: what things are (Limits, Errors, References, Nodes, Operations), what is tested (Store), what calls do (Builder), what is claimed (Calls).
+-- Then what expanding needs: sparse products (Sparse), the pool that holds them (Pool, PoolSteps, PoolRuns), and the walk (Walk).
 pub mod Types
 pub mod Limits
 pub mod Errors
