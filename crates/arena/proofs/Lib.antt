@@ -22,5 +22,13 @@ pub mod Links
 pub mod Bounds
 pub mod Reports
 pub mod Charging
+pub mod PoolLetters
+pub mod PoolLaws
+pub mod PoolParts
+pub mod PoolMoves
+pub mod PoolMerge
+pub mod PoolEnds
+pub mod PoolApart
+pub mod PoolSafe
 pub mod Examples
 pub mod Theorems

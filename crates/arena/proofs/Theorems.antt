@@ -2,8 +2,8 @@
 use mathlib.Core.Path.{_≡_}
 use mathlib.Core.Bool.{true, cond}
 use mathlib.Core.List.{List, [], _∷_, map}
-use Prim.Native.Nat.{ℕ, suc, _*_, _≤_, _<_}
-use lib.ListN.{take}
+use Prim.Native.Nat.{ℕ, suc, _+_, _-_, _*_, _≤_, _<_}
+use lib.ListN.{length, take}
 use Rattle.pauli.specs.Letters.{real}
 use Rattle.pauli.specs.Rows.{_★_, scaled, single, present, weight}
 use Rattle.pauli.specs.Table.{start}
@@ -19,6 +19,9 @@ use Rattle.arena.specs.Machine.{run}
 use Rattle.arena.specs.Readers.{Expanded, expandWalk, hermitianWalk, Weighed, largest, wordsOf, reportWalk}
 use Rattle.arena.specs.Stats.{Within, Refused, workAfter, answerOf}
 use Rattle.arena.specs.Calls.{Call, Slices, checked, after, KeptSlices}
+use Rattle.arena.specs.Pool.{Lendable}
+use Rattle.arena.specs.PoolSteps.{capOf}
+use Rattle.arena.specs.PoolRuns.{Held, World, factorsHeld, Without, Run, lentIn, backIn, Once, InChain, InFree}
 use Rattle.arena.proofs.Reading
 use Rattle.arena.proofs.Answers
 use Rattle.arena.proofs.Spans
@@ -28,6 +31,7 @@ use Rattle.arena.proofs.Running
 use Rattle.arena.proofs.Ending
 use Rattle.arena.proofs.Reports
 use Rattle.arena.proofs.Charging
+use Rattle.arena.proofs.PoolSafe
 
 -- ---- demand 1, for the calls of this crate
 
@@ -72,6 +76,39 @@ scaled-image = Reading.image-scaled
 pub new-images : (qubits cbits owner : ℕ) (nodes frame : List ℕ) (h : Header) → newStep qubits cbits owner nodes frame .answer ≡ CreatedMade h
     → map (image (h .qubits) (h .nodes) (newStep qubits cbits owner nodes frame .words .nodes)) (take (2 * h .qubits) (newStep qubits cbits owner nodes frame .words .frame)) ≡ start (h .qubits)
 new-images = Answers.new-answer
+
+-- ---- the factor pool, after any sequence of its operations
+
+-- no record is in two chains
+pub pool-never-shared : (words : ℕ) (vs : List World) (w : World) → Run words vs w → (c d : Held) (some others : List Held) (r : ℕ)
+    → Without c (w .chains) some → Without d some others → InChain w c r → InChain w d r → ⊥
+pool-never-shared = PoolSafe.never-shared
+
+-- nor in a chain and the free list
+pub pool-never-free : (words : ℕ) (vs : List World) (w : World) → Run words vs w → (c : Held) (others : List Held) (r : ℕ)
+    → Without c (w .chains) others → InChain w c r → InFree w r → ⊥
+pool-never-free = PoolSafe.never-free
+
+-- nor twice in a chain, nor twice in the free list
+pub pool-never-twice : (words : ℕ) (vs : List World) (w : World) → Run words vs w → (c : Held) (others : List Held)
+    → Without c (w .chains) others → Once (w .pool) (c .head) (length (c .factors))
+pool-never-twice = PoolSafe.never-twice
+
+pub pool-free-once : (words : ℕ) (vs : List World) (w : World) → Run words vs w → Once (w .pool) (w .free) (w .spares)
+pool-free-once = PoolSafe.free-never-twice
+
+-- a record that is held is counted, and is not record 0
+pub pool-counted : (words : ℕ) (vs : List World) (w : World) → Run words vs w → (c : Held) (others : List Held) (r : ℕ)
+    → Without c (w .chains) others → InChain w c r → Lendable (w .pool) r
+pool-counted = PoolSafe.held-counted
+
+-- the records lent, less the records given back, are the factors held
+pub pool-held : (words : ℕ) (vs : List World) (w : World) (r : Run words vs w) → factorsHeld (w .chains) + backIn words vs w r ≡ lentIn words vs w r
+pool-held = PoolSafe.records-held
+
+-- and with the free records they are all the counted records but record 0
+pub pool-balance : (words : ℕ) (vs : List World) (w : World) → Run words vs w → w .spares + factorsHeld (w .chains) ≡ capOf words - 1
+pool-balance = PoolSafe.records-balance
 
 -- ---- what an accepted walk shows
 

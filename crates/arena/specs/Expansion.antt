@@ -1,7 +1,7 @@
 -- What the three readers answer, and what they leave in the letters, the scratch words and the pool: for acceptance and every refusal.
 use mathlib.Core.Bool.{Bool, true, false, _||_}
 use mathlib.Core.List.{List, [], _∷_, _++_, map}
-use Prim.Native.Nat.{ℕ, zero, suc, _+_, _-_, _*_, _/_, _%_, min}
+use Prim.Native.Nat.{ℕ, zero, suc, _+_, _-_, _*_, _%_}
 use lib.Dec.{ltb, eqb}
 use lib.ListN.{length, getD, replicate, drop}
 use Rattle.pauli.specs.Letters.{pauliNumber}
@@ -12,6 +12,7 @@ use Rattle.arena.specs.References.{PauliRef}
 use Rattle.arena.specs.Nodes.{PauliNode, Identity, Single, Product, Malformed, nodeAt}
 use Rattle.arena.specs.Operations.{PbcOp, Rotate, Measure, ConditionalRotate, decodeOp, Malformed as MalformedOp}
 use Rattle.arena.specs.Store.{Header, breaksLimit, exceedsNodes, exceedsOperations, foreign, unknown}
+use Rattle.arena.specs.PoolSteps.{capOf, cleared}
 use Rattle.arena.specs.Walk.{Out, fine, refused}
 use Rattle.arena.specs.Readers.{Expanded, expandWalk, hermitianWalk, Weighed, Report, reportWalk}
 
@@ -50,24 +51,14 @@ anyBadOp h op (suc k) = anyBadOp h op k || isBadOp h (op k)
 abbrev pub badOperations : Header → List ℕ → Bool
 badOperations h ops = exceedsOperations h (length ops) || anyBadOp h (opAt h ops) (h .operations)
 
--- ---- scratch and pool: four words a used node, three words a counted record; at most 65,536 records count, and record 0 is never lent
-
-abbrev pub recordsIn : ℕ → ℕ
-recordsIn words = min (words / 3) 65536
+-- ---- scratch and pool: four words a used node; all counted records but record 0 can be lent
 
 abbrev pub roomIn : List ℕ → ℕ
-roomIn pool = recordsIn (length pool) - 1
+roomIn pool = capOf (length pool) - 1
 
--- the first k words are zero, and past them nothing has changed
-abbrev pub zeroed : ℕ → List ℕ → List ℕ
-zeroed k ws = replicate k 0 ++ drop k ws
-
--- what a walk leaves of them, accepted or not
+-- what a walk leaves of the scratch, accepted or not: the words of used nodes are zero, and past them nothing has changed; of the pool it leaves `cleared`
 abbrev pub scratchLeft : Header → List ℕ → List ℕ
-scratchLeft h scratch = zeroed (4 * h .nodes) scratch
-
-abbrev pub poolLeft : List ℕ → List ℕ
-poolLeft pool = zeroed (3 * recordsIn (length pool)) pool
+scratchLeft h scratch = replicate (4 * h .nodes) 0 ++ drop (4 * h .nodes) scratch
 
 -- ---- expand: 3, 4, 16, then the walk
 
@@ -90,7 +81,7 @@ lettersLeft (fine x) letters = map pauliNumber (x .row .letters) ++ drop (length
 lettersLeft (refused e) letters = letters
 
 abbrev pub expandBy : Checked → Out Expanded → Header → (letters scratch pool : List ℕ) → ExpandStep
-expandBy Fine o h letters scratch pool = record { answer = o; letters = lettersLeft o letters; scratch = scratchLeft h scratch; pool = poolLeft pool }
+expandBy Fine o h letters scratch pool = record { answer = o; letters = lettersLeft o letters; scratch = scratchLeft h scratch; pool = cleared pool }
 expandBy (Wrong e) o h letters scratch pool = record { answer = refused e; letters = letters; scratch = scratch; pool = pool }
 
 unfoldable pub expandStep : Header → (nodes letters scratch pool : List ℕ) → PauliRef → (cells : ℕ) → ExpandStep
@@ -105,7 +96,7 @@ pub record WalkStep (A : Type 0) : Type 0 where
   pub pool : List ℕ
 
 abbrev pub walkBy : {A : Type 0} → Checked → Out A → Header → (scratch pool : List ℕ) → WalkStep A
-walkBy Fine o h scratch pool = record { answer = o; scratch = scratchLeft h scratch; pool = poolLeft pool }
+walkBy Fine o h scratch pool = record { answer = o; scratch = scratchLeft h scratch; pool = cleared pool }
 walkBy (Wrong e) o h scratch pool = record { answer = refused e; scratch = scratch; pool = pool }
 
 unfoldable pub hermitianCheck : Header → List ℕ → PauliRef → (scratch : ℕ) → Checked

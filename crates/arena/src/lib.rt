@@ -9,6 +9,7 @@ mod limits;
 mod node;
 mod op;
 mod pauli_ref;
+mod pool;
 mod stats;
 
 pub use builder::Created;
