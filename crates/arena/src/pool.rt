@@ -44,21 +44,21 @@ fn wide(x: u32) -> usize
 
 // ---- the words of a record
 
-pub(crate) fn next_of(pool: &[u32], r: usize) -> usize
+fn next_of(pool: &[u32], r: usize) -> usize
     requires { ⌜ (r < 65536) × (3 * r < length (now pool)) ⌝ }
     ensures { λ v. ⌜ v ≡ nextAt (now (pool .entry)) r ⌝ }
 {
     wide(pool[3 * r])
 }
 
-pub(crate) fn qubit_of(pool: &[u32], r: usize) -> u32
+fn qubit_of(pool: &[u32], r: usize) -> u32
     requires { ⌜ (r < 65536) × (3 * r + 1 < length (now pool)) ⌝ }
     ensures { λ v. ⌜ v ≡ qubitAt (now (pool .entry)) r ⌝ }
 {
     pool[3 * r + 1]
 }
 
-pub(crate) fn letter_of(pool: &[u32], r: usize) -> u32
+fn letter_of(pool: &[u32], r: usize) -> u32
     requires { ⌜ (r < 65536) × (3 * r + 2 < length (now pool)) ⌝ }
     ensures { λ v. ⌜ v ≡ letterAt (now (pool .entry)) r ⌝ }
 {
@@ -101,14 +101,14 @@ fn attach(pool: &mut [u32], tail: usize, rest: usize) -> usize
 // ---- the start and the end
 
 // How many records count in a pool of so many words.
-pub(crate) fn cap_of(words: usize) -> usize
+fn cap_of(words: usize) -> usize
     ensures { λ r. ⌜ r ≡ capOf words ⌝ }
 {
     if words / 3 < 65536 { words / 3 } else { 65536 }
 }
 
 // Every counted record but record 0 is free; the first of the free list is returned.
-pub(crate) fn init(pool: &mut [u32]) -> usize
+fn init(pool: &mut [u32]) -> usize
     ensures { λ r. ⌜ AllFree (now (pool .entry)) (now (pool .exit)) r ⌝ }
 {
     let cap = cap_of(pool.len());
@@ -124,7 +124,7 @@ pub(crate) fn init(pool: &mut [u32]) -> usize
 }
 
 // Every counted record is zero.
-pub(crate) fn clear(pool: &mut [u32])
+fn clear(pool: &mut [u32])
     ensures { λ _. ⌜ now (pool .exit) ≡ cleared (now (pool .entry)) ⌝ }
 {
     let words = 3 * cap_of(pool.len());
@@ -138,7 +138,7 @@ pub(crate) fn clear(pool: &mut [u32])
 // ---- lending and giving back
 
 // One record is lent for one factor.
-pub(crate) fn single(pool: &mut [u32], free: usize, qubit: u32, letter: u32) -> Taken
+fn single(pool: &mut [u32], free: usize, qubit: u32, letter: u32) -> Taken
     requires { ⌜ Lender (now pool) free ⌝ }
     requires { ⌜ (1 ≤ letter) × (letter ≤ 3) ⌝ }
     ensures { λ r. ⌜ ((g : Lender (now (pool .entry)) free) → Lent g (factor qubit (pauliOf letter)) (now (pool .exit)) (r .head) (r .free)) ⌝ }
@@ -154,7 +154,7 @@ pub(crate) fn single(pool: &mut [u32], free: usize, qubit: u32, letter: u32) -> 
 }
 
 // A chain of count factors is copied.
-pub(crate) fn copy(pool: &mut [u32], free0: usize, a0: usize, count: usize) -> Taken
+fn copy(pool: &mut [u32], free0: usize, a0: usize, count: usize) -> Taken
     requires { ⌜ Source (now pool) free0 a0 count ⌝ }
     ensures { λ r. ⌜ ((g : Source (now (pool .entry)) free0 a0 count) → Copied g (now (pool .exit)) (r .head) (r .free)) ⌝ }
 {
@@ -179,7 +179,7 @@ pub(crate) fn copy(pool: &mut [u32], free0: usize, a0: usize, count: usize) -> T
 }
 
 // A use of a value: the last moves it, an earlier one copies it.
-pub(crate) fn take(pool: &mut [u32], free: usize, a: usize, count: usize, last: usize) -> Taken
+fn take(pool: &mut [u32], free: usize, a: usize, count: usize, last: usize) -> Taken
     requires { ⌜ Usable (now pool) free a count last ⌝ }
     ensures { λ r. ⌜ ((g : Usable (now (pool .entry)) free a count last) → Used g (now (pool .exit)) (r .head) (r .free)) ⌝ }
 {
@@ -190,7 +190,7 @@ pub(crate) fn take(pool: &mut [u32], free: usize, a: usize, count: usize, last: 
 }
 
 // A chain of count factors is given back.
-pub(crate) fn give_back(pool: &mut [u32], free0: usize, a0: usize, count: usize) -> usize
+fn give_back(pool: &mut [u32], free0: usize, a0: usize, count: usize) -> usize
     requires { ⌜ Holding (now pool) free0 a0 count ⌝ }
     ensures { λ r. ⌜ ((g : Holding (now (pool .entry)) free0 a0 count) → GivenBack g (now (pool .exit)) r) ⌝ }
 {
@@ -291,7 +291,7 @@ fn merge_turn(pool: &mut [u32], free: usize, tail: usize, a: usize, b: usize) ->
 }
 
 // The ordered product of two chains, made of their own records; what cancels is given back.
-pub(crate) fn multiply(
+fn multiply(
     pool: &mut [u32],
     free0: usize,
     a0: usize,

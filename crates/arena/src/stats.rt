@@ -31,7 +31,7 @@ fn within(work: u64, limit: u64, amount: u64) -> bool
 }
 
 // The work after a charge.
-pub(crate) fn work_after(work: u64, limit: u64, amount: u64) -> u64
+fn work_after(work: u64, limit: u64, amount: u64) -> u64
     ensures { λ r. ⌜ r ≡ workAfter work limit amount ⌝ }
 {
     if within(work, limit, amount) {
@@ -41,7 +41,7 @@ pub(crate) fn work_after(work: u64, limit: u64, amount: u64) -> u64
 }
 
 // What the charge answers.
-pub(crate) fn answer_of(work: u64, limit: u64, amount: u64) -> Charged
+fn answer_of(work: u64, limit: u64, amount: u64) -> Charged
     ensures { λ r. ⌜ r ≡ answerOf work limit amount ⌝ }
 {
     if within(work, limit, amount) {
