@@ -291,14 +291,7 @@ fn merge_turn(pool: &mut [u32], free: usize, tail: usize, a: usize, b: usize) ->
 }
 
 // The ordered product of two chains, made of their own records; what cancels is given back.
-fn multiply(
-    pool: &mut [u32],
-    free0: usize,
-    a0: usize,
-    na: usize,
-    b0: usize,
-    nb: usize,
-) -> Outcome
+fn multiply(pool: &mut [u32], free0: usize, a0: usize, na: usize, b0: usize, nb: usize) -> Outcome
     requires { ⌜ Operands (now pool) free0 a0 na b0 nb ⌝ }
     ensures { λ r. ⌜ ((g : Operands (now (pool .entry)) free0 a0 na b0 nb) → Multiplied g (now (pool .exit)) (r .head) (r .count) (r .phase) (r .free)) ⌝ }
 {
