@@ -22,4 +22,11 @@ pub mod Links
 pub mod Bounds
 pub mod Reports
 pub mod Examples
+pub mod PoolLetters
+pub mod PoolLaws
+pub mod PoolParts
+pub mod PoolMoves
+pub mod PoolMerge
+pub mod PoolEnds
+pub mod PoolApart
 pub mod Theorems

@@ -11,6 +11,8 @@ pub mod Store
 pub mod Builder
 pub mod Calls
 pub mod Sparse
+pub mod Pool
+pub mod PoolSteps
 pub mod Walk
 pub mod Machine
 pub mod Readers

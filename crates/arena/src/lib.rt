@@ -9,6 +9,7 @@ mod limits;
 mod node;
 mod op;
 mod pauli_ref;
+mod pool;
 
 pub use builder::Created;
 pub use builder::Measured;
@@ -17,6 +18,7 @@ pub use builder::Pushed;
 pub use builder::Singled;
 pub use error::Checked;
 pub use error::PbcError;
+pub use error::Refusal;
 pub use header::Header;
 pub use limits::MAX_CBITS;
 pub use limits::MAX_NODES;

@@ -1,0 +1,38 @@
+-- `single` meets its contract.
+use mathlib.Core.Path.{sym}
+use Rattle.arena.proofs.PoolLetters.{some-letter-of, number-of}
+use borrow.Author.Needs.{needs}
+use Rattle.arena.proofs.PoolMoves.{lent′}
+use Rattle.arena.proofs.pool.single.Statement.{statement}
+use Rattle.arena.proofs.pool.single.Tie as tie
+
+next-of-requires : tie.Need-next-of-requires
+next-of-requires c κs = search needs
+
+set-qubit-requires : tie.Need-set-qubit-requires
+set-qubit-requires c κs = search needs
+
+set-letter-requires : tie.Need-set-letter-requires
+set-letter-requires c κs = search needs
+
+link-requires : tie.Need-link-requires
+link-requires c κs = search needs
+
+same-length : tie.Need-same-length
+same-length c = search needs
+
+returns : tie.Need-returns
+returns c = λ g.
+    lent′ g _ (some-letter-of (c .before .before .before .before .before .before .before .before .before .before .before .before .before .before .before .args .letter) (c .before .before .before .before .before .before .before .before .before .before .before .before .before .before .before .pre .1 .0) (c .before .before .before .before .before .before .before .before .before .before .before .before .before .before .before .pre .1 .1)) (sym (number-of (c .before .before .before .before .before .before .before .before .before .before .before .before .before .before .before .args .letter) (c .before .before .before .before .before .before .before .before .before .before .before .before .before .before .before .pre .1 .1))) (c .before .before .before .before .before .before .before .before .before .before .before .before .next-of .ensures) (c .before .before .before .before .before .before .before .before .before .before .set-qubit .ensures)
+    (c .before .before .before .before .before .before .set-letter .ensures) (c .before .before .link .ensures)
+
+pub single-spec : {M : Type 1} → statement M
+single-spec =
+    tie.close
+    (tie.spec
+    next-of-requires
+    set-qubit-requires
+    set-letter-requires
+    link-requires
+    same-length
+    returns)

@@ -1,0 +1,160 @@
+-- What each function of src/pool.rt needs and promises. A record that a function needs (`Lender`, `Source`, ..) says who holds what before it;
+-- what it promises (`Lent`, `Copied`, ..) says who holds what after it, and that every chain of another tag stands as it did.
+use mathlib.Core.Path.{_≡_}
+use mathlib.Core.List.{List, [], _∷_, _++_}
+use Prim.Native.Nat.{ℕ, suc, _+_, _*_, _-_, _/_, _≤_, _<_, min}
+use lib.ListN.{length, set, replicate, drop}
+use lib.Dec.{eqb}
+use mathlib.Core.Bool.{cond}
+use Rattle.pauli.specs.Letters.{phaseNumber}
+use Rattle.arena.specs.Sparse.{Factor, merge}
+use Rattle.arena.specs.Pool.{Who, spare, Chain, Free, nextAt}
+
+-- ---- the start and the end
+
+-- the records that count: a third of the words, and at most 65,536
+abbrev pub capOf : ℕ → ℕ
+capOf words = min (words / 3) 65536
+
+-- every counted record but record 0 is free
+pub record AllFree (p p′ : List ℕ) (free : ℕ) : Type 0 where
+  pub freed : Free p′ spare free (capOf (length p) - 1)
+  pub long : length p′ ≡ length p
+
+-- every counted record is zero, and the words after those are as they were
+abbrev pub cleared : List ℕ → List ℕ
+cleared p = replicate (3 * capOf (length p)) 0 ++ drop (3 * capOf (length p)) p
+
+-- ---- one factor
+
+-- a pool with a free record, and the tag that the new chain is to have
+pub record Lender (p : List ℕ) (free : ℕ) : Type 0 where
+  pub who : Who
+  pub tr : ℕ
+  pub n : ℕ
+  pub freed : Free p who free (suc n)
+
+pub record Lent {p : List ℕ} {free : ℕ} (g : Lender p free) (f : Factor) (p′ : List ℕ) (head free′ : ℕ) : Type 0 where
+  pub who′ : Who
+  pub chain : Chain p′ who′ (g .tr) 0 head (f ∷ [])
+  pub freed : Free p′ who′ free′ (g .n)
+  pub kept : (t lo h : ℕ) (fs : List Factor) → (t ≡ g .tr → ⊥) → Chain p (g .who) t lo h fs → Chain p′ who′ t lo h fs
+  pub long : length p′ ≡ length p
+
+-- ---- a chain in the making
+
+-- the record e, if it is not 0, gets r as its next
+abbrev pub attached : List ℕ → ℕ → ℕ → List ℕ
+attached p e r = cond (eqb e 0) p (set p (3 * e) r)
+
+-- the first record of what was made from record 0 on, up to e, with r after it
+abbrev pub headOf : List ℕ → ℕ → ℕ → ℕ
+headOf p e r = cond (eqb e 0) r (nextAt p 0)
+
+-- ---- a copy
+
+-- a pool with a chain of `count` factors, and as many records free
+pub record Source (p : List ℕ) (free a count : ℕ) : Type 0 where
+  pub who : Who
+  pub ta : ℕ
+  pub tr : ℕ
+  pub a-r : ta ≡ tr → ⊥
+  pub fs : List Factor
+  pub n : ℕ
+  pub chain : Chain p who ta 0 a fs
+  pub freed : Free p who free (count + n)
+  pub count-is : count ≡ length fs
+
+pub record Copied {p : List ℕ} {free a count : ℕ} (g : Source p free a count) (p′ : List ℕ) (head free′ : ℕ) : Type 0 where
+  pub who′ : Who
+  pub chain : Chain p′ who′ (g .tr) 0 head (g .fs)
+  pub freed : Free p′ who′ free′ (g .n)
+  pub kept : (t lo h : ℕ) (fs : List Factor) → (t ≡ g .tr → ⊥) → Chain p (g .who) t lo h fs → Chain p′ who′ t lo h fs
+  pub long : length p′ ≡ length p
+
+-- ---- a use of a value: the last one moves it, an earlier one copies it
+
+pub record Usable (p : List ℕ) (free a count last : ℕ) : Type 0 where
+  pub who : Who
+  pub ta : ℕ
+  pub tr : ℕ
+  pub a-r : ta ≡ tr → ⊥
+  pub fs : List Factor
+  pub n : ℕ
+  pub chain : Chain p who ta 0 a fs
+  pub freed : Free p who free n
+  pub count-is : count ≡ length fs
+  pub room : last ≡ 0 → count ≤ n
+
+-- the value is the chain tr; the chain ta still stands unless this was the last use
+pub record Used {p : List ℕ} {free a count last : ℕ} (g : Usable p free a count last) (p′ : List ℕ) (head free′ : ℕ) : Type 0 where
+  pub who′ : Who
+  pub chain : Chain p′ who′ (g .tr) 0 head (g .fs)
+  pub freed : Free p′ who′ free′ (cond (eqb last 0) (g .n - count) (g .n))
+  pub kept : (t lo h : ℕ) (fs : List Factor) → (t ≡ g .tr → ⊥) → ((last ≡ 0 → ⊥) → t ≡ g .ta → ⊥) → Chain p (g .who) t lo h fs → Chain p′ who′ t lo h fs
+  pub long : length p′ ≡ length p
+
+-- ---- a chain given back
+
+pub record Holding (p : List ℕ) (free a count : ℕ) : Type 0 where
+  pub who : Who
+  pub ta : ℕ
+  pub fs : List Factor
+  pub n : ℕ
+  pub chain : Chain p who ta 0 a fs
+  pub freed : Free p who free n
+  pub count-is : count ≡ length fs
+
+pub record GivenBack {p : List ℕ} {free a count : ℕ} (g : Holding p free a count) (p′ : List ℕ) (free′ : ℕ) : Type 0 where
+  pub who′ : Who
+  pub freed : Free p′ who′ free′ (count + g .n)
+  pub kept : (t lo h : ℕ) (fs : List Factor) → (t ≡ g .ta → ⊥) → Chain p (g .who) t lo h fs → Chain p′ who′ t lo h fs
+  pub long : length p′ ≡ length p
+
+-- ---- the product
+
+-- two factors of one qubit, at a and b: what must stand for the records to be read and written
+pub record Meeting (p : List ℕ) (free tail a b : ℕ) : Type 0 where
+  pub free-low : free < 65536
+  pub tail-low : tail < 65536
+  pub a-low : a < 65536
+  pub b-low : b < 65536
+  pub tail-room : 3 * tail < length p
+  pub a-room : 3 * a + 2 < length p
+  pub b-room : 3 * b + 2 < length p
+
+-- the letter 0: both records are free. Another one: a holds it, after tail, and b is free
+abbrev pub met : List ℕ → ℕ → ℕ → ℕ → ℕ → ℕ → List ℕ
+met p free tail a b letter =
+    cond (eqb letter 0) (set (set p (3 * a) free) (3 * b) a) (set (set (set p (3 * a + 2) letter) (3 * tail) a) (3 * b) free)
+
+-- a pool with two chains to multiply: who holds what, the tags, the factors, and how many records are free
+pub record Operands (p : List ℕ) (free a na b nb : ℕ) : Type 0 where
+  pub who : Who
+  pub ta : ℕ
+  pub tb : ℕ
+  pub tr : ℕ
+  pub a-b : ta ≡ tb → ⊥
+  pub a-r : ta ≡ tr → ⊥
+  pub b-r : tb ≡ tr → ⊥
+  pub fa : List Factor
+  pub fb : List Factor
+  pub n : ℕ
+  pub chain-a : Chain p who ta 0 a fa
+  pub chain-b : Chain p who tb 0 b fb
+  pub freed : Free p who free n
+  pub count-a : na ≡ length fa
+  pub count-b : nb ≡ length fb
+  pub few : na + nb < 65536
+
+-- the product stands for the chain tr, every chain of another tag stands as it did, and what cancelled is free again
+pub record Multiplied {p : List ℕ} {free a na b nb : ℕ} (g : Operands p free a na b nb) (p′ : List ℕ) (head count phase free′ : ℕ) : Type 0 where
+  pub who′ : Who
+  pub n′ : ℕ
+  pub chain : Chain p′ who′ (g .tr) 0 head (merge (g .fa) (g .fb) .factors)
+  pub freed : Free p′ who′ free′ n′
+  pub count-is : count ≡ length (merge (g .fa) (g .fb) .factors)
+  pub returned : n′ + count ≡ g .n + (na + nb)
+  pub phase-is : phase ≡ phaseNumber (merge (g .fa) (g .fb) .phase)
+  pub kept : (t lo h : ℕ) (fs : List Factor) → (t ≡ g .ta → ⊥) → (t ≡ g .tb → ⊥) → (t ≡ g .tr → ⊥) → Chain p (g .who) t lo h fs → Chain p′ who′ t lo h fs
+  pub long : length p′ ≡ length p
