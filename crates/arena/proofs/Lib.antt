@@ -22,6 +22,8 @@ pub mod Links
 pub mod Bounds
 pub mod Reports
 pub mod Examples
+pub mod ScratchWords
+pub mod UsesInWords
 pub mod PoolLetters
 pub mod PoolLaws
 pub mod PoolParts
