@@ -31,4 +31,8 @@ pub mod PoolMoves
 pub mod PoolMerge
 pub mod PoolEnds
 pub mod PoolApart
+pub mod WalkMoves
+pub mod WalkProducts
+pub mod PathSteps
+pub mod PathRuns
 pub mod Theorems

@@ -124,7 +124,7 @@ module _ (limit room n count : ℕ) (node : ℕ → PauliNode) (fits : (i : ℕ)
       → run limit room node (left count s (i ∷ [])) (i ∷ []) s ≡ eval limit room node count i s
   run-eval i s h d = run-is (left count s (i ∷ [])) (i ∷ []) s (omega arith, h, d, tt) (omega arith) ∙ bind-fine (eval limit room node count i s)
 
-undone-few : (count : ℕ) (s : State) → undone count s ≤ count
+pub undone-few : (count : ℕ) (s : State) → undone count s ≤ count
 undone-few zero s = omega arith
 undone-few (suc count) s = go (s .done count) (undone-few count s)
   where
