@@ -35,4 +35,5 @@ pub mod WalkMoves
 pub mod WalkProducts
 pub mod PathSteps
 pub mod PathRuns
+pub mod RootWalks
 pub mod Theorems

@@ -13,7 +13,7 @@ use Rattle.arena.specs.Errors.{refusalIn}
 use Rattle.arena.specs.References.{nodeIn}
 use Rattle.arena.specs.Nodes.{PauliNode, Identity, Single, Product, Malformed, nodeAt, rowsTo}
 use Rattle.arena.specs.Sparse.{Factor, Sparse, size, Proper, dense}
-use Rattle.arena.specs.Walk.{Out, fine, refused, State, Taken, childUses, scan}
+use Rattle.arena.specs.Walk.{Out, fine, refused, State, Taken, childUses, scan, Walked}
 use Rattle.arena.specs.Machine.{Spot}
 use Rattle.arena.specs.Pool.{Who, Chain, Free}
 
@@ -309,3 +309,25 @@ pub record Rooted (words l p : List ℕ) (count limit i free spare work : ℕ) :
   pub at : Walking words l p count limit free spare work
   pub low : i < count
   pub used : 0 < at .s .uses i
+
+-- ---- one root
+
+-- a walk of one root can begin
+pub record Ready (words l : List ℕ) (count w : ℕ) : Type 0 where
+  pub n : ℕ
+  pub named : nodeIn w < count
+  pub long : 4 * count ≤ length l
+  pub well : (i : ℕ) → i < count → nodeAt n words i ≢ Malformed
+  pub qubits-few : n ≤ 256
+  pub nodes-long : 2 * count ≤ length words
+  pub nodes-few : count ≤ 65536
+
+-- what was shown is a chain
+pub record Showing (p : List ℕ) (head phase work : ℕ) (r : Walked) : Type 0 where
+  pub value : Sparse
+  pub who : Who
+  pub tag : ℕ
+  pub shown-is : r .shown ≡ value ∷ []
+  pub chain : Chain p who tag 0 head (value .factors)
+  pub phase-is : phase ≡ phaseNumber (value .phase)
+  pub work-is : work ≡ r .state .work

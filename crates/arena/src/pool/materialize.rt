@@ -2,19 +2,23 @@
 //! The scratch slice has four words for each node: its uses left in two words, its value, and the link of the path that is being walked.
 //! What these words stand for: specs/WalkWords.antt.
 
+use super::cap_of;
 use super::copy;
+use super::init;
 use super::multiply;
 use super::single;
 use super::wide;
 ghost use mathlib.Core.Path.{_≡_};
-ghost use Prim.Native.Nat.{_+_, _*_, _≤_, _<_, min};
+ghost use mathlib.Core.List.{[], _∷_};
+ghost use Prim.Native.Nat.{_+_, _*_, _-_, _≤_, _<_, min};
 ghost use lib.ListN.{length, getD, set, replicate};
 ghost use Rattle.pauli.specs.Letters.{pauliOf};
 ghost use Rattle.arena.specs.Nodes.{nodeAt};
 ghost use Rattle.arena.specs.Sparse.{one};
-ghost use Rattle.arena.specs.Walk.{fine, bind, lend, finish, takeUse, combine, eval};
+ghost use Rattle.arena.specs.Walk.{fine, bind, lend, finish, takeUse, combine, eval, walkNodes};
 ghost use Rattle.arena.specs.Machine.{step};
-ghost use Rattle.arena.specs.WalkWords.{field, usesAt, withUse, valueAt, packed, headIn, countIn, turnIn, ValuesKept, Visiting, Visited, Counting, CountedUp, LinksKept, Says, Stands, Takeable, TookRep, Combining, Making, Topped, Branched, Started, Landed, Rooted};
+ghost use Rattle.arena.specs.PoolSteps.{capOf};
+ghost use Rattle.arena.specs.WalkWords.{field, usesAt, withUse, valueAt, packed, headIn, countIn, turnIn, ValuesKept, Visiting, Visited, Counting, CountedUp, LinksKept, Says, Stands, Takeable, TookRep, Combining, Making, Topped, Branched, Started, Landed, Rooted, Ready, Showing};
 
 // ---- the words of a node
 
@@ -496,4 +500,72 @@ fn eval_root(
     }
     set_link(s, i, 0);
     run_path(nodes, s, pool, count, limit, i, free, spare, work)
+}
+
+// ---- one root
+
+// The status, the chain and the phase of what is shown, and the work.
+pub struct Shown {
+    pub status: usize,
+    pub head: usize,
+    pub phase: usize,
+    pub work: usize,
+}
+
+fn not_shown(status: usize) -> Shown
+    ensures { λ r. ⌜ r .status ≡ status ⌝ }
+{
+    Shown {
+        status,
+        head: 0,
+        phase: 0,
+        work: 0,
+    }
+}
+
+// The records that can be lent of a pool of so many words.
+fn room_of(words: usize) -> usize
+    ensures { λ r. ⌜ r ≡ capOf words - 1 ⌝ }
+{
+    let c = cap_of(words);
+    if c == 0 { 0 } else { c - 1 }
+}
+
+// The root w is walked: uses are counted, it is evaluated, its factors are charged. The scratch and the pool are left as they are then.
+fn walk_root(
+    nodes: &[u32],
+    s: &mut [u32],
+    pool: &mut [u32],
+    count: usize,
+    limit: usize,
+    w: usize,
+) -> Shown
+    requires { ⌜ Ready (now nodes) (now s) count w ⌝ }
+    ensures { λ r. ⌜ ((g : Ready (now (nodes .entry)) (now (s .entry)) count w) → Says (walkNodes limit (capOf (length (now (pool .entry))) - 1) (nodeAt (g .n) (now (nodes .entry))) count (w ∷ [])) (r .status) (Showing (now (pool .exit)) (r .head) (r .phase) (r .work))) ⌝ }
+{
+    zero_all(s);
+    let j = w / 4;
+    add_use(s, j);
+    let reached = scan_uses(nodes, s, count);
+    let room = room_of(pool.len());
+    let free = init(pool);
+    if limit < 1 + reached {
+        return not_shown(17);
+    }
+    let o = eval_root(nodes, s, pool, count, limit, j, free, room, 1 + reached);
+    let st = o.status;
+    if st != 0 {
+        return not_shown(st);
+    }
+    let m = value_of(s, j);
+    let k = count_in(m);
+    if limit - o.work < k {
+        return not_shown(17);
+    }
+    Shown {
+        status: 0,
+        head: head_in(m),
+        phase: (w % 4 + phase_in(m)) % 4,
+        work: o.work + k,
+    }
 }
