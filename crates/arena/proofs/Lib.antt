@@ -36,4 +36,5 @@ pub mod WalkProducts
 pub mod PathSteps
 pub mod PathRuns
 pub mod RootWalks
+pub mod Cells
 pub mod Theorems

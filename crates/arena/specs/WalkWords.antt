@@ -3,16 +3,17 @@
 use mathlib.Core.Path.{_≡_}
 use mathlib.Core.Logic.{_≢_}
 use mathlib.Core.Bool.{Bool, true, false, cond}
-use mathlib.Core.List.{List, [], _∷_}
+use mathlib.Core.List.{List, [], _∷_, _++_, map}
 use Prim.Native.Nat.{ℕ, zero, suc, _+_, _*_, _/_, _%_, _≤_, _<_}
 use lib.Dec.{eqb}
-use lib.ListN.{length, getD, set}
-use Rattle.pauli.specs.Letters.{phaseNumber}
+use lib.ListN.{length, getD, set, drop}
+use Rattle.pauli.specs.Letters.{pauliNumber, phaseNumber}
 use Rattle.pauli.specs.Rows.{identity}
+use Rattle.arena.specs.Types.{Pauli}
 use Rattle.arena.specs.Errors.{refusalIn}
 use Rattle.arena.specs.References.{nodeIn}
 use Rattle.arena.specs.Nodes.{PauliNode, Identity, Single, Product, Malformed, nodeAt, rowsTo}
-use Rattle.arena.specs.Sparse.{Factor, Sparse, size, Proper, dense}
+use Rattle.arena.specs.Sparse.{Factor, Sparse, size, Proper, dense, spread}
 use Rattle.arena.specs.Walk.{Out, fine, refused, State, Taken, childUses, scan, Walked}
 use Rattle.arena.specs.Machine.{Spot}
 use Rattle.arena.specs.Pool.{Who, Chain, Free}
@@ -331,3 +332,29 @@ pub record Showing (p : List ℕ) (head phase work : ℕ) (r : Walked) : Type 0 
   pub chain : Chain p who tag 0 head (value .factors)
   pub phase-is : phase ≡ phaseNumber (value .phase)
   pub work-is : work ≡ r .state .work
+
+-- ---- letters
+
+abbrev pub bytes : List Pauli → List ℕ
+bytes us = map pauliNumber us
+
+-- the first n are the letters of the factors, and the rest is as it was
+abbrev pub lettersWritten : ℕ → List Factor → List ℕ → List ℕ
+lettersWritten n fs was = bytes (spread n 0 fs) ++ drop n was
+
+pub record CellReady (p : List ℕ) (a q : ℕ) : Type 0 where
+  pub who : Who
+  pub tag : ℕ
+  pub fs : List Factor
+  pub chain : Chain p who tag q a fs
+
+pub record CellRead {p : List ℕ} {a q : ℕ} (g : CellReady p a q) (letter next : ℕ) : Type 0 where
+  pub gs : List Factor
+  pub chain : Chain p (g .who) (g .tag) (suc q) next gs
+  pub cell : (k : ℕ) → bytes (spread (suc k) q (g .fs)) ≡ letter ∷ bytes (spread k (suc q) gs)
+
+pub record ShowReady (p : List ℕ) (head : ℕ) : Type 0 where
+  pub who : Who
+  pub tag : ℕ
+  pub fs : List Factor
+  pub chain : Chain p who tag 0 head fs

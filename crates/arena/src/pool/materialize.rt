@@ -5,7 +5,10 @@
 use super::cap_of;
 use super::copy;
 use super::init;
+use super::letter_of;
 use super::multiply;
+use super::next_of;
+use super::qubit_of;
 use super::single;
 use super::wide;
 ghost use mathlib.Core.Path.{_≡_};
@@ -18,7 +21,7 @@ ghost use Rattle.arena.specs.Sparse.{one};
 ghost use Rattle.arena.specs.Walk.{fine, bind, lend, finish, takeUse, combine, eval, walkNodes};
 ghost use Rattle.arena.specs.Machine.{step};
 ghost use Rattle.arena.specs.PoolSteps.{capOf};
-ghost use Rattle.arena.specs.WalkWords.{field, usesAt, withUse, valueAt, packed, headIn, countIn, turnIn, ValuesKept, Visiting, Visited, Counting, CountedUp, LinksKept, Says, Stands, Takeable, TookRep, Combining, Making, Topped, Branched, Started, Landed, Rooted, Ready, Showing};
+ghost use Rattle.arena.specs.WalkWords.{field, usesAt, withUse, valueAt, packed, headIn, countIn, turnIn, ValuesKept, Visiting, Visited, Counting, CountedUp, LinksKept, Says, Stands, Takeable, TookRep, Combining, Making, Topped, Branched, Started, Landed, Rooted, Ready, Showing, lettersWritten, CellReady, CellRead, ShowReady};
 
 // ---- the words of a node
 
@@ -567,5 +570,48 @@ fn walk_root(
         head: head_in(m),
         phase: (w % 4 + phase_in(m)) % 4,
         work: o.work + k,
+    }
+}
+
+// ---- letters
+
+// A letter, and where the chain goes on.
+pub struct Cell {
+    pub letter: u8,
+    pub next: usize,
+}
+
+// The letter of qubit q, of a chain from a on whose qubits are q or more; and where the chain goes on.
+fn cell_at(pool: &[u32], a: usize, q: usize) -> Cell
+    requires { ⌜ CellReady (now pool) a q ⌝ }
+    ensures { λ r. ⌜ ((g : CellReady (now (pool .entry)) a q) → CellRead g (r .letter) (r .next)) ⌝ }
+{
+    if a == 0 {
+        return Cell { letter: 0, next: 0 };
+    }
+    let k = wide(qubit_of(pool, a));
+    if k != q {
+        return Cell { letter: 0, next: a };
+    }
+    let l = letter_of(pool, a);
+    let next = next_of(pool, a);
+    Cell {
+        letter: l as u8,
+        next,
+    }
+}
+
+// The letters of the first n qubits are written.
+fn show(letters: &mut [u8], pool: &[u32], n: usize, head: usize)
+    requires { ⌜ ShowReady (now pool) head × (n ≤ length (now letters)) ⌝ }
+    ensures { λ _. ⌜ ((g : ShowReady (now (pool .entry)) head) → now (letters .exit) ≡ lettersWritten n (g .fs) (now (letters .entry))) ⌝ }
+{
+    let mut a = head;
+    let mut q = 0;
+    while q < n {
+        let c = cell_at(pool, a, q);
+        letters[q] = c.letter;
+        a = c.next;
+        q += 1;
     }
 }
