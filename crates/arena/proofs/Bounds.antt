@@ -9,9 +9,9 @@ use Rattle.arena.specs.References.{nodeIn}
 use Rattle.arena.specs.Nodes.{PauliNode, Identity, Single, Product, Malformed}
 use Rattle.arena.specs.Sparse.{Factor, Sparse, size, Rising, Proper}
 use Rattle.arena.specs.Walk.{rootUses, scan}
+use Rattle.arena.specs.WalkWords.{sum, edge, edges, owed}
 use Rattle.arena.proofs.Fitting.{Fits}
-use Rattle.arena.proofs.Sums.{sum}
-use Rattle.arena.proofs.Uses.{edge, edges, owed, plus-edge, scan-uses}
+use Rattle.arena.proofs.Uses.{plus-edge, scan-uses}
 
 -- no more factors than qubits
 pub rising-few : (lo hi : ℕ) (fs : List Factor) → lo ≤ hi → Rising lo hi fs → lo + length fs ≤ hi

@@ -12,12 +12,13 @@ use Rattle.arena.specs.References.{nodeIn, phaseIn}
 use Rattle.arena.specs.Nodes.{PauliNode, Identity, Single, Product, Malformed, rowOf, rowsTo}
 use Rattle.arena.specs.Sparse.{Sparse, empty, one, turned, size, multiply, Proper, dense}
 use Rattle.arena.specs.Walk.{Out, State, worked, lent, less, finish, Taken, takeAs, takeUse, combine, evalNode, evalUnless, eval}
+use Rattle.arena.specs.WalkWords.{edge, edges, none, Right, Inv}
 use Rattle.arena.proofs.Reading.{row-is}
 use Rattle.arena.proofs.Outcomes.{update-same, update-other, update-keeps, suc-of, Post, post-bind, post-map, charge-then, lend-then}
 use Rattle.arena.proofs.Fitting.{Fits, fits-older}
 use Rattle.arena.proofs.Merging.{dense-product, dense-empty, dense-one, product-proper, product-size}
-use Rattle.arena.proofs.Uses.{edge, edges, edge-same, edge-other}
-use Rattle.arena.proofs.Invariant.{none, Right, Shows, Inv, less-uses, inv-worked, inv-debt, less-last, less-more, finish-inv, owes, right-shows}
+use Rattle.arena.proofs.Uses.{edge-same, edge-other}
+use Rattle.arena.proofs.Invariant.{Shows, less-uses, inv-worked, inv-debt, less-last, less-more, finish-inv, owes, right-shows}
 
 -- what evaluating node i leaves alone
 pub record After (i : ℕ) (s t : State) : Type 0 where

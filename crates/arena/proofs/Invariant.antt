@@ -6,53 +6,20 @@ use native.Mathlib.Nat.{not-suc-le-zero}
 use native.Mathlib.Omega.{arith}
 use borrow.Author.Tests.{eqb-true, eqb-false}
 use lib.Dec.{eqb}
-use lib.ListN.{getD}
-use Rattle.pauli.specs.Rows.{scaled, identity}
+use Rattle.pauli.specs.Rows.{scaled}
 use Rattle.arena.specs.References.{nodeIn, phaseIn}
 use Rattle.arena.specs.Nodes.{PauliNode, imageIn, rowsTo}
 use Rattle.arena.specs.Sparse.{Sparse, turned, size, Proper, dense}
 use Rattle.arena.specs.Walk.{update, State, worked, less, finish}
+use Rattle.arena.specs.WalkWords.{pend, kept, stand, none, Right, Inv, sum, edge, edges, owed}
 use Rattle.arena.proofs.Outcomes.{update-same, update-other}
 use Rattle.arena.proofs.Merging.{dense-turned}
-use Rattle.arena.proofs.Sums.{sum, sum-at, sum-change}
-use Rattle.arena.proofs.Uses.{edge, edges, owed, owed-reached}
-
--- the child words that name j, of reachable nodes that are not done
-abbrev pub pend : ℕ → (ℕ → PauliNode) → (ℕ → ℕ) → (ℕ → Bool) → ℕ → ℕ
-pend count node total done j = sum count (λ i. owed (done i) (total i) (edges (node i) j))
-
--- k, for a value that stands: done, and with a use left
-abbrev pub kept : Bool → ℕ → ℕ → ℕ
-kept true zero k = 0
-kept true (suc u) k = k
-kept false u k = 0
+use Rattle.arena.proofs.Sums.{sum-at, sum-change}
+use Rattle.arena.proofs.Uses.{owed-reached}
 
 kept-used : (u k : ℕ) → 0 < u → kept true u k ≡ k
 kept-used zero k h = absurd (not-suc-le-zero h)
 kept-used (suc u) k h = refl
-
--- the factors of the values that stand
-abbrev pub stand : ℕ → State → ℕ
-stand count s = sum count (λ j. kept (s .done j) (s .uses j) (size (s .value j)))
-
-abbrev pub none : ℕ → ℕ
-none j = 0
-
--- v is a value of node j
-pub record Right (n count : ℕ) (node : ℕ → PauliNode) (j : ℕ) (v : Sparse) : Type 0 where
-  pub proper : Proper n v
-  pub means : dense n v ≡ getD (rowsTo n node count) j (identity n)
-
--- total: each node's uses in all. rest: each node's roots not yet shown. debt: the uses that the node in work has consumed. hand: the factors in hand.
--- So the uses left, with the debt, are the child words of reachable nodes not yet done and the roots not yet shown,
--- and the records held are the factors of the values that stand and those in hand.
-pub record Inv (limit room n count : ℕ) (node : ℕ → PauliNode) (total : ℕ → ℕ) (rest debt : ℕ → ℕ) (hand : ℕ) (s : State) : Type 0 where
-  pub right : (j : ℕ) → j < count → s .done j ≡ true → Right n count node j (s .value j)
-  pub counts : (j : ℕ) → s .uses j + debt j ≡ pend count node total (s .done) j + rest j
-  pub fewer : (j : ℕ) → s .uses j ≤ total j
-  pub holds : s .held ≡ stand count s + hand
-  pub within : s .held ≤ room
-  pub paid : s .work ≤ limit
 
 -- v is a value of the word w
 pub record Shows (n count : ℕ) (node : ℕ → PauliNode) (w : ℕ) (v : Sparse) : Type 0 where

@@ -30,5 +30,13 @@ pub mod PoolMerge
 pub mod PoolEnds
 pub mod PoolApart
 pub mod PoolSafe
+pub mod ScratchWords
+pub mod UsesInWords
+pub mod WalkMoves
+pub mod WalkProducts
+pub mod PathSteps
+pub mod PathRuns
+pub mod RootWalks
+pub mod Cells
 pub mod Examples
 pub mod Theorems

@@ -9,9 +9,7 @@ use lib.Dec.{eqb}
 use lib.ListN.{length, getD, set}
 use lib.Seq.{getD-set-same, getD-set-other}
 use Rattle.arena.specs.Walk.{update}
-
-abbrev pub field : ℕ → List ℕ → ℕ → ℕ
-field c l i = getD l (4 * i + c) 0
+use Rattle.arena.specs.WalkWords.{field, Linked}
 
 -- a field written is the function changed at one place
 pub field-set : (l : List ℕ) (c i v j : ℕ) → 4 * i + c < length l → field c (set l (4 * i + c) v) j ≡ update (field c l) i v j
@@ -26,10 +24,6 @@ pub field-other : (l : List ℕ) (c d i v j : ℕ) → c < 4 → d < 4 → (c �
 field-other l c d i v j hc hd ne = getD-set-other l (4 * i + d) (4 * j + c) v 0 (λ p. ne (omega arith))
 
 -- ---- the path as links: each node's field 3 is the next one up, plus 1; 0 ends it
-
-abbrev pub Linked : List ℕ → ℕ → List ℕ → Type 0
-Linked l top [] = top ≡ 0
-Linked l top (i ∷ p) = (top ≡ suc i) × Linked l (field 3 l i) p
 
 -- rising from lo on
 abbrev pub Rises : ℕ → List ℕ → Type 0

@@ -9,20 +9,16 @@ use Rattle.arena.specs.References.{nodeIn}
 use Rattle.arena.specs.Nodes.{PauliNode, Identity, Single, Product, Malformed}
 use Rattle.arena.specs.Walk.{fine, bind, update, State, combine, eval}
 use Rattle.arena.specs.Machine.{Spot, spot, stepProduct, stepNode, stepUnless, step, run}
+use Rattle.arena.specs.WalkWords.{Trail, Wanted, sum, edge, edges, none, Inv}
 use Rattle.arena.proofs.Outcomes.{update-same, update-other, Post, post-bind, bind-fine, bind-cong, lend-then}
 use Rattle.arena.proofs.Fitting.{Fits}
-use Rattle.arena.proofs.Sums.{sum, sum-change}
-use Rattle.arena.proofs.Uses.{edge, edges, edge-same}
-use Rattle.arena.proofs.Invariant.{none, Inv, owes}
+use Rattle.arena.proofs.Sums.{sum-change}
+use Rattle.arena.proofs.Uses.{edge-same}
+use Rattle.arena.proofs.Invariant.{owes}
 use Rattle.arena.proofs.Evaluating.{Good, combine-post, blank-good, single-good}
 use Rattle.arena.proofs.Stepping.{resume, combine-done, eval-done, resume-step}
 
 -- ---- paths
-
--- rising from lo on, below count, and not done
-abbrev pub Trail : ℕ → State → ℕ → List ℕ → Type 0
-Trail count s lo [] = Unit {0}
-Trail count s lo (i ∷ p) = (lo ≤ i) × (i < count) × (s .done i ≡ false) × Trail count s (suc i) p
 
 -- how many nodes are not done
 abbrev pub undone : ℕ → State → ℕ
@@ -128,7 +124,7 @@ module _ (limit room n count : ℕ) (node : ℕ → PauliNode) (fits : (i : ℕ)
       → run limit room node (left count s (i ∷ [])) (i ∷ []) s ≡ eval limit room node count i s
   run-eval i s h d = run-is (left count s (i ∷ [])) (i ∷ []) s (omega arith, h, d, tt) (omega arith) ∙ bind-fine (eval limit room node count i s)
 
-undone-few : (count : ℕ) (s : State) → undone count s ≤ count
+pub undone-few : (count : ℕ) (s : State) → undone count s ≤ count
 undone-few zero s = omega arith
 undone-few (suc count) s = go (s .done count) (undone-few count s)
   where
@@ -154,11 +150,6 @@ run-enough limit room n count node fits k i s h enough = go (s .done i) refl k e
         run-is limit room n count node fits k (i ∷ []) s (omega arith, h, d, tt) (omega arith) ∙ bind-fine (eval limit room node count i s)
 
 -- ---- the invariant, step by step
-
--- every node of the path has a use left
-abbrev pub Wanted : State → List ℕ → Type 0
-Wanted s [] = Unit {0}
-Wanted s (i ∷ p) = (0 < s .uses i) × Wanted s p
 
 wanted-keep : (count : ℕ) (s t : State) (lo : ℕ) (p : List ℕ) → ((j : ℕ) → lo ≤ j → t .uses j ≡ s .uses j)
     → Trail count s lo p → Wanted s p → Wanted t p

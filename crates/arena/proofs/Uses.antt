@@ -9,25 +9,8 @@ use lib.Dec.{eqb}
 use Rattle.arena.specs.References.{nodeIn}
 use Rattle.arena.specs.Nodes.{PauliNode, Identity, Single, Product, Malformed}
 use Rattle.arena.specs.Walk.{plusOne, childUses, scanNode, scan}
+use Rattle.arena.specs.WalkWords.{edge, edges, owed, sum}
 use Rattle.arena.proofs.Fitting.{Fits}
-use Rattle.arena.proofs.Sums.{sum}
-
--- 1 if the word names j
-abbrev pub edge : ℕ → ℕ → ℕ
-edge w j = cond (eqb j (nodeIn w)) 1 0
-
--- how often the node names j
-abbrev pub edges : PauliNode → ℕ → ℕ
-edges Identity j = 0
-edges (Single q a) j = 0
-edges (Product l r) j = edge l j + edge r j
-edges Malformed j = 0
-
--- k, owed by a node that is reachable (u uses in all) and not done
-abbrev pub owed : Bool → ℕ → ℕ → ℕ
-owed true u k = 0
-owed false zero k = 0
-owed false (suc u) k = k
 
 pub owed-reached : (u k : ℕ) → 0 < u → owed false u k ≡ k
 owed-reached zero k h = absurd (not-suc-le-zero h)

@@ -1,6 +1,8 @@
 //! The factor pool: a lent slice of records of three words, next, qubit and letter, in chains that rise by qubit; a next of 0 ends a chain.
 //! Record 0 is never lent: its next is where a chain in the making starts. What a chain and the free list are: specs/Pool.antt.
 
+pub mod materialize;
+
 use pauli::times_numbers;
 ghost use mathlib.Core.Path.{_≡_};
 ghost use Prim.Native.Nat.{_+_, _*_, _≤_, _<_};

@@ -1,0 +1,360 @@
+-- What the walk keeps true from step to step, and its state in words: four scratch words a node, and chains in the pool.
+-- The private functions of src/pool/materialize.rt ask and promise what is said here.
+use mathlib.Core.Path.{_≡_}
+use mathlib.Core.Logic.{_≢_}
+use mathlib.Core.Bool.{Bool, true, false, cond}
+use mathlib.Core.List.{List, [], _∷_, _++_, map}
+use Prim.Native.Nat.{ℕ, zero, suc, _+_, _*_, _/_, _%_, _≤_, _<_}
+use lib.Dec.{eqb}
+use lib.ListN.{length, getD, set, drop}
+use Rattle.pauli.specs.Letters.{pauliNumber, phaseNumber}
+use Rattle.pauli.specs.Rows.{identity}
+use Rattle.arena.specs.Types.{Pauli}
+use Rattle.arena.specs.Errors.{refusalIn}
+use Rattle.arena.specs.References.{nodeIn}
+use Rattle.arena.specs.Nodes.{PauliNode, Identity, Single, Product, Malformed, nodeAt, rowsTo}
+use Rattle.arena.specs.Sparse.{Factor, Sparse, size, Proper, dense, spread}
+use Rattle.arena.specs.Walk.{Out, fine, refused, State, Taken, childUses, scan, Walked}
+use Rattle.arena.specs.Machine.{Spot}
+use Rattle.arena.specs.Pool.{Who, Chain, Free}
+
+-- ---- the walk's invariant
+
+-- f 0 + .. + f (k - 1)
+abbrev pub sum : ℕ → (ℕ → ℕ) → ℕ
+sum zero f = 0
+sum (suc k) f = sum k f + f k
+
+-- 1 if the word names j
+abbrev pub edge : ℕ → ℕ → ℕ
+edge w j = cond (eqb j (nodeIn w)) 1 0
+
+-- how often the node names j
+abbrev pub edges : PauliNode → ℕ → ℕ
+edges Identity j = 0
+edges (Single q a) j = 0
+edges (Product l r) j = edge l j + edge r j
+edges Malformed j = 0
+
+-- k, owed by a node that is reachable (u uses in all) and not done
+abbrev pub owed : Bool → ℕ → ℕ → ℕ
+owed true u k = 0
+owed false zero k = 0
+owed false (suc u) k = k
+
+-- the child words that name j, of reachable nodes that are not done
+abbrev pub pend : ℕ → (ℕ → PauliNode) → (ℕ → ℕ) → (ℕ → Bool) → ℕ → ℕ
+pend count node total done j = sum count (λ i. owed (done i) (total i) (edges (node i) j))
+
+-- k, for a value that stands: done, and with a use left
+abbrev pub kept : Bool → ℕ → ℕ → ℕ
+kept true zero k = 0
+kept true (suc u) k = k
+kept false u k = 0
+
+-- the factors of the values that stand
+abbrev pub stand : ℕ → State → ℕ
+stand count s = sum count (λ j. kept (s .done j) (s .uses j) (size (s .value j)))
+
+abbrev pub none : ℕ → ℕ
+none j = 0
+
+-- v is a value of node j
+pub record Right (n count : ℕ) (node : ℕ → PauliNode) (j : ℕ) (v : Sparse) : Type 0 where
+  pub proper : Proper n v
+  pub means : dense n v ≡ getD (rowsTo n node count) j (identity n)
+
+-- total: each node's uses in all. rest: each node's roots not yet shown. debt: the uses that the node in work has consumed. hand: the factors in hand.
+-- So the uses left, with the debt, are the child words of reachable nodes not yet done and the roots not yet shown,
+-- and the records held are the factors of the values that stand and those in hand.
+pub record Inv (limit room n count : ℕ) (node : ℕ → PauliNode) (total : ℕ → ℕ) (rest debt : ℕ → ℕ) (hand : ℕ) (s : State) : Type 0 where
+  pub right : (j : ℕ) → j < count → s .done j ≡ true → Right n count node j (s .value j)
+  pub counts : (j : ℕ) → s .uses j + debt j ≡ pend count node total (s .done) j + rest j
+  pub fewer : (j : ℕ) → s .uses j ≤ total j
+  pub holds : s .held ≡ stand count s + hand
+  pub within : s .held ≤ room
+  pub paid : s .work ≤ limit
+
+-- rising from lo on, below count, and not done
+abbrev pub Trail : ℕ → State → ℕ → List ℕ → Type 0
+Trail count s lo [] = Unit {0}
+Trail count s lo (i ∷ p) = (lo ≤ i) × (i < count) × (s .done i ≡ false) × Trail count s (suc i) p
+
+-- every node of the path has a use left
+abbrev pub Wanted : State → List ℕ → Type 0
+Wanted s [] = Unit {0}
+Wanted s (i ∷ p) = (0 < s .uses i) × Wanted s p
+
+abbrev pub field : ℕ → List ℕ → ℕ → ℕ
+field c l i = getD l (4 * i + c) 0
+
+abbrev pub Linked : List ℕ → ℕ → List ℕ → Type 0
+Linked l top [] = top ≡ 0
+Linked l top (i ∷ p) = (top ≡ suc i) × Linked l (field 3 l i) p
+
+-- ---- the scratch words of a node: its uses left in two, its value, its link
+
+abbrev pub usesAt : List ℕ → ℕ → ℕ
+usesAt l i = getD l (4 * i) 0 + 4294967296 * getD l (4 * i + 1) 0
+
+abbrev pub withUse : List ℕ → ℕ → ℕ → List ℕ
+withUse l i v = set (set l (4 * i) (v % 4294967296)) (4 * i + 1) (v / 4294967296)
+
+abbrev pub valueAt : List ℕ → ℕ → ℕ
+valueAt l i = field 2 l i
+
+-- a value: the first record of its chain, the number of its factors, its phase
+abbrev pub packed : ℕ → ℕ → ℕ → ℕ
+packed head count phase = 1 + 2 * (phase + 4 * (count + 512 * head))
+
+abbrev pub headIn : ℕ → ℕ
+headIn w = w / 4096
+
+abbrev pub countIn : ℕ → ℕ
+countIn w = w / 8 % 512
+
+abbrev pub turnIn : ℕ → ℕ
+turnIn w = w / 2 % 4
+
+-- 0 for a node that is not done; else its factors and its phase
+abbrev pub Marks : Bool → Sparse → ℕ → Type 0
+Marks false v w = w ≡ 0
+Marks true v w = (0 < w) × (countIn w ≡ size v) × (turnIn w ≡ phaseNumber (v .phase))
+
+-- the uses and the values of the nodes below count
+pub record Scratch (count : ℕ) (l : List ℕ) (s : State) : Type 0 where
+  pub long : 4 * count ≤ length l
+  pub uses-are : (j : ℕ) → j < count → usesAt l j ≡ s .uses j
+  pub marks-are : (j : ℕ) → j < count → Marks (s .done j) (s .value j) (valueAt l j)
+
+-- the links are as they were
+pub record LinksKept (l l′ : List ℕ) : Type 0 where
+  pub same : (k : ℕ) → field 3 l′ k ≡ field 3 l k
+
+-- the values are as they were
+pub record ValuesKept (l l′ : List ℕ) : Type 0 where
+  pub same : (k : ℕ) → valueAt l′ k ≡ valueAt l k
+
+-- ---- counting uses
+
+-- the counts after a node is looked at, which has m uses
+abbrev pub visit : ℕ → PauliNode → (ℕ → ℕ) → ℕ → ℕ
+visit zero nd u = u
+visit (suc m) nd u = childUses nd u
+
+abbrev pub oneIf : ℕ → ℕ
+oneIf zero = 0
+oneIf (suc m) = 1
+
+-- the counts of the nodes below count stand in the words
+abbrev pub Uses : ℕ → List ℕ → (ℕ → ℕ) → Type 0
+Uses count l u = (j : ℕ) → j < count → usesAt l j ≡ u j
+
+pub record Visiting (words l : List ℕ) (k : ℕ) : Type 0 where
+  pub count : ℕ
+  pub n : ℕ
+  pub u : ℕ → ℕ
+  pub uses : Uses count l u
+  pub long : 4 * count ≤ length l
+  pub low : k < count
+  pub well : nodeAt n words k ≢ Malformed
+  pub nodes-long : 2 * count ≤ length words
+  pub nodes-few : count ≤ 65536
+  pub few : (j : ℕ) → u j < 18446744073709551614
+
+pub record Visited {words l : List ℕ} {k : ℕ} (g : Visiting words l k) (l′ : List ℕ) (r : ℕ) : Type 0 where
+  pub uses : Uses (g .count) l′ (visit (g .u k) (nodeAt (g .n) words k) (g .u))
+  pub one-is : r ≡ oneIf (g .u k)
+
+-- no count is above `most` before the nodes are looked at
+pub record Counting (words l : List ℕ) (count : ℕ) : Type 0 where
+  pub n : ℕ
+  pub u : ℕ → ℕ
+  pub most : ℕ
+  pub uses : Uses count l u
+  pub long : 4 * count ≤ length l
+  pub well : (i : ℕ) → i < count → nodeAt n words i ≢ Malformed
+  pub nodes-long : 2 * count ≤ length words
+  pub nodes-few : count ≤ 65536
+  pub few : (j : ℕ) → u j ≤ most
+  pub most-low : most ≤ 9223372036854775808
+
+pub record CountedUp {words l : List ℕ} {count : ℕ} (g : Counting words l count) (l′ : List ℕ) (r : ℕ) : Type 0 where
+  pub uses : Uses count l′ (scan (nodeAt (g .n) words) count (g .u) .uses)
+  pub reached-is : r ≡ scan (nodeAt (g .n) words) count (g .u) .reached
+
+-- ---- an outcome and a status
+
+-- the status is 0 with what P says of the answer, or the number of the refusal
+abbrev pub Agrees : {A : Type 0} → Out A → ℕ → (A → Type 0) → Type 0
+Agrees (fine a) status P = (status ≡ 0) × P a
+Agrees (refused e) status P = (status ≡ refusalIn e .number) × (status ≡ 0 → ⊥)
+
+-- the same as a record, which determines its parts
+pub record Says {A : Type 0} (x : Out A) (status : ℕ) (P : A → Type 0) : Type 0 where
+  pub says : Agrees x status P
+
+-- ---- the state in words
+
+-- a value that is done and has a use left is the chain of the tag j + 2; the records that are spare and those held are the room
+pub record Rep (count room : ℕ) (l p : List ℕ) (free spare : ℕ) (who : Who) (s : State) : Type 0 where
+  pub scratch : Scratch count l s
+  pub chains : (j : ℕ) → j < count → s .done j ≡ true → 0 < s .uses j → Chain p who (j + 2) 0 (headIn (valueAt l j)) (s .value j .factors)
+  pub freed : Free p who free spare
+  pub balance : spare + s .held ≡ room
+
+-- the words stand for t
+pub record Stands (count room : ℕ) (l p : List ℕ) (free spare work : ℕ) (t : State) : Type 0 where
+  pub who : Who
+  pub rep : Rep count room l p free spare who t
+  pub work-is : work ≡ t .work
+
+-- ---- a use taken
+
+pub record Takeable (l p : List ℕ) (limit w free spare work : ℕ) : Type 0 where
+  pub count : ℕ
+  pub room : ℕ
+  pub who : Who
+  pub s : State
+  pub tag : ℕ
+  pub tag-low : tag < 2
+  pub rep : Rep count room l p free spare who s
+  pub named : nodeIn w < count
+  pub nodes-few : count ≤ 65536
+  pub done-is : s .done (nodeIn w) ≡ true
+  pub used : 0 < s .uses (nodeIn w)
+  pub work-is : work ≡ s .work
+  pub paid : s .work ≤ limit
+
+-- the value in hand is the chain `tag`; another in hand stands
+pub record TookRep {l p : List ℕ} {limit w free spare work : ℕ} (g : Takeable l p limit w free spare work) (l′ p′ : List ℕ) (head size′ phase free′ spare′ work′ : ℕ) (a : Taken) : Type 0 where
+  pub who′ : Who
+  pub rep : Rep (g .count) (g .room) l′ p′ free′ spare′ who′ (a .state)
+  pub chain : Chain p′ who′ (g .tag) 0 head (a .value .factors)
+  pub count-is : size′ ≡ size (a .value)
+  pub phase-is : phase ≡ phaseNumber (a .value .phase)
+  pub work-is : work′ ≡ a .state .work
+  pub kept : (t lo h : ℕ) (fs : List Factor) → t < 2 → (t ≡ g .tag → ⊥) → Chain p (g .who) t lo h fs → Chain p′ who′ t lo h fs
+
+-- ---- the walk at rest between two steps
+
+pub record Walking (words l p : List ℕ) (count limit free spare work : ℕ) : Type 0 where
+  pub n : ℕ
+  pub room : ℕ
+  pub total : ℕ → ℕ
+  pub rest : ℕ → ℕ
+  pub who : Who
+  pub s : State
+  pub rep : Rep count room l p free spare who s
+  pub inv : Inv limit room n count (nodeAt n words) total rest none 0 s
+  pub well : (i : ℕ) → i < count → nodeAt n words i ≢ Malformed
+  pub work-is : work ≡ s .work
+  pub qubits-few : n ≤ 256
+  pub few : room < 65536
+  pub nodes-few : count ≤ 65536
+  pub nodes-long : 2 * count ≤ length words
+
+-- the node i, not done and with a use left, is the product of the words lw and rt, which are done
+pub record Combining (l p : List ℕ) (limit i lw rt free spare work : ℕ) : Type 0 where
+  pub words : List ℕ
+  pub count : ℕ
+  pub at : Walking words l p count limit free spare work
+  pub low : i < count
+  pub is-product : nodeAt (at .n) words i ≡ Product lw rt
+  pub not-done : at .s .done i ≡ false
+  pub used : 0 < at .s .uses i
+  pub left-done : at .s .done (nodeIn lw) ≡ true
+  pub right-done : at .s .done (nodeIn rt) ≡ true
+
+-- the node i's value is to be made of at most one record
+pub record Making (l p : List ℕ) (i free spare work : ℕ) : Type 0 where
+  pub count : ℕ
+  pub room : ℕ
+  pub who : Who
+  pub s : State
+  pub rep : Rep count room l p free spare who s
+  pub low : i < count
+  pub nodes-few : count ≤ 65536
+  pub work-is : work ≡ s .work
+
+-- the node i is the top of a path, whose links are words
+pub record Topped (words l p : List ℕ) (limit i free spare work : ℕ) : Type 0 where
+  pub count : ℕ
+  pub at : Walking words l p count limit free spare work
+  pub path : List ℕ
+  pub trail : Trail count (at .s) 0 (i ∷ path)
+  pub wanted : Wanted (at .s) (i ∷ path)
+  pub linked : Linked l (suc i) (i ∷ path)
+
+-- and a product
+pub record Branched (l p : List ℕ) (limit i lw rt free spare work : ℕ) : Type 0 where
+  pub words : List ℕ
+  pub top : Topped words l p limit i free spare work
+  pub is-product : nodeAt (top .at .n) words i ≡ Product lw rt
+
+-- the node i, not done, is alone on the path
+pub record Started (words l p : List ℕ) (count limit i free spare work : ℕ) : Type 0 where
+  pub at : Walking words l p count limit free spare work
+  pub low : i < count
+  pub used : 0 < at .s .uses i
+  pub not-done : at .s .done i ≡ false
+  pub ends : field 3 l i ≡ 0
+
+-- the words stand for the spot
+pub record Landed (count room : ℕ) (l p : List ℕ) (top free spare work : ℕ) (q : Spot) : Type 0 where
+  pub stands : Stands count room l p free spare work (q .state)
+  pub linked : Linked l top (q .path)
+
+-- the node i is to be evaluated
+pub record Rooted (words l p : List ℕ) (count limit i free spare work : ℕ) : Type 0 where
+  pub at : Walking words l p count limit free spare work
+  pub low : i < count
+  pub used : 0 < at .s .uses i
+
+-- ---- one root
+
+-- a walk of one root can begin
+pub record Ready (words l : List ℕ) (count w : ℕ) : Type 0 where
+  pub n : ℕ
+  pub named : nodeIn w < count
+  pub long : 4 * count ≤ length l
+  pub well : (i : ℕ) → i < count → nodeAt n words i ≢ Malformed
+  pub qubits-few : n ≤ 256
+  pub nodes-long : 2 * count ≤ length words
+  pub nodes-few : count ≤ 65536
+
+-- what was shown is a chain
+pub record Showing (p : List ℕ) (head phase work : ℕ) (r : Walked) : Type 0 where
+  pub value : Sparse
+  pub who : Who
+  pub tag : ℕ
+  pub shown-is : r .shown ≡ value ∷ []
+  pub chain : Chain p who tag 0 head (value .factors)
+  pub phase-is : phase ≡ phaseNumber (value .phase)
+  pub work-is : work ≡ r .state .work
+
+-- ---- letters
+
+abbrev pub bytes : List Pauli → List ℕ
+bytes us = map pauliNumber us
+
+-- the first n are the letters of the factors, and the rest is as it was
+abbrev pub lettersWritten : ℕ → List Factor → List ℕ → List ℕ
+lettersWritten n fs was = bytes (spread n 0 fs) ++ drop n was
+
+pub record CellReady (p : List ℕ) (a q : ℕ) : Type 0 where
+  pub who : Who
+  pub tag : ℕ
+  pub fs : List Factor
+  pub chain : Chain p who tag q a fs
+
+pub record CellRead {p : List ℕ} {a q : ℕ} (g : CellReady p a q) (letter next : ℕ) : Type 0 where
+  pub gs : List Factor
+  pub chain : Chain p (g .who) (g .tag) (suc q) next gs
+  pub cell : (k : ℕ) → bytes (spread (suc k) q (g .fs)) ≡ letter ∷ bytes (spread k (suc q) gs)
+
+pub record ShowReady (p : List ℕ) (head : ℕ) : Type 0 where
+  pub who : Who
+  pub tag : ℕ
+  pub fs : List Factor
+  pub chain : Chain p who tag 0 head fs
