@@ -1,0 +1,269 @@
+//! Commands to answers. What the Rust does not carry (the operands of refusals 6 and 8) is answered `?`.
+use crate::circuit::{Circuit, Gate, GateKind};
+use crate::pbc::{AxisKind, Pauli, PauliAngle, PauliNode, PauliRef, PbcCircuit, PbcError, PbcOp, Phase, to_pbc};
+use std::fmt::Write as _;
+use std::io::{BufRead, Write};
+use std::num::NonZeroUsize;
+
+pub fn word(r: PauliRef) -> u64 {
+    4 * r.node_index() as u64 + r.phase() as u64
+}
+
+/// A gate of these kinds, by number; None for a number that the Rust does not have.
+pub fn gate(kind: u32, a: u32, b: u32, c: u32) -> Option<Gate> {
+    let kind = *GateKind::ALL.get(kind as usize)?;
+    let angle = || crate::angle::Angle::from_f64(0.3).unwrap();
+    use GateKind::*;
+    Some(match kind {
+        H => Gate::h(a),
+        X => Gate::x(a),
+        Z => Gate::z(a),
+        S => Gate::s(a),
+        Sdg => Gate::sdg(a),
+        T => Gate::t(a),
+        Tdg => Gate::tdg(a),
+        Rz => Gate::rz(angle(), a),
+        Cx => Gate::cnot { control: a, target: b },
+        Cz => Gate::cz { control: a, target: b },
+        Ccx => Gate::ccx { control1: a, control2: b, target: c },
+        Ccz => Gate::ccz { control1: a, control2: b, target: c },
+        Measure => Gate::measure { qubit: a, cbit: b },
+        Reset => Gate::reset(a),
+        P => Gate::p(angle(), a),
+        Y => Gate::y(a),
+        Sx => Gate::sx(a),
+        Rx => Gate::rx(angle(), a),
+        Ry => Gate::ry(angle(), a),
+        Swap => Gate::swap(a, b),
+        Cy => Gate::cy { control: a, target: b },
+        Cp => Gate::cp { lambda: angle(), control: a, target: b },
+        Crx => Gate::crx { theta: angle(), control: a, target: b },
+        Cry => Gate::cry { theta: angle(), control: a, target: b },
+        Crz => Gate::crz { theta: angle(), control: a, target: b },
+        Ch => Gate::ch { control: a, target: b },
+        Cswap => Gate::cswap { control: a, first: b, second: c },
+    })
+}
+
+fn refusal(error: &PbcError, index: usize) -> String {
+    match error {
+        PbcError::InvalidInput { index, cause } => refusal(cause, *index),
+        PbcError::TooManyQubits => "err 1 0 0".into(),
+        PbcError::ForeignPauli => "err 4 0 0".into(),
+        PbcError::UnsupportedGate(kind) => format!("err 5 {index} {}", *kind as u32),
+        PbcError::NonCliffordFrameGate => "err 6 0 ?".into(),
+        PbcError::QubitOutOfRange(q) => format!("err 7 {index} {q}"),
+        PbcError::RepeatedOperand => format!("err 8 {index} ?"),
+        PbcError::ClassicalBitOutOfRange(b) => format!("err 9 {index} {b}"),
+        PbcError::UnknownMeasurement => "err 10 0 0".into(),
+        PbcError::ExpansionLimit => "err 17 0 0".into(),
+        PbcError::NonHermitianAxis => "err 19 0 0".into(),
+        other => format!("err ? {other:?}"),
+    }
+}
+
+/// The circuit of four words a gate; a number that the Rust does not have ends the list.
+pub fn circuit(n: usize, cbits: usize, words: &[u32]) -> (Circuit, Option<(usize, u32)>) {
+    let mut circuit = Circuit::with_cbits(n, cbits);
+    for (index, w) in words.chunks(4).enumerate() {
+        match gate(w[0], w[1], w[2], w[3]) {
+            Some(g) => circuit.gates.push(g),
+            None => return (circuit, Some((index, w[0]))),
+        }
+    }
+    (circuit, None)
+}
+
+pub fn dump(c: &PbcCircuit) -> String {
+    let mut nodes = Vec::new();
+    for node in c.pauli_nodes() {
+        match *node {
+            PauliNode::Identity => nodes.extend([0, 0]),
+            PauliNode::Single { qubit, pauli } => nodes.extend([1 + 4 * pauli as u64, qubit as u64]),
+            PauliNode::Product(l, r) => nodes.extend([2 + 4 * word(l), word(r)]),
+        }
+    }
+    let mut operations = Vec::new();
+    for op in c.operations() {
+        match *op {
+            PbcOp::Rotate { axis, angle } => operations.extend([4 * angle.eighths() as u64, word(axis.as_ref()), 0, 0]),
+            PbcOp::Measure { axis, outcome, target } => {
+                operations.extend([1, word(axis.as_ref()), outcome.index() as u64, target.map_or(0, |b| b as u64 + 1)])
+            }
+            PbcOp::ConditionalRotate { axis, angle, if_one } => {
+                operations.extend([2 + 4 * angle.eighths() as u64, word(axis.as_ref()), if_one.index() as u64, 0])
+            }
+        }
+    }
+    let frame: Vec<u64> = c.frame_roots().into_iter().map(word).collect();
+    let mut out = format!("ok {} {} {}", c.num_qubits(), c.num_cbits(), c.measurement_count());
+    for list in [&nodes, &operations, &frame] {
+        write!(out, " {}", list.len()).unwrap();
+        for w in list {
+            write!(out, " {w}").unwrap();
+        }
+    }
+    out
+}
+
+fn unsigned(token: &str) -> Option<u32> {
+    if token.bytes().all(|b| b.is_ascii_digit()) { token.parse().ok() } else { None }
+}
+
+fn signed(token: &str) -> Option<i64> {
+    let digits = token.strip_prefix('-').unwrap_or(token);
+    if !digits.is_empty() && digits.bytes().all(|b| b.is_ascii_digit()) { token.parse().ok() } else { None }
+}
+
+const LETTERS: [Pauli; 4] = [Pauli::I, Pauli::X, Pauli::Y, Pauli::Z];
+
+pub struct Driver {
+    pub circuit: PbcCircuit,
+}
+
+impl Driver {
+    pub fn new() -> Self {
+        Self { circuit: PbcCircuit::new(0, 0) }
+    }
+
+    fn handle(&self, f: u32, w: u32) -> PauliRef {
+        self.circuit.handle(self.circuit.owner().wrapping_add(f as u64), w)
+    }
+
+    /// The answer of one line, or None for a line of spaces.
+    pub fn line(&mut self, line: &str) -> Option<String> {
+        let tokens: Vec<&str> = line.split(' ').filter(|t| !t.is_empty()).collect();
+        let (&name, rest) = tokens.split_first()?;
+        Some(self.command(name, rest).unwrap_or_else(|| "bad".into()))
+    }
+
+    fn command(&mut self, name: &str, rest: &[&str]) -> Option<String> {
+        match name {
+            "convert" => return self.convert(rest),
+            "angle" => {
+                let [k] = rest else { return None };
+                return Some(format!("ok {}", PauliAngle::new(signed(k)?).eighths()));
+            }
+            "rotate" => {
+                let [f, w, k] = rest else { return None };
+                let (r, k) = (self.handle(unsigned(f)?, unsigned(w)?), PauliAngle::new(signed(k)?));
+                let axis = self.circuit.axis(r);
+                return Some(self.circuit.rotate(axis, k).map_or_else(|e| refusal(&e, 0), |_| "ok".into()));
+            }
+            "cond" => {
+                let [f, w, k, g, m] = rest else { return None };
+                let (r, k) = (self.handle(unsigned(f)?, unsigned(w)?), PauliAngle::new(signed(k)?));
+                let owner = self.circuit.owner().wrapping_add(unsigned(g)? as u64);
+                let outcome = self.circuit.outcome(owner, unsigned(m)? as usize);
+                let axis = self.circuit.axis(r);
+                return Some(self.circuit.conditional_rotate(axis, k, outcome).map_or_else(|e| refusal(&e, 0), |_| "ok".into()));
+            }
+            _ => {}
+        }
+        let numbers: Vec<u32> = rest.iter().map(|t| unsigned(t)).collect::<Option<_>>()?;
+        self.numbers(name, &numbers)
+    }
+
+    fn numbers(&mut self, name: &str, numbers: &[u32]) -> Option<String> {
+        let c = &mut self.circuit;
+        let own = c.owner();
+        Some(match (name, numbers) {
+            ("new", &[n, cbits]) => {
+                self.circuit = PbcCircuit::new(n as usize, cbits as usize);
+                dump(&self.circuit)
+            }
+            ("dump", []) => dump(c),
+            ("kinds", []) => {
+                let mut out = String::from("ok");
+                for op in c.operations() {
+                    let k = match AxisKind::of(op) {
+                        None => 0,
+                        Some(AxisKind::Pi8) => 1,
+                        Some(AxisKind::Clifford) => 2,
+                        Some(AxisKind::Measurement) => 3,
+                    };
+                    write!(out, " {k}").unwrap();
+                }
+                out
+            }
+            ("single", &[q, l]) if l < 4 => {
+                c.single(q, LETTERS[l as usize]).map_or_else(|e| refusal(&e, 0), |a| format!("ok {}", word(a.as_ref())))
+            }
+            ("product", &[f, w, g, v]) => {
+                let (l, r) = (self.handle(f, w), self.handle(g, v));
+                self.circuit.product(l, r).map_or_else(|e| refusal(&e, 0), |r| format!("ok {}", word(r)))
+            }
+            ("measure", &[f, w, b]) => {
+                let r = self.handle(f, w);
+                let axis = self.circuit.axis(r);
+                let target = b.checked_sub(1);
+                self.circuit.measure(axis, target).map_or_else(|e| refusal(&e, 0), |m| format!("ok {}", m.index()))
+            }
+            ("fgate", &[kind, a, b, third]) => match gate(kind, a, b, third) {
+                Some(g) => c.push_output_clifford(g).map_or_else(|e| refusal(&e, 0), |_| "ok".into()),
+                None => "err 6 0 ?".into(),
+            },
+            ("expand", &[f, w, cells]) => {
+                let r = self.handle(f, w);
+                match self.circuit.expand(r, cells as usize) {
+                    Err(e) => refusal(&e, 0),
+                    Ok(p) => {
+                        let work = self.circuit.work(&[r], usize::MAX).unwrap();
+                        let mut out = format!("ok {} {work}", p.phase as u32);
+                        for l in p.factors {
+                            write!(out, " {}", l as u32).unwrap();
+                        }
+                        out
+                    }
+                }
+            }
+            ("herm", &[f, w, limit]) => {
+                let r = self.handle(f, w);
+                match self.circuit.hermitian_axis(r, limit as usize) {
+                    Err(e) => refusal(&e, 0),
+                    Ok(a) => format!("ok {} {}", word(a.as_ref()), self.circuit.work(&[r], usize::MAX).unwrap()),
+                }
+            }
+            ("report", &[limit]) => match c.max_axis_weights(limit as usize) {
+                Err(e) => refusal(&e, 0),
+                Ok(m) => format!("ok {} {} {}", m.non_clifford, m.clifford, c.work(&c.axes(), usize::MAX).unwrap()),
+            },
+            ("times", &[a, b]) if a < 4 && b < 4 => {
+                let (p, l) = LETTERS[a as usize].times(LETTERS[b as usize]);
+                format!("ok {} {}", p as u32, l as u32)
+            }
+            _ => return None,
+        })
+    }
+
+    fn convert(&mut self, rest: &[&str]) -> Option<String> {
+        let (head, words) = rest.split_at_checked(3)?;
+        let (n, cbits) = (unsigned(head[0])?, unsigned(head[1])?);
+        let cap = if head[2] == "-1" { None } else { Some(unsigned(head[2])?) };
+        let words: Vec<u32> = words.iter().map(|t| unsigned(t)).collect::<Option<_>>()?;
+        if words.len() % 4 != 0 {
+            return Some("err 2 0 0".into());
+        }
+        let (circuit, stop) = circuit(n as usize, cbits as usize, &words);
+        let cap = cap.map(|w| NonZeroUsize::new(w as usize).expect("the Rust has no cap 0"));
+        Some(match (to_pbc(&circuit, cap), stop) {
+            (Err(e), _) => refusal(&e, 0),
+            (Ok(_), Some((index, kind))) => format!("err 5 {index} {kind}"),
+            (Ok(c), None) => {
+                self.circuit = c;
+                dump(&self.circuit)
+            }
+        })
+    }
+}
+
+pub fn answer() {
+    let input = std::io::stdin().lock();
+    let mut output = std::io::BufWriter::new(std::io::stdout().lock());
+    let mut driver = Driver::new();
+    for line in input.lines() {
+        if let Some(answer) = driver.line(&line.unwrap()) {
+            writeln!(output, "{answer}").unwrap();
+        }
+    }
+}

@@ -1,0 +1,3 @@
+//! Stand-in: nothing is counted.
+pub fn certified_synthesis(_epsilon: f64) {}
+pub fn certification_failure() {}

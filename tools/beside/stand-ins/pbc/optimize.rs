@@ -1,0 +1,34 @@
+//! Stand-in for the optimizer, and what the driver reads of a circuit that the public interface does not show.
+use super::*;
+
+pub struct OptimizeOptions;
+pub struct OptimizeStats;
+pub struct Strategy;
+pub(crate) fn packed_anticommutes() {}
+pub(crate) fn support_signature() {}
+
+impl PbcCircuit {
+    pub(crate) fn owner(&self) -> u64 {
+        self.arena.owner
+    }
+    pub(crate) fn handle(&self, owner: u64, word: u32) -> PauliRef {
+        let phase = [Phase::One, Phase::I, Phase::MinusOne, Phase::MinusI][word as usize % 4];
+        PauliRef { owner, node: word as usize / 4, phase }
+    }
+    pub(crate) fn axis(&self, reference: PauliRef) -> PauliAxis {
+        PauliAxis(reference)
+    }
+    pub(crate) fn outcome(&self, owner: u64, index: usize) -> MeasId {
+        MeasId { owner, index }
+    }
+    /// The work of a walk from these roots, as the walk itself counts it.
+    pub(crate) fn work(&self, roots: &[PauliRef], limit: usize) -> Result<usize, PbcError> {
+        Ok(self.arena.materialize(roots, limit, |_, _, _| Ok(()))?.work)
+    }
+    pub(crate) fn axes(&self) -> Vec<PauliRef> {
+        self.operations.iter().map(|op| op.axis().0).collect()
+    }
+    pub(crate) fn frame_roots(&self) -> Vec<PauliRef> {
+        self.output_frame.roots().collect()
+    }
+}

@@ -1,0 +1,2 @@
+//! Stand-in: no drawing.
+pub struct SvgOptions;

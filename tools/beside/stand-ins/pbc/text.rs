@@ -1,0 +1,2 @@
+//! Stand-in: no text form.
+pub struct TextOptions;
