@@ -5,8 +5,8 @@ use borrow.Author.Needs.{needs}
 use Rattle.pauli.specs.Letters.{pauliOf}
 use Rattle.arena.proofs.ScratchWords.{links-same, links-value}
 use Rattle.arena.proofs.WalkProducts.{no-room, lender, single-made}
-use Rattle.arena.proofs.pool.materialize.single_at.Statement.{statement}
-use Rattle.arena.proofs.pool.materialize.single_at.Tie as tie
+use Rattle.arena.proofs.pool.scratch.materialize.single_at.Statement.{statement}
+use Rattle.arena.proofs.pool.scratch.materialize.single_at.Tie as tie
 
 not-evaluated-requires : tie.Need-not-evaluated-requires
 not-evaluated-requires c κs = search needs

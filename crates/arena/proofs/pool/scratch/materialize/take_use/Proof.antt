@@ -4,8 +4,8 @@ use native.Mathlib.Omega.{arith}
 use borrow.Author.Needs.{needs}
 use Rattle.arena.proofs.ScratchWords.{links-use}
 use Rattle.arena.proofs.WalkMoves.{use-some, took-move, took-17, took-18, source, took-copy}
-use Rattle.arena.proofs.pool.materialize.take_use.Statement.{statement}
-use Rattle.arena.proofs.pool.materialize.take_use.Tie as tie
+use Rattle.arena.proofs.pool.scratch.materialize.take_use.Statement.{statement}
+use Rattle.arena.proofs.pool.scratch.materialize.take_use.Tie as tie
 
 use-of-requires : tie.Need-use-of-requires
 use-of-requires c κs = search needs

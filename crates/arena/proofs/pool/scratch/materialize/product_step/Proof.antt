@@ -1,8 +1,8 @@
 -- `product_step` meets its contract.
 use native.Mathlib.Omega.{arith}
 use Rattle.arena.proofs.PathSteps.{left-room, right-room, link-low, push-left, push-right, combining, combined-step, words-room}
-use Rattle.arena.proofs.pool.materialize.product_step.Statement.{statement}
-use Rattle.arena.proofs.pool.materialize.product_step.Tie as tie
+use Rattle.arena.proofs.pool.scratch.materialize.product_step.Statement.{statement}
+use Rattle.arena.proofs.pool.scratch.materialize.product_step.Tie as tie
 
 value-of-requires : tie.Need-value-of-requires
 value-of-requires c κs = omega (arith, left-room (c .before .before .before .pre))

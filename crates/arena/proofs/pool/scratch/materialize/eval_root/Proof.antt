@@ -1,8 +1,8 @@
 -- `eval_root` meets its contract: a node that is done is left alone, another is walked to.
 use Rattle.arena.proofs.PathRuns.{root-done, started}
 use borrow.Author.Needs.{needs}
-use Rattle.arena.proofs.pool.materialize.eval_root.Statement.{statement}
-use Rattle.arena.proofs.pool.materialize.eval_root.Tie as tie
+use Rattle.arena.proofs.pool.scratch.materialize.eval_root.Statement.{statement}
+use Rattle.arena.proofs.pool.scratch.materialize.eval_root.Tie as tie
 
 value-of-requires : tie.Need-value-of-requires
 value-of-requires c κs = search needs

@@ -4,8 +4,8 @@ use native.Mathlib.Omega.{arith}
 use borrow.Author.Needs.{needs}
 use Rattle.arena.specs.WalkWords.{Started}
 use Rattle.arena.proofs.PathRuns.{Going, going-begin, going-end, topped, some-left, going-refused, going-on}
-use Rattle.arena.proofs.pool.materialize.run_path.Statement.{statement}
-use Rattle.arena.proofs.pool.materialize.run_path.Tie as tie
+use Rattle.arena.proofs.pool.scratch.materialize.run_path.Statement.{statement}
+use Rattle.arena.proofs.pool.scratch.materialize.run_path.Tie as tie
 
 abbrev Inv-loop : tie.InvT-loop
 Inv-loop nodes s₀ pool₀ count limit i free0 spare0 work0 free₀ spare₀ work₀ top₀ budget₀ s pool free spare work top budget = (g : Started nodes s₀ pool₀ count limit i free0 spare0 work0) → Going g s pool free spare work top budget

@@ -7,8 +7,8 @@ use lib.ListN.{length, set, replicate, drop, length-set}
 use borrow.Author.Needs.{needs}
 use borrow.Author.Fill.{fill-none, fill-more}
 use Rattle.arena.proofs.ScratchWords.{fill-all}
-use Rattle.arena.proofs.pool.materialize.zero_all.Statement.{statement}
-use Rattle.arena.proofs.pool.materialize.zero_all.Tie as tie
+use Rattle.arena.proofs.pool.scratch.zero_all.Statement.{statement}
+use Rattle.arena.proofs.pool.scratch.zero_all.Tie as tie
 
 abbrev Inv-loop : tie.InvT-loop
 Inv-loop s₀ i₀ s i = (i ≤ length s₀) × (length s ≡ length s₀) × (s ≡ replicate i 0 ++ drop i s₀)

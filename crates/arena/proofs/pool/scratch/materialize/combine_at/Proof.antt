@@ -4,8 +4,8 @@ use native.Mathlib.Omega.{arith}
 use borrow.Author.Needs.{needs}
 use Rattle.arena.proofs.ScratchWords.{links-then, links-value}
 use Rattle.arena.proofs.WalkProducts.{first, no-first, second, no-second, paid₂, small₁, small₂, small₃, sum-few, words-long, dear, operands, head-low, count-fits, few₃, combined}
-use Rattle.arena.proofs.pool.materialize.combine_at.Statement.{statement}
-use Rattle.arena.proofs.pool.materialize.combine_at.Tie as tie
+use Rattle.arena.proofs.pool.scratch.materialize.combine_at.Statement.{statement}
+use Rattle.arena.proofs.pool.scratch.materialize.combine_at.Tie as tie
 
 take-use-requires : tie.Need-take-use-requires
 take-use-requires c κs = first (c .before .before .before .before .pre)

@@ -3,8 +3,8 @@ use mathlib.Core.Path.{refl, _∙_}
 use native.Mathlib.Omega.{arith}
 use borrow.Author.Needs.{needs}
 use Rattle.arena.proofs.RootWalks.{add-fits, counting, too-dear, rooted, walk-refused, wk-fits, long₄, too-high, shown}
-use Rattle.arena.proofs.pool.materialize.walk_root.Statement.{statement}
-use Rattle.arena.proofs.pool.materialize.walk_root.Tie as tie
+use Rattle.arena.proofs.pool.scratch.materialize.walk_root.Statement.{statement}
+use Rattle.arena.proofs.pool.scratch.materialize.walk_root.Tie as tie
 
 zero-all-requires : tie.Need-zero-all-requires
 zero-all-requires c κs = search needs

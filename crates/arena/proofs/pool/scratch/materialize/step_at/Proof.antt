@@ -6,8 +6,8 @@ use borrow.Author.Needs.{needs}
 use Rattle.arena.specs.Nodes.{Product}
 use Rattle.arena.proofs.ScratchWords.{links-value, node-product, node-single, node-blank}
 use Rattle.arena.proofs.PathSteps.{nodes-room, words-room, low, making, single-step, blank-step}
-use Rattle.arena.proofs.pool.materialize.step_at.Statement.{statement}
-use Rattle.arena.proofs.pool.materialize.step_at.Tie as tie
+use Rattle.arena.proofs.pool.scratch.materialize.step_at.Statement.{statement}
+use Rattle.arena.proofs.pool.scratch.materialize.step_at.Tie as tie
 
 first-word-requires : tie.Need-first-word-requires
 first-word-requires c κs = omega (arith, nodes-room (c .before .before .before .pre))
