@@ -18,6 +18,7 @@ pub mod PoolRuns
 pub mod Walk
 pub mod Machine
 pub mod WalkWords
+pub mod Roots
 pub mod Readers
 pub mod Expansion
 pub mod Stats

@@ -1,6 +1,8 @@
 //! The walk in code: the values of nodes as chains of the pool, made in the order and with the charges of specs/Walk.antt.
 //! What the scratch words stand for: specs/WalkWords.antt.
 
+pub mod roots;
+
 use super::count_in;
 use super::first_word;
 use super::head_in;
@@ -12,27 +14,19 @@ use super::set_use;
 use super::set_value;
 use super::use_of;
 use super::value_of;
-use super::zero_all;
-use crate::pool::cap_of;
 use crate::pool::copy;
-use crate::pool::init;
-use crate::pool::letter_of;
 use crate::pool::multiply;
-use crate::pool::next_of;
-use crate::pool::qubit_of;
 use crate::pool::single;
 use crate::pool::wide;
 ghost use mathlib.Core.Path.{_≡_};
-ghost use mathlib.Core.List.{[], _∷_};
 ghost use Prim.Native.Nat.{_+_, _*_, _-_, _≤_, _<_, min};
 ghost use lib.ListN.{length};
 ghost use Rattle.pauli.specs.Letters.{pauliOf};
 ghost use Rattle.arena.specs.Nodes.{nodeAt};
 ghost use Rattle.arena.specs.Sparse.{one};
-ghost use Rattle.arena.specs.Walk.{fine, bind, lend, finish, takeUse, combine, eval, walkNodes};
+ghost use Rattle.arena.specs.Walk.{fine, bind, lend, finish, takeUse, combine, eval};
 ghost use Rattle.arena.specs.Machine.{step};
-ghost use Rattle.arena.specs.PoolSteps.{capOf};
-ghost use Rattle.arena.specs.WalkWords.{usesAt, withUse, ValuesKept, Visiting, Visited, Counting, CountedUp, LinksKept, Says, Stands, Takeable, TookRep, Combining, Making, Topped, Branched, Started, Landed, Rooted, Ready, Showing, lettersWritten, CellReady, CellRead, ShowReady};
+ghost use Rattle.arena.specs.WalkWords.{usesAt, withUse, ValuesKept, Visiting, Visited, Counting, CountedUp, LinksKept, Says, Stands, Takeable, TookRep, Combining, Making, Topped, Branched, Started, Landed, Rooted};
 
 // ---- uses
 
@@ -420,115 +414,4 @@ fn eval_root(
     }
     set_link(s, i, 0);
     run_path(nodes, s, pool, count, limit, i, free, spare, work)
-}
-
-// ---- one root
-
-// The status, the chain and the phase of what is shown, and the work.
-pub struct Shown {
-    pub status: usize,
-    pub head: usize,
-    pub phase: usize,
-    pub work: usize,
-}
-
-fn not_shown(status: usize) -> Shown
-    ensures { λ r. ⌜ r .status ≡ status ⌝ }
-{
-    Shown {
-        status,
-        head: 0,
-        phase: 0,
-        work: 0,
-    }
-}
-
-// The records that can be lent of a pool of so many words.
-fn room_of(words: usize) -> usize
-    ensures { λ r. ⌜ r ≡ capOf words - 1 ⌝ }
-{
-    let c = cap_of(words);
-    if c == 0 { 0 } else { c - 1 }
-}
-
-// The root w is walked: uses are counted, it is evaluated, its factors are charged. The scratch and the pool are left as they are then.
-fn walk_root(
-    nodes: &[u32],
-    s: &mut [u32],
-    pool: &mut [u32],
-    count: usize,
-    limit: usize,
-    w: usize,
-) -> Shown
-    requires { ⌜ Ready (now nodes) (now s) count w ⌝ }
-    ensures { λ r. ⌜ ((g : Ready (now (nodes .entry)) (now (s .entry)) count w) → Says (walkNodes limit (capOf (length (now (pool .entry))) - 1) (nodeAt (g .n) (now (nodes .entry))) count (w ∷ [])) (r .status) (Showing (now (pool .exit)) (r .head) (r .phase) (r .work))) ⌝ }
-{
-    zero_all(s);
-    let j = w / 4;
-    add_use(s, j);
-    let reached = scan_uses(nodes, s, count);
-    let room = room_of(pool.len());
-    let free = init(pool);
-    if limit < 1 + reached {
-        return not_shown(17);
-    }
-    let o = eval_root(nodes, s, pool, count, limit, j, free, room, 1 + reached);
-    let st = o.status;
-    if st != 0 {
-        return not_shown(st);
-    }
-    let m = value_of(s, j);
-    let k = count_in(m);
-    if limit - o.work < k {
-        return not_shown(17);
-    }
-    Shown {
-        status: 0,
-        head: head_in(m),
-        phase: (w % 4 + phase_in(m)) % 4,
-        work: o.work + k,
-    }
-}
-
-// ---- letters
-
-// A letter, and where the chain goes on.
-pub struct Cell {
-    pub letter: u8,
-    pub next: usize,
-}
-
-// The letter of qubit q, of a chain from a on whose qubits are q or more; and where the chain goes on.
-fn cell_at(pool: &[u32], a: usize, q: usize) -> Cell
-    requires { ⌜ CellReady (now pool) a q ⌝ }
-    ensures { λ r. ⌜ ((g : CellReady (now (pool .entry)) a q) → CellRead g (r .letter) (r .next)) ⌝ }
-{
-    if a == 0 {
-        return Cell { letter: 0, next: 0 };
-    }
-    let k = wide(qubit_of(pool, a));
-    if k != q {
-        return Cell { letter: 0, next: a };
-    }
-    let l = letter_of(pool, a);
-    let next = next_of(pool, a);
-    Cell {
-        letter: l as u8,
-        next,
-    }
-}
-
-// The letters of the first n qubits are written.
-fn show(letters: &mut [u8], pool: &[u32], n: usize, head: usize)
-    requires { ⌜ ShowReady (now pool) head × (n ≤ length (now letters)) ⌝ }
-    ensures { λ _. ⌜ ((g : ShowReady (now (pool .entry)) head) → now (letters .exit) ≡ lettersWritten n (g .fs) (now (letters .entry))) ⌝ }
-{
-    let mut a = head;
-    let mut q = 0;
-    while q < n {
-        let c = cell_at(pool, a, q);
-        letters[q] = c.letter;
-        a = c.next;
-        q += 1;
-    }
 }

@@ -3,8 +3,8 @@ use mathlib.Core.Path.{_∙_}
 use native.Mathlib.Omega.{arith}
 use borrow.Author.Needs.{needs}
 use Rattle.arena.proofs.Cells.{cell-safe, cell-none, cell-later, cell-here}
-use Rattle.arena.proofs.pool.scratch.materialize.cell_at.Statement.{statement}
-use Rattle.arena.proofs.pool.scratch.materialize.cell_at.Tie as tie
+use Rattle.arena.proofs.pool.scratch.materialize.roots.cell_at.Statement.{statement}
+use Rattle.arena.proofs.pool.scratch.materialize.roots.cell_at.Tie as tie
 
 returns : tie.Need-returns
 returns c = λ g. cell-none g (c .if1 .taken)

@@ -4,8 +4,8 @@ use Prim.Native.Nat.{_-_}
 use native.Mathlib.Omega.{arith}
 use Rattle.arena.specs.WalkWords.{ShowReady}
 use Rattle.arena.proofs.Cells.{Writing, write-begin, cell, write-turn, write-end}
-use Rattle.arena.proofs.pool.scratch.materialize.show.Statement.{statement}
-use Rattle.arena.proofs.pool.scratch.materialize.show.Tie as tie
+use Rattle.arena.proofs.pool.scratch.materialize.roots.show.Statement.{statement}
+use Rattle.arena.proofs.pool.scratch.materialize.roots.show.Tie as tie
 
 abbrev Inv-loop : tie.InvT-loop
 Inv-loop letters₀ pool n head a₀ q₀ letters a q = (g : ShowReady pool head) → Writing g n letters₀ letters a q
