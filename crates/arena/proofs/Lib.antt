@@ -37,6 +37,7 @@ pub mod WalkProducts
 pub mod PathSteps
 pub mod PathRuns
 pub mod RootWalks
+pub mod StoredWords
 pub mod Cells
 pub mod Examples
 pub mod Theorems
