@@ -264,7 +264,7 @@ releasable w {words} {l} {p} {l′} {p′} {count} {limit} g {t} r = record {
 
 -- ---- one root
 
-release-work : (j : ℕ) (s : State) → release j s .work ≡ s .work
+pub release-work : (j : ℕ) (s : State) → release j s .work ≡ s .work
 release-work j s = go (eqb (s .uses j) 1)
   where
     go : (b : Bool) → cond b (giveBack (size (s .value j)) (less j s)) (less j s) .work ≡ s .work

@@ -1,11 +1,11 @@
 -- Stored words read: past the end, and the kind of an axis beside what the weight report counts.
 use mathlib.Core.Path.{_≡_, refl, ap}
-use mathlib.Core.Bool.{Bool, true, false, cond, _||_}
+use mathlib.Core.Bool.{Bool, true, false, cond, _||_, _&&_}
 use mathlib.Core.List.{List, [], _∷_}
-use Prim.Native.Nat.{ℕ, zero, suc, _%_, _≤_}
+use Prim.Native.Nat.{ℕ, zero, suc, _%_, _≤_, max}
 use native.Mathlib.Omega.{arith}
-use borrow.Author.Tests.{eqb-true, eqb-false, eq-eqb, ne-eqb}
-use lib.Dec.{eqb}
+use borrow.Author.Tests.{eqb-true, eqb-false, eq-eqb, ltb-true, ltb-false}
+use lib.Dec.{eqb, ltb}
 use lib.ListN.{length, getD}
 use Rattle.pauli.specs.Angle.{eighthsOf}
 use Rattle.arena.specs.Operations.{PbcOp, Rotate, Measure, ConditionalRotate, Malformed, NoKind, Pi8, Clifford, angleKind, axisKind}
@@ -37,3 +37,13 @@ or-done a b e = rw e
 
 pub or-on : (a b : Bool) → a ≡ false → b ≡ (a || b)
 or-on a b e = rw e
+
+-- ---- the larger of two, where one counts
+
+pub raise-more : (b : Bool) (k m : ℕ) → (b && ltb m k) ≡ true → k ≡ cond b (max k m) m
+raise-more true k m e = omega (arith, ltb-true m k e)
+raise-more false k m e = let z : _≡_ {A = ℕ} 0 1 = cc in absurd (omega arith)
+
+pub raise-same : (b : Bool) (k m : ℕ) → (b && ltb m k) ≡ false → m ≡ cond b (max k m) m
+raise-same true k m e = omega (arith, ltb-false m k e)
+raise-same false k m e = refl

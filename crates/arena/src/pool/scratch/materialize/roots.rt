@@ -1,11 +1,16 @@
 //! The roots of a walk: counted, shown in turn, released. What the private functions ask and promise: specs/Roots.antt.
 
+pub mod readers;
+pub mod weights;
+
+use crate::error::PbcError;
 use super::Evaluated;
 use super::add_use;
 use super::eval_root;
 use super::not_evaluated;
 use super::scan_uses;
 use crate::pool::cap_of;
+use crate::pool::clear;
 use crate::pool::give_back;
 use crate::pool::init;
 use crate::pool::letter_of;
@@ -20,15 +25,15 @@ use crate::pool::scratch::value_of;
 use crate::pool::scratch::zero_all;
 use crate::pool::wide;
 ghost use mathlib.Core.Path.{_≡_};
-ghost use mathlib.Core.List.{[], _∷_};
+ghost use mathlib.Core.List.{[], _∷_, _++_};
 ghost use Prim.Native.Nat.{_+_, _*_, _-_, _≤_, _<_};
-ghost use lib.ListN.{length};
+ghost use lib.ListN.{length, replicate, drop};
 ghost use Rattle.arena.specs.References.{nodeIn};
 ghost use Rattle.arena.specs.Nodes.{nodeAt};
 ghost use Rattle.arena.specs.Walk.{charge, begin as started, walkNodes};
-ghost use Rattle.arena.specs.PoolSteps.{capOf};
+ghost use Rattle.arena.specs.PoolSteps.{capOf, cleared};
 ghost use Rattle.arena.specs.WalkWords.{Says, Rooted, Ready, Showing, lettersWritten, CellReady, CellRead, ShowReady};
-ghost use Rattle.arena.specs.Roots.{Rootable, tallyOf, Begun, showRoot, RootShown, Releasable, Released};
+ghost use Rattle.arena.specs.Roots.{Rootable, tallyOf, Begun, showRoot, RootShown, Releasable, Released, walkError};
 
 // ---- the start
 
@@ -183,6 +188,27 @@ fn walk_root(
         return not_shown(st);
     }
     show_root(nodes, s, pool, count, limit, w, b.free, b.spare, b.work)
+}
+
+// ---- the end
+
+// The refusal that a status stands for.
+fn walk_error(status: usize) -> PbcError
+    ensures { λ r. ⌜ r ≡ walkError status ⌝ }
+{
+    if status == 17 {
+        return PbcError::ExpansionLimit;
+    }
+    PbcError::NoPool
+}
+
+// The first scratch words and every counted record are zero.
+fn wipe(s: &mut [u32], pool: &mut [u32], used: usize)
+    requires { ⌜ used ≤ length (now s) ⌝ }
+    ensures { λ _. ⌜ (now (s .exit) ≡ replicate used 0 ++ drop used (now (s .entry))) × (now (pool .exit) ≡ cleared (now (pool .entry))) ⌝ }
+{
+    zero_all(&mut s[..used]);
+    clear(pool);
 }
 
 // ---- letters
