@@ -50,13 +50,15 @@ from-more op i (suc k) =
 
 from-front : (op : ℕ → PbcOp) (k : ℕ) → axesTo op k ≡ axesFrom op 0 k
 from-front op zero = refl
-from-front op (suc k) = ap (λ (xs : List Weighed). xs ++ (weighedOf (op k) ∷ [])) (from-front op k) ∙ sym (from-more op 0 k)
+from-front op (suc k) =
+    let e : k ≡ 0 + k = omega arith in
+    ap₂ (λ (xs : List Weighed) (j : ℕ). xs ++ (weighedOf (op j) ∷ [])) (from-front op k) e ∙ sym (from-more op 0 k)
 
 words-more : (xs : List Weighed) (x : Weighed) → length (wordsOf (xs ++ (x ∷ []))) ≡ suc (length (wordsOf xs))
 words-more [] x = refl
 words-more (y ∷ xs) x = ap (λ (n : ℕ). suc n) (words-more xs x)
 
-axes-many : (op : ℕ → PbcOp) (k : ℕ) → length (wordsOf (axesTo op k)) ≡ k
+pub axes-many : (op : ℕ → PbcOp) (k : ℕ) → length (wordsOf (axesTo op k)) ≡ k
 axes-many op zero = refl
 axes-many op (suc k) = words-more (axesTo op k) (weighedOf (op k)) ∙ ap (λ (n : ℕ). suc n) (axes-many op k)
 
@@ -92,10 +94,7 @@ module _ (limit room : ℕ) (node : ℕ → PauliNode) (count : ℕ) where
       ∙ sym (bind-assoc (showRoot limit room node count (nodeIn (x .word)) s) rest (reported (x ∷ xs) m))
       ∙ ap (λ o. bind o (reported (x ∷ xs) m)) (sym (show-first limit room node count (x .word) (wordsOf xs) s))
     where
-      shownAs : State → Walked → Walked
-      shownAs t r = record { shown = turned (phaseIn (x .word)) (t .value (nodeIn (x .word))) ∷ r .shown; state = r .state }
-
-      abbrev rest : State → Out Walked
+      rest : State → Out Walked
       rest t = bind (showRoots limit room node count (wordsOf xs) (release (nodeIn (x .word)) t)) (λ r. fine (record { shown = turned (phaseIn (x .word)) (t .value (nodeIn (x .word))) ∷ r .shown; state = r .state }))
 
       step : (t : State) → weighRoots limit room node count xs (weigh (x .clifford) (size (t .value (nodeIn (x .word)))) m) (release (nodeIn (x .word)) t)
@@ -118,7 +117,7 @@ report-weighs limit room n count words xs =
     ∙ bind-assoc (startOf limit (nodeAt n words) count xs) (λ s. showRoots limit room (nodeAt n words) count (wordsOf xs) s) (λ r. fine (record { weights = largest xs (map size (r .shown)); work = r .state .work }))
     ∙ bind-same (startOf limit (nodeAt n words) count xs) _ _ (λ s. bind-same (showRoots limit room (nodeAt n words) count (wordsOf xs) s) _ _ (λ r. from-zero r (largest xs (map size (r .shown)))) ∙ sym (weigh-walk limit room (nodeAt n words) count xs (weightsOf 0 0) s))
   where
-    from-zero : (r : Walked) (l : Weights) → fine (record { weights = l; work = r .state .work }) ≡ fine (record { weights = both (weightsOf 0 0) l; work = r .state .work })
+    from-zero : (r : Walked) (l : Weights) → _≡_ {A = Out Report} (fine (record { weights = l; work = r .state .work })) (fine (record { weights = both (weightsOf 0 0) l; work = r .state .work }))
     from-zero r l =
         let e : l .nonClifford ≡ max 0 (l .nonClifford) = omega arith in
         let f : l .clifford ≡ max 0 (l .clifford) = omega arith in
@@ -283,7 +282,7 @@ module _ {h : Header} {words ops was pool : List ℕ} {limit free₀ have₀ wor
 
 -- ---- the whole walk
 
-module _ {h : Header} {words ops l : List ℕ} (f : Fit h words l) (named : AxesNamed h ops) (few : h .operations ≤ 65536) {l₁ : List ℕ} (e₁ : l₁ ≡ replicate (length l) 0) where
+module _ {h : Header} {words l : List ℕ} (ops : List ℕ) (f : Fit h words l) (named : AxesNamed h ops) (few : h .operations ≤ 65536) {l₁ : List ℕ} (e₁ : l₁ ≡ replicate (length l) 0) where
   pub blank-long : 4 * h .nodes ≤ length l₁
   blank-long = rw (e₁, length-replicate) (f .long)
 

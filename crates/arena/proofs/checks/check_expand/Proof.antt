@@ -35,7 +35,7 @@ refuse-if-requires-3 c κs = search needs
 
 returns : tie.Need-returns
 unfolding expandCheck
-returns c = 
+returns c =
     let r1 = c .before .before .before .before .before .refuse-if .ensures ∙ ap (λ b. Fine ⟫ b ⇒ BadStore) (c .before .before .before .before .before .before .bad-nodes .ensures) in
     let r2 = c .before .before .before .refuse-if2 .ensures ∙ ap₂ (λ k b. k ⟫ b ⇒ ForeignPauli) r1 (c .before .before .before .before .is-foreign .ensures) in
     c .refuse-if3 .ensures ∙ ap (λ k. k ⟫ ltb (c .before .before .before .before .before .before .before .before .args .scratch) (4 * c .before .before .before .before .before .before .before .before .args .header .nodes) || ltb (c .before .before .before .before .before .before .before .before .args .letters) (c .before .before .before .before .before .before .before .before .args .header .qubits) ⇒ NoScratch) r2

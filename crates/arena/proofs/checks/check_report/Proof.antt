@@ -29,7 +29,7 @@ refuse-if-requires-2 c κs = search needs
 
 returns : tie.Need-returns
 unfolding reportCheck
-returns c = 
+returns c =
     let r1 = c .before .before .refuse-if .ensures ∙ ap (λ b. Fine ⟫ b ⇒ BadStore) (ap₂ _||_ (c .before .before .before .before .bad-nodes .ensures) (c .before .before .before .bad-operations .ensures)) in
     c .refuse-if2 .ensures ∙ ap (λ k. k ⟫ ltb (c .before .before .before .before .before .before .before .args .scratch) (4 * c .before .before .before .before .before .before .before .args .header .nodes) ⇒ NoScratch) r1
 

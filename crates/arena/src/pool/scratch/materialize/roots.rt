@@ -3,12 +3,12 @@
 pub mod readers;
 pub mod weights;
 
-use crate::error::PbcError;
 use super::Evaluated;
 use super::add_use;
 use super::eval_root;
 use super::not_evaluated;
 use super::scan_uses;
+use crate::error::PbcError;
 use crate::pool::cap_of;
 use crate::pool::clear;
 use crate::pool::give_back;

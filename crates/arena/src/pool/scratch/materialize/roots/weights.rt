@@ -44,7 +44,11 @@ fn count_axes(header: Header, operations: &[u32], s: &mut [u32])
 fn raised(counts: bool, weight: usize, most: usize) -> usize
     ensures { λ r. ⌜ r ≡ cond counts (max weight most) most ⌝ }
 {
-    if counts & (most < weight) { weight } else { most }
+    if counts & (most < weight) {
+        weight
+    } else {
+        most
+    }
 }
 
 // Each axis is shown, weighed and released, in order.
@@ -112,7 +116,17 @@ fn report_walk(
     if st != 0 {
         return MaxAxisWeights::Refused(walk_error(st));
     }
-    weigh_axes(header, nodes, operations, s, pool, limit, b.free, b.spare, b.work)
+    weigh_axes(
+        header,
+        nodes,
+        operations,
+        s,
+        pool,
+        limit,
+        b.free,
+        b.spare,
+        b.work,
+    )
 }
 
 impl Header {

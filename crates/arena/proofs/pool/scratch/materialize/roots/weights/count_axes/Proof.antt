@@ -1,58 +1,49 @@
-use Rattle.arena.proofs.pool.scratch.materialize.roots.weights.count_axes.Statement.{
-  statement,
-}
+-- `count_axes` meets its contract: after i operations the uses of their axes are counted.
+use mathlib.Core.Path.{ap, _∙_}
+use Prim.Native.Nat.{_-_}
+use native.Mathlib.Omega.{arith}
+use borrow.Author.Needs.{needs}
+use Rattle.arena.specs.Expansion.{weighedOf}
+use Rattle.arena.specs.Roots.{Countable}
+use Rattle.arena.proofs.WeightWalks.{CountAt, count-begin, count-fits, count-turn, count-end}
+use Rattle.arena.proofs.pool.scratch.materialize.roots.weights.count_axes.Statement.{statement}
 use Rattle.arena.proofs.pool.scratch.materialize.roots.weights.count_axes.Tie as tie
-use Rattle.arena.proofs.pool.scratch.materialize.roots.weights.count_axes.Reads as reads
-use Rattle.arena.proofs.pool.scratch.materialize.roots.weights.count_axes.Lts as lts
-use Rattle.arena.proofs.pool.scratch.materialize.add_use.Reads as add-use-reads
-use Rattle.arena.proofs.stored.axis_word.Reads as axis-word-reads
-use Rattle.arena.proofs.stored.op_at.Reads as op-at-reads
 
 abbrev Inv-loop : tie.InvT-loop
-Inv-loop header operations s₀ total i₀ s i = ?
+Inv-loop header operations s₀ total i₀ s i = (g : Countable header operations s₀) → CountAt header operations s₀ s i
 
 abbrev μ-loop : tie.MeasureT-loop
-μ-loop header operations s₀ total i₀ s i = ?
+μ-loop header operations s₀ total i₀ s i = header .operations - i
 
--- src/pool/scratch/materialize/roots/weights.rt:35:5
 loop-holds : tie.Need-loop-holds Inv-loop μ-loop
-loop-holds c = ?
+loop-holds c = λ g. count-begin g
 
--- src/pool/scratch/materialize/roots/weights.rt:36:13
 op-at-requires : tie.Need-op-at-requires Inv-loop μ-loop
-op-at-requires c κs = ?
+op-at-requires c κs = search needs
 
--- src/pool/scratch/materialize/roots/weights.rt:37:17
 axis-word-requires : tie.Need-axis-word-requires Inv-loop μ-loop
-axis-word-requires c κs = ?
+axis-word-requires c κs = search needs
 
--- src/pool/scratch/materialize/roots/weights.rt:37:17
 cast-w : tie.Need-cast-w Inv-loop μ-loop
-cast-w c = ?
+cast-w c = search needs
 
--- src/pool/scratch/materialize/roots/weights.rt:38:9
 add-use-requires : tie.Need-add-use-requires Inv-loop μ-loop
-add-use-requires c κs = ?
+add-use-requires c κs = count-fits (c .before .before .before .before .before .before .before .pre) (c .before .before .before .before .loop .inv (c .before .before .before .before .before .before .before .pre)) (c .before .before .before .loop-test .taken) (c .before .axis-word .ensures ∙ ap (λ o. weighedOf o .word) (c .before .before .op-at .ensures))
 
--- src/pool/scratch/materialize/roots/weights.rt:39:9
 add-i : tie.Need-add-i Inv-loop μ-loop
-add-i c = ?
+add-i c = search needs
 
--- src/pool/scratch/materialize/roots/weights.rt:35:5
 loop-less : tie.Need-loop-less Inv-loop μ-loop
-loop-less c = ?
+loop-less c = omega (arith, c .before .before .before .before .before .before .loop-test .taken)
 
--- src/pool/scratch/materialize/roots/weights.rt:35:5
 loop-again : tie.Need-loop-again Inv-loop μ-loop
-loop-again c = ?
+loop-again c = λ g. count-turn g (c .before .before .before .before .before .before .before .loop .inv g) (c .before .before .before .before .before .before .loop-test .taken) (c .before .before .before .before .axis-word .ensures ∙ ap (λ o. weighedOf o .word) (c .before .before .before .before .before .op-at .ensures)) (c .before .before .add-use .ensures)
 
--- src/pool/scratch/materialize/roots/weights.rt:29:1
 same-length : tie.Need-same-length Inv-loop μ-loop
-same-length c = ?
+same-length c = (c .before .loop .inv (c .before .before .before .before .pre)) .long
 
--- src/pool/scratch/materialize/roots/weights.rt:29:1
 returns : tie.Need-returns Inv-loop μ-loop
-returns c = ?
+returns c = count-end (c .before .before .before .before .pre) (c .before .loop .inv (c .before .before .before .before .pre)) (c .loop-test .left)
 
 pub count-axes-spec : {M : Type 1} → statement M
 count-axes-spec =
