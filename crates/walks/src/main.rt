@@ -54,27 +54,38 @@ fn left(words: &[u32]) {
     number(words.len() as u64);
 }
 
-fn bytes(letters: &[u8; 4]) {
-    text(b" letters");
-    number(letters[0] as u64);
-    number(letters[1] as u64);
-    number(letters[2] as u64);
-    number(letters[3] as u64);
+fn letter(byte: u8) {
+    number(byte as u64);
 }
 
-// ---- the readers, with so many words of a pool, and of scratch
+fn bytes(letters: &[u8; 4]) {
+    text(b" letters");
+    letter(letters[0]);
+    letter(letters[1]);
+    letter(letters[2]);
+    letter(letters[3]);
+}
 
-fn expand(label: &[u8], h: Header, nodes: &[u32], word: u32, cells: usize, words: usize) {
+fn fill(words: &mut [u32]) {
+    let mut i = 0;
+    while i < words.len() {
+        words[i] = 7;
+        i += 1;
+    }
+}
+
+// ---- the readers
+
+fn expand(label: &[u8], h: Header, nodes: &[u32], word: u32, cells: usize, pool: &mut [u32]) {
     let mut letters = [7u8; 4];
     let mut scratch = [7u32; 29];
-    let mut pool = [7u32; 24];
-    let lent = if words < 24 { words } else { 24 };
+    fill(pool);
     text(label);
     match h.expand(
         nodes,
         &mut letters,
         &mut scratch,
-        &mut pool[..lent],
+        pool,
         reference(word),
         cells,
     ) {
@@ -87,22 +98,15 @@ fn expand(label: &[u8], h: Header, nodes: &[u32], word: u32, cells: usize, words
     }
     bytes(&letters);
     left(&scratch);
-    left(&pool);
+    left(pool);
     text(b"\n");
 }
 
-fn axis(label: &[u8], h: Header, nodes: &[u32], word: u32, limit: usize, words: usize) {
+fn axis(label: &[u8], h: Header, nodes: &[u32], word: u32, limit: usize, pool: &mut [u32]) {
     let mut scratch = [7u32; 17];
-    let mut pool = [7u32; 12];
-    let lent = if words < 12 { words } else { 12 };
+    fill(pool);
     text(label);
-    match h.hermitian_axis(
-        nodes,
-        &mut scratch,
-        &mut pool[..lent],
-        reference(word),
-        limit,
-    ) {
+    match h.hermitian_axis(nodes, &mut scratch, pool, reference(word), limit) {
         HermitianAxis::Made(made, work) => {
             text(b" ok");
             number(made.as_ref().word as u64);
@@ -111,7 +115,7 @@ fn axis(label: &[u8], h: Header, nodes: &[u32], word: u32, limit: usize, words: 
         HermitianAxis::Refused(e) => refused(e),
     }
     left(&scratch);
-    left(&pool);
+    left(pool);
     text(b"\n");
 }
 
@@ -120,22 +124,14 @@ fn weights(
     h: Header,
     nodes: &[u32],
     operations: &[u32],
+    scratch: &mut [u32],
     limit: usize,
-    words: usize,
-    used: usize,
+    pool: &mut [u32],
 ) {
-    let mut scratch = [7u32; 45];
-    let mut pool = [7u32; 24];
-    let lent = if words < 24 { words } else { 24 };
-    let work_in = if used < 45 { used } else { 45 };
+    fill(scratch);
+    fill(pool);
     text(label);
-    match h.max_axis_weights(
-        nodes,
-        operations,
-        &mut scratch[..work_in],
-        &mut pool[..lent],
-        limit,
-    ) {
+    match h.max_axis_weights(nodes, operations, scratch, pool, limit) {
         MaxAxisWeights::Made(non_clifford, clifford, work) => {
             text(b" ok");
             number(non_clifford as u64);
@@ -144,8 +140,8 @@ fn weights(
         }
         MaxAxisWeights::Refused(e) => refused(e),
     }
-    left(&scratch);
-    left(&pool);
+    left(scratch);
+    left(pool);
     text(b"\n");
 }
 
@@ -189,62 +185,174 @@ fn rotate(h: Header, operations: &mut [u32], word: u32, angle: i64) -> Header {
     }
 }
 
-// C: s, h, t on one qubit. The image of Z is -i times X Z, which is -Y. And L: X Z itself is no axis.
+// ---- the runs; a pool is named by its records
+
+// The image of Z is -i times X Z, which is -Y.
+fn circuit_c(h: Header, nodes: &[u32]) {
+    let mut three = [7u32; 10];
+    let mut two = [7u32; 8];
+    expand(b"C at 7", h, nodes, 15, 7, &mut three);
+    expand(b"C at 6", h, nodes, 15, 6, &mut three);
+    expand(b"C, 2 records", h, nodes, 15, 7, &mut two);
+    expand(b"C, no cells", h, nodes, 15, 0, &mut three);
+    expand(b"C, an unused node", h, nodes, 16, 7, &mut three);
+    axis(b"C as an axis", h, nodes, 15, 6, &mut three);
+}
+
+// X Z itself is no axis.
+fn circuit_l(h: Header, nodes: &[u32]) {
+    let mut three = [7u32; 10];
+    let mut two = [7u32; 8];
+    axis(b"L at 6", h, nodes, 12, 6, &mut three);
+    axis(b"L at 5", h, nodes, 12, 5, &mut three);
+    axis(b"L, 2 records", h, nodes, 12, 6, &mut two);
+}
+
+fn circuit_d(h: Header, nodes: &[u32]) {
+    let mut three = [7u32; 10];
+    let mut two = [7u32; 8];
+    expand(b"D at 9", h, nodes, 24, 9, &mut three);
+    expand(b"D at 8", h, nodes, 24, 8, &mut three);
+    expand(b"D, 2 records", h, nodes, 24, 9, &mut two);
+}
+
+fn circuit_i(h: Header, nodes: &[u32]) {
+    let mut none = [7u32; 0];
+    expand(b"I at 4", h, nodes, 0, 4, &mut none);
+    expand(b"I at 3", h, nodes, 0, 3, &mut none);
+}
+
+fn malformed_node(h: Header, nodes: &[u32]) {
+    let mut three = [7u32; 10];
+    expand(b"D, a malformed node", h, nodes, 24, 9, &mut three);
+}
+
+fn no_operations(h: Header, nodes: &[u32]) {
+    let mut none = [7u32; 0];
+    let mut scratch = [7u32; 45];
+    let operations = [7u32; 0];
+    weights(
+        b"no operations at 0",
+        h,
+        nodes,
+        &operations,
+        &mut scratch,
+        0,
+        &mut none,
+    );
+}
+
+fn circuit_f(h: Header, nodes: &[u32], operations: &[u32]) {
+    let mut seven = [7u32; 22];
+    let mut six = [7u32; 20];
+    let mut scratch = [7u32; 45];
+    let mut short = [7u32; 43];
+    weights(
+        b"F at 34",
+        h,
+        nodes,
+        operations,
+        &mut scratch,
+        34,
+        &mut seven,
+    );
+    weights(
+        b"F at 33",
+        h,
+        nodes,
+        operations,
+        &mut scratch,
+        33,
+        &mut seven,
+    );
+    weights(
+        b"F, 6 records",
+        h,
+        nodes,
+        operations,
+        &mut scratch,
+        34,
+        &mut six,
+    );
+    weights(
+        b"F, short scratch",
+        h,
+        nodes,
+        operations,
+        &mut short,
+        34,
+        &mut seven,
+    );
+}
+
+fn first_operation(label: &[u8], h: Header, nodes: &[u32], operations: &[u32]) {
+    let mut seven = [7u32; 22];
+    let mut scratch = [7u32; 45];
+    weights(label, h, nodes, operations, &mut scratch, 34, &mut seven);
+}
+
+// ---- what they run on
+
+// s, h, t on one qubit.
 fn one_qubit() {
     let mut nodes = [7u32; 8];
     let mut frame = [7u32; 2];
     let h = product(start(1, &mut nodes, &mut frame), &mut nodes, 4, 8);
-    expand(b"C at 7", h, &nodes, 15, 7, 9);
-    expand(b"C at 6", h, &nodes, 15, 6, 9);
-    expand(b"C, 2 records", h, &nodes, 15, 7, 8);
-    expand(b"C, no cells", h, &nodes, 15, 0, 9);
-    expand(b"C, an unused node", h, &nodes, 16, 7, 9);
-    axis(b"C as an axis", h, &nodes, 15, 6, 9);
-    axis(b"L at 6", h, &nodes, 12, 6, 9);
-    axis(b"L at 5", h, &nodes, 12, 5, 9);
-    axis(b"L, 2 records", h, &nodes, 12, 6, 8);
+    circuit_c(h, &nodes);
+    circuit_l(h, &nodes);
 }
 
-// D: cnot 0 1, t 1 on two qubits. And I: the identity.
+// cnot 0 1, t 1 on two qubits.
 fn two_qubits() {
     let mut nodes = [7u32; 14];
     let mut frame = [7u32; 4];
     let x = product(start(2, &mut nodes, &mut frame), &mut nodes, 4, 12);
     let h = product(x, &mut nodes, 8, 16);
-    expand(b"D at 9", h, &nodes, 24, 9, 9);
-    expand(b"D at 8", h, &nodes, 24, 8, 9);
-    expand(b"D, 2 records", h, &nodes, 24, 9, 8);
-    expand(b"I at 4", h, &nodes, 0, 4, 0);
-    expand(b"I at 3", h, &nodes, 0, 3, 0);
+    circuit_d(h, &nodes);
+    circuit_i(h, &nodes);
     nodes[12] = 3;
-    expand(b"D, a malformed node", h, &nodes, 24, 9, 9);
+    malformed_node(h, &nodes);
 }
 
-// F: ccx 0 1 2 on three qubits: seven rotations along Z0, Z1, X2 and their products.
+// The products of two that ccx 0 1 2 takes, on three qubits.
+fn pairs(h: Header, nodes: &mut [u32]) -> Header {
+    let ab = product(h, nodes, 8, 16);
+    let ad = product(ab, nodes, 8, 20);
+    product(ad, nodes, 16, 20)
+}
+
+// Its rotations along one operand each, and along two.
+fn single_rotations(h: Header, operations: &mut [u32]) -> Header {
+    let a = rotate(h, operations, 8, 1);
+    let b = rotate(a, operations, 16, 1);
+    rotate(b, operations, 20, 1)
+}
+
+fn pair_rotations(h: Header, operations: &mut [u32]) -> Header {
+    let ab = rotate(h, operations, 28, -1);
+    let ad = rotate(ab, operations, 32, -1);
+    rotate(ad, operations, 36, -1)
+}
+
+fn ccx_operations(h: Header, operations: &mut [u32]) -> Header {
+    let singles = single_rotations(h, operations);
+    let six = pair_rotations(singles, operations);
+    rotate(six, operations, 40, 1)
+}
+
 fn three_qubits() {
     let mut nodes = [7u32; 22];
     let mut frame = [7u32; 6];
     let mut operations = [7u32; 28];
-    let ab = product(start(3, &mut nodes, &mut frame), &mut nodes, 8, 16);
-    let ad = product(ab, &mut nodes, 8, 20);
-    let bd = product(ad, &mut nodes, 16, 20);
-    let abd = product(bd, &mut nodes, 28, 20);
-    weights(b"no operations at 0", abd, &nodes, &operations, 0, 0, 45);
-    let o1 = rotate(abd, &mut operations, 8, 1);
-    let o2 = rotate(o1, &mut operations, 16, 1);
-    let o3 = rotate(o2, &mut operations, 20, 1);
-    let o4 = rotate(o3, &mut operations, 28, -1);
-    let o5 = rotate(o4, &mut operations, 32, -1);
-    let o6 = rotate(o5, &mut operations, 36, -1);
-    let h = rotate(o6, &mut operations, 40, 1);
-    weights(b"F at 34", h, &nodes, &operations, 34, 21, 45);
-    weights(b"F at 33", h, &nodes, &operations, 33, 21, 45);
-    weights(b"F, 6 records", h, &nodes, &operations, 34, 20, 45);
-    weights(b"F, short scratch", h, &nodes, &operations, 34, 21, 43);
+    let three = pairs(start(3, &mut nodes, &mut frame), &mut nodes);
+    let empty = product(three, &mut nodes, 28, 20);
+    no_operations(empty, &nodes);
+    let h = ccx_operations(empty, &mut operations);
+    circuit_f(h, &nodes, &operations);
     operations[0] = 8;
-    weights(b"F, one angle even", h, &nodes, &operations, 34, 21, 45);
+    first_operation(b"F, one angle even", h, &nodes, &operations);
     operations[0] = 3;
-    weights(b"F, a malformed operation", h, &nodes, &operations, 34, 21, 45);
+    first_operation(b"F, a malformed operation", h, &nodes, &operations);
 }
 
 fn main() {
