@@ -37,6 +37,10 @@ pub mod WalkProducts
 pub mod PathSteps
 pub mod PathRuns
 pub mod RootWalks
+pub mod StoredWords
+pub mod Refusing
+pub mod ReaderWalks
+pub mod WeightWalks
 pub mod Cells
 pub mod Examples
 pub mod Theorems

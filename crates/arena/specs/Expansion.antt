@@ -8,13 +8,31 @@ use Rattle.pauli.specs.Letters.{pauliNumber}
 use Rattle.pauli.specs.Angle.{eighthsOf}
 use Rattle.arena.specs.Limits.{operationWords}
 use Rattle.arena.specs.Errors.{BadStore, ForeignPauli, NoScratch, Checked, Fine, Wrong, _⟫_⇒_}
-use Rattle.arena.specs.References.{PauliRef}
+use Rattle.arena.specs.References.{PauliRef, axisOf}
 use Rattle.arena.specs.Nodes.{PauliNode, Identity, Single, Product, Malformed, nodeAt}
-use Rattle.arena.specs.Operations.{PbcOp, Rotate, Measure, ConditionalRotate, decodeOp, Malformed as MalformedOp}
+use Rattle.arena.specs.Operations.{PbcOp, Rotate, Measure, ConditionalRotate, decodeOp, AxisKind, NoKind, Pi8, Clifford, Measurement, Malformed as MalformedOp}
 use Rattle.arena.specs.Store.{Header, breaksLimit, exceedsNodes, exceedsOperations, foreign, unknown}
 use Rattle.arena.specs.PoolSteps.{capOf, cleared}
 use Rattle.arena.specs.Walk.{Out, fine, refused}
 use Rattle.arena.specs.Readers.{Expanded, expandWalk, hermitianWalk, Weighed, Report, reportWalk}
+pub use Rattle.arena.specs.declared.expansion.Expansion.the-variants.{the-data as Expansion, Made as ExpansionMade, Refused as ExpansionRefused}
+pub use Rattle.arena.specs.declared.expansion.HermitianAxis.the-variants.{the-data as HermitianAxis, Made as HermitianMade, Refused as HermitianRefused}
+pub use Rattle.arena.specs.declared.expansion.MaxAxisWeights.the-variants.{the-data as MaxAxisWeights, Made as WeightsMade, Refused as WeightsRefused}
+
+-- ---- the answers of the calls
+
+abbrev pub expansionOf : Out Expanded → Expansion
+expansionOf (fine x) = ExpansionMade (x .row .phase) (x .work)
+expansionOf (refused e) = ExpansionRefused e
+
+-- the axis is the reference itself
+abbrev pub hermitianOf : PauliRef → Out ℕ → HermitianAxis
+hermitianOf r (fine work) = HermitianMade (axisOf r) work
+hermitianOf r (refused e) = HermitianRefused e
+
+abbrev pub maxWeightsOf : Out Report → MaxAxisWeights
+maxWeightsOf (fine x) = WeightsMade (x .weights .nonClifford) (x .weights .clifford) (x .work)
+maxWeightsOf (refused e) = WeightsRefused e
 
 -- ---- 3 BadStore, for a walk: a used node is malformed
 
@@ -106,7 +124,7 @@ hermitianCheck h nodes r scratch =
     ⟫ foreign h r ⇒ ForeignPauli
     ⟫ ltb scratch (4 * h .nodes) ⇒ NoScratch
 
--- the work; the axis is the reference itself
+-- the work
 unfoldable pub hermitianStep : Header → (nodes scratch pool : List ℕ) → PauliRef → (limit : ℕ) → WalkStep ℕ
 hermitianStep h nodes scratch pool r limit =
     walkBy (hermitianCheck h nodes r (length scratch)) (hermitianWalk limit (roomIn pool) (h .qubits) (h .nodes) nodes (r .word)) h scratch pool
@@ -116,7 +134,14 @@ abbrev pub weighedOf : PbcOp → Weighed
 weighedOf (Rotate x k) = record { word = x .0 .word; clifford = eqb (eighthsOf k % 2) 0 }
 weighedOf (Measure x m t) = record { word = x .0 .word; clifford = false }
 weighedOf (ConditionalRotate x k m) = record { word = x .0 .word; clifford = eqb (eighthsOf k % 2) 0 }
-weighedOf MalformedOp = record { word = 0; clifford = false }
+weighedOf MalformedOp = record { word = 0; clifford = true }
+
+-- the same by the kind of an operation's axis
+abbrev pub countsClifford : AxisKind → Bool
+countsClifford NoKind = true
+countsClifford Pi8 = false
+countsClifford Clifford = true
+countsClifford Measurement = false
 
 -- the axes of the first k operations, in order
 abbrev pub axesTo : (ℕ → PbcOp) → ℕ → List Weighed

@@ -10,10 +10,13 @@ use crate::op::MeasId;
 use crate::op::Target;
 use crate::pauli_ref::PauliAxis;
 use crate::pauli_ref::PauliRef;
+use crate::stored::bad_nodes;
+use crate::stored::bad_operations;
 use pauli::Pauli;
 ghost use mathlib.Core.Path.{_≡_};
 ghost use Rattle.arena.specs.Store.{targetBit, targetOutside};
 ghost use Rattle.arena.specs.Builder.{nodesFor, newCheck, singleCheck, productCheck, rotateCheck, measureCheck, conditionalCheck};
+ghost use Rattle.arena.specs.Expansion.{expandCheck, hermitianCheck, reportCheck};
 
 // The nodes that a letter adds.
 pub(crate) fn nodes_for(pauli: Pauli) -> u32
@@ -157,4 +160,52 @@ pub(crate) fn check_conditional(
             header.no_operation_room(operations, 1),
             PbcError::NoOperations,
         )
+}
+
+pub(crate) fn check_expand(
+    header: Header,
+    nodes: &[u32],
+    reference: PauliRef,
+    letters: usize,
+    scratch: usize,
+) -> Checked
+    ensures { λ r. ⌜ r ≡ expandCheck header (now (nodes .entry)) reference letters scratch ⌝ }
+{
+    Checked::Fine
+        .refuse_if(bad_nodes(header, nodes), PbcError::BadStore)
+        .refuse_if(header.is_foreign(reference), PbcError::ForeignPauli)
+        .refuse_if(
+            (scratch < 4 * (header.nodes as usize)) | (letters < (header.qubits as usize)),
+            PbcError::NoScratch,
+        )
+}
+
+pub(crate) fn check_hermitian(
+    header: Header,
+    nodes: &[u32],
+    reference: PauliRef,
+    scratch: usize,
+) -> Checked
+    ensures { λ r. ⌜ r ≡ hermitianCheck header (now (nodes .entry)) reference scratch ⌝ }
+{
+    Checked::Fine
+        .refuse_if(bad_nodes(header, nodes), PbcError::BadStore)
+        .refuse_if(header.is_foreign(reference), PbcError::ForeignPauli)
+        .refuse_if(scratch < 4 * (header.nodes as usize), PbcError::NoScratch)
+}
+
+pub(crate) fn check_report(
+    header: Header,
+    nodes: &[u32],
+    operations: &[u32],
+    scratch: usize,
+) -> Checked
+    ensures { λ r. ⌜ r ≡ reportCheck header (now (nodes .entry)) (now (operations .entry)) scratch ⌝ }
+{
+    Checked::Fine
+        .refuse_if(
+            bad_nodes(header, nodes) | bad_operations(header, operations),
+            PbcError::BadStore,
+        )
+        .refuse_if(scratch < 4 * (header.nodes as usize), PbcError::NoScratch)
 }

@@ -4,6 +4,7 @@
 mod builder;
 mod checks;
 mod error;
+mod expansion;
 mod header;
 mod limits;
 mod node;
@@ -11,6 +12,7 @@ mod op;
 mod pauli_ref;
 mod pool;
 mod stats;
+mod stored;
 
 pub use builder::Created;
 pub use builder::Measured;
@@ -20,6 +22,9 @@ pub use builder::Singled;
 pub use error::Checked;
 pub use error::PbcError;
 pub use error::Refusal;
+pub use expansion::Expansion;
+pub use expansion::HermitianAxis;
+pub use expansion::MaxAxisWeights;
 pub use header::Header;
 pub use limits::MAX_CBITS;
 pub use limits::MAX_NODES;

@@ -1,7 +1,7 @@
 //! The factor pool: a lent slice of records of three words, next, qubit and letter, in chains that rise by qubit; a next of 0 ends a chain.
 //! Record 0 is never lent: its next is where a chain in the making starts. What a chain and the free list are: specs/Pool.antt.
 
-pub mod materialize;
+pub mod scratch;
 
 use pauli::times_numbers;
 ghost use mathlib.Core.Path.{_≡_};

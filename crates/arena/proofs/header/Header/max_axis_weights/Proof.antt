@@ -1,0 +1,88 @@
+-- `Header::max_axis_weights` meets its contract, refused or not.
+use mathlib.Core.Path.{refl, sym, ap, _∙_}
+use Prim.Native.Nat.{ℕ, _-_, _*_}
+use native.Mathlib.Omega.{arith}
+use borrow.Author.Needs.{needs}
+use lib.ListN.{length}
+use Rattle.arena.specs.Readers.{reportWalk}
+use Rattle.arena.specs.Expansion.{maxWeightsOf, reportStep}
+use Rattle.arena.specs.Roots.{axesOf}
+use Rattle.arena.proofs.ReaderWalks.{part-long, fit-part, cap-fits, room-same, front-long, left-scratch, left-pool}
+use Rattle.arena.proofs.WeightWalks.{fits-report}
+use Rattle.arena.proofs.header.Header.max_axis_weights.Statement.{statement}
+use Rattle.arena.proofs.header.Header.max_axis_weights.Tie as tie
+
+check-report-requires : tie.Need-check-report-requires
+check-report-requires c κs = search needs
+
+enum-known-checked : tie.Need-enum-known-checked
+enum-known-checked c = search needs
+
+returns : tie.Need-returns
+unfolding reportStep
+returns c = rw (sym (c .before .before .before .check-report .ensures) ∙ c .before .checked .given .1) (refl, (refl, refl))
+
+enum-told : tie.Need-enum-told
+enum-told c = search needs
+
+cast-used : tie.Need-cast-used
+cast-used c = search needs
+
+mul-used : tie.Need-mul-used
+mul-used c = search needs
+
+cap-of-requires : tie.Need-cap-of-requires
+cap-of-requires c κs = search needs
+
+mul-counted : tie.Need-mul-counted
+mul-counted c = search needs
+
+slice-relend-prefix-report-walk : tie.Need-slice-relend-prefix-report-walk
+slice-relend-prefix-report-walk c = (fits-report (c .before .before .before .before .before .before .before .before .before .args .self) (c .before .before .before .before .before .before .before .before .before .args .nodes .now) (c .before .before .before .before .before .before .before .before .before .args .operations .now) (length (c .before .before .before .before .before .before .before .before .before .args .scratch .now)) (sym (c .before .before .before .before .check-report .ensures) ∙ c .before .before .enum-told .given .1)) .0 .scratch-long
+
+slice-aggregate-report-walk : tie.Need-slice-aggregate-report-walk
+slice-aggregate-report-walk c = sym (part-long (c .before .before .before .before .before .before .before .before .before .before .args .scratch .now) (4 * c .before .before .before .before .before .before .before .before .before .before .args .self .nodes) ((fits-report (c .before .before .before .before .before .before .before .before .before .before .args .self) (c .before .before .before .before .before .before .before .before .before .before .args .nodes .now) (c .before .before .before .before .before .before .before .before .before .before .args .operations .now) (length (c .before .before .before .before .before .before .before .before .before .before .args .scratch .now)) (sym (c .before .before .before .before .before .check-report .ensures) ∙ c .before .before .before .enum-told .given .1)) .0 .scratch-long))
+
+slice-relend-prefix-report-walk-2 : tie.Need-slice-relend-prefix-report-walk-2
+slice-relend-prefix-report-walk-2 c = search needs
+
+slice-aggregate-report-walk-2 : tie.Need-slice-aggregate-report-walk-2
+slice-aggregate-report-walk-2 c = sym (part-long (c .before .before .before .before .before .before .before .before .before .before .before .args .pool .now) (3 * c .before .before .cap-of .result) (cap-fits (c .before .before .before .before .before .before .before .before .before .before .before .args .pool .now) (c .before .before .cap-of .result) (c .before .before .cap-of .ensures)))
+
+report-walk-requires : tie.Need-report-walk-requires
+report-walk-requires c κs = let p = fits-report (c .before .before .before .before .before .before .before .before .before .before .before .args .self) (c .before .before .before .before .before .before .before .before .before .before .before .args .nodes .now) (c .before .before .before .before .before .before .before .before .before .before .before .args .operations .now) (length (c .before .before .before .before .before .before .before .before .before .before .before .args .scratch .now)) (sym (c .before .before .before .before .before .before .check-report .ensures) ∙ c .before .before .before .before .enum-told .given .1) in (fit-part (c .before .before .before .before .before .before .before .before .before .before .before .args .self) (c .before .before .before .before .before .before .before .before .before .before .before .args .nodes .now) (c .before .before .before .before .before .before .before .before .before .before .before .args .scratch .now) (4 * c .before .before .before .before .before .before .before .before .before .before .before .args .self .nodes) refl (p .0), p .1, p .0 .header .operations)
+
+wipe-requires : tie.Need-wipe-requires
+wipe-requires c κs = omega (arith, front-long (c .before .before .before .before .before .before .before .before .before .before .before .before .before .before .before .before .before .before .args .scratch .now) (c .before .before .before .before .before .before .report-walk .last .1 .1 .1 .0) (4 * c .before .before .before .before .before .before .before .before .before .before .before .before .before .before .before .before .before .before .args .self .nodes) ((fits-report (c .before .before .before .before .before .before .before .before .before .before .before .before .before .before .before .before .before .before .args .self) (c .before .before .before .before .before .before .before .before .before .before .before .before .before .before .before .before .before .before .args .nodes .now) (c .before .before .before .before .before .before .before .before .before .before .before .before .before .before .before .before .before .before .args .operations .now) (length (c .before .before .before .before .before .before .before .before .before .before .before .before .before .before .before .before .before .before .args .scratch .now)) (sym (c .before .before .before .before .before .before .before .before .before .before .before .before .before .check-report .ensures) ∙ c .before .before .before .before .before .before .before .before .before .before .before .enum-told .given .1)) .0 .scratch-long) (c .before .before .before .before .before .before .report-walk .kept .1 .1 .1 .0 ∙ part-long (c .before .before .before .before .before .before .before .before .before .before .before .before .before .before .before .before .before .before .args .scratch .now) (4 * c .before .before .before .before .before .before .before .before .before .before .before .before .before .before .before .before .before .before .args .self .nodes) ((fits-report (c .before .before .before .before .before .before .before .before .before .before .before .before .before .before .before .before .before .before .args .self) (c .before .before .before .before .before .before .before .before .before .before .before .before .before .before .before .before .before .before .args .nodes .now) (c .before .before .before .before .before .before .before .before .before .before .before .before .before .before .before .before .before .before .args .operations .now) (length (c .before .before .before .before .before .before .before .before .before .before .before .before .before .before .before .before .before .before .args .scratch .now)) (sym (c .before .before .before .before .before .before .before .before .before .before .before .before .before .check-report .ensures) ∙ c .before .before .before .before .before .before .before .before .before .before .before .enum-told .given .1)) .0 .scratch-long)), (fits-report (c .before .before .before .before .before .before .before .before .before .before .before .before .before .before .before .before .before .before .args .self) (c .before .before .before .before .before .before .before .before .before .before .before .before .before .before .before .before .before .before .args .nodes .now) (c .before .before .before .before .before .before .before .before .before .before .before .before .before .before .before .before .before .before .args .operations .now) (length (c .before .before .before .before .before .before .before .before .before .before .before .before .before .before .before .before .before .before .args .scratch .now)) (sym (c .before .before .before .before .before .before .before .before .before .before .before .before .before .check-report .ensures) ∙ c .before .before .before .before .before .before .before .before .before .before .before .enum-told .given .1)) .0 .scratch-long)
+
+same-length : tie.Need-same-length
+same-length c = search needs
+
+same-length-2 : tie.Need-same-length-2
+same-length-2 c = search needs
+
+returns-2 : tie.Need-returns-2
+unfolding reportStep
+returns-2 c = rw (sym (c .before .before .before .before .before .before .before .before .before .before .before .before .before .before .before .before .before .before .check-report .ensures) ∙ c .before .before .before .before .before .before .before .before .before .before .before .before .before .before .before .before .enum-told .given .1) (c .before .before .before .before .before .before .before .before .before .before .before .report-walk .ensures ∙ ap (λ (room : ℕ). maxWeightsOf (reportWalk (c .before .before .before .before .before .before .before .before .before .before .before .before .before .before .before .before .before .before .before .before .before .before .before .args .limit) room (c .before .before .before .before .before .before .before .before .before .before .before .before .before .before .before .before .before .before .before .before .before .before .before .args .self .qubits) (c .before .before .before .before .before .before .before .before .before .before .before .before .before .before .before .before .before .before .before .before .before .before .before .args .self .nodes) (c .before .before .before .before .before .before .before .before .before .before .before .before .before .before .before .before .before .before .before .before .before .before .before .args .nodes .now) (axesOf (c .before .before .before .before .before .before .before .before .before .before .before .before .before .before .before .before .before .before .before .before .before .before .before .args .self) (c .before .before .before .before .before .before .before .before .before .before .before .before .before .before .before .before .before .before .before .before .before .before .before .args .operations .now)))) (room-same (c .before .before .before .before .before .before .before .before .before .before .before .before .before .before .before .before .before .before .before .before .before .before .before .args .pool .now) (c .before .before .before .before .before .before .before .before .before .before .before .before .before .before .cap-of .result) (c .before .before .before .before .before .before .before .before .before .before .before .before .before .before .cap-of .ensures)), (left-scratch (c .before .before .before .before .before .before .before .before .before .before .before .before .before .before .before .before .before .before .before .before .before .before .before .args .self) (c .before .before .before .before .before .before .before .before .before .before .before .before .before .before .before .before .before .before .before .before .before .before .before .args .scratch .now) (c .before .before .before .before .before .before .before .before .before .before .before .report-walk .last .1 .1 .1 .0) (c .before .before .before .before .before .before .before .before .before .before .before .report-walk .kept .1 .1 .1 .0 ∙ part-long (c .before .before .before .before .before .before .before .before .before .before .before .before .before .before .before .before .before .before .before .before .before .before .before .args .scratch .now) (4 * c .before .before .before .before .before .before .before .before .before .before .before .before .before .before .before .before .before .before .before .before .before .before .before .args .self .nodes) ((fits-report (c .before .before .before .before .before .before .before .before .before .before .before .before .before .before .before .before .before .before .before .before .before .before .before .args .self) (c .before .before .before .before .before .before .before .before .before .before .before .before .before .before .before .before .before .before .before .before .before .before .before .args .nodes .now) (c .before .before .before .before .before .before .before .before .before .before .before .before .before .before .before .before .before .before .before .before .before .before .before .args .operations .now) (length (c .before .before .before .before .before .before .before .before .before .before .before .before .before .before .before .before .before .before .before .before .before .before .before .args .scratch .now)) (sym (c .before .before .before .before .before .before .before .before .before .before .before .before .before .before .before .before .before .before .check-report .ensures) ∙ c .before .before .before .before .before .before .before .before .before .before .before .before .before .before .before .before .enum-told .given .1)) .0 .scratch-long)) (c .before .before .before .before .wipe .ensures .0), left-pool (c .before .before .before .before .before .before .before .before .before .before .before .before .before .before .before .before .before .before .before .before .before .before .before .args .pool .now) (c .before .before .before .before .before .before .before .before .before .before .before .report-walk .last .1 .1 .1 .1 .0) (c .before .before .before .before .before .before .before .before .before .before .before .before .before .before .cap-of .result) (c .before .before .before .before .before .before .before .before .before .before .before .before .before .before .cap-of .ensures) (c .before .before .before .before .before .before .before .before .before .before .before .report-walk .kept .1 .1 .1 .1 .0 ∙ part-long (c .before .before .before .before .before .before .before .before .before .before .before .before .before .before .before .before .before .before .before .before .before .before .before .args .pool .now) (3 * c .before .before .before .before .before .before .before .before .before .before .before .before .before .before .cap-of .result) (cap-fits (c .before .before .before .before .before .before .before .before .before .before .before .before .before .before .before .before .before .before .before .before .before .before .before .args .pool .now) (c .before .before .before .before .before .before .before .before .before .before .before .before .before .before .cap-of .result) (c .before .before .before .before .before .before .before .before .before .before .before .before .before .before .cap-of .ensures))) (c .before .before .before .before .wipe .ensures .1)))
+
+pub max-axis-weights-spec : {M : Type 1} → statement M
+max-axis-weights-spec =
+    tie.close
+    (tie.spec
+    check-report-requires
+    enum-known-checked
+    returns
+    enum-told
+    cast-used
+    mul-used
+    cap-of-requires
+    mul-counted
+    slice-relend-prefix-report-walk
+    slice-aggregate-report-walk
+    slice-relend-prefix-report-walk-2
+    slice-aggregate-report-walk-2
+    report-walk-requires
+    wipe-requires
+    same-length
+    same-length-2
+    returns-2)

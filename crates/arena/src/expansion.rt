@@ -1,0 +1,23 @@
+//! What the readers of a circuit answer. Each is what was read and the work that it took, or why the call was refused.
+
+use crate::error::PbcError;
+use crate::pauli_ref::PauliAxis;
+use pauli::Phase;
+
+/// What `expand` answers: the phase and the work. The letters stand in the lent bytes.
+pub enum Expansion {
+    Made(Phase, usize),
+    Refused(PbcError),
+}
+
+/// What `hermitian_axis` answers: the reference as an axis, and the work.
+pub enum HermitianAxis {
+    Made(PauliAxis, usize),
+    Refused(PbcError),
+}
+
+/// What `max_axis_weights` answers: the largest weight of a non-Clifford axis, of a Clifford one, and the work.
+pub enum MaxAxisWeights {
+    Made(usize, usize, usize),
+    Refused(PbcError),
+}

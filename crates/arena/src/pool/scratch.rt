@@ -1,0 +1,104 @@
+//! The scratch words of a walk: four for each node, its uses left in two words, its value, and the link of the path that is being walked.
+//! What these words stand for: specs/WalkWords.antt.
+
+pub mod materialize;
+
+use super::wide;
+ghost use mathlib.Core.Path.{_≡_};
+ghost use Prim.Native.Nat.{_+_, _*_, _-_, _≤_, _<_};
+ghost use lib.ListN.{length, getD, set, replicate};
+ghost use Rattle.arena.specs.WalkWords.{field, usesAt, withUse, valueAt, packed, headIn, countIn, turnIn};
+
+// ---- the words of a node
+
+fn joined(low: u32, high: u32) -> usize
+    ensures { λ r. ⌜ r ≡ low + 4294967296 * high ⌝ }
+{
+    wide(low) + 4294967296 * wide(high)
+}
+
+fn use_of(s: &[u32], i: usize) -> usize
+    requires { ⌜ 4 * i + 1 < length (now s) ⌝ }
+    ensures { λ r. ⌜ r ≡ usesAt (now (s .entry)) i ⌝ }
+{
+    joined(s[4 * i], s[4 * i + 1])
+}
+
+fn set_use(s: &mut [u32], i: usize, v: usize)
+    requires { ⌜ 4 * i + 1 < length (now s) ⌝ }
+    ensures { λ _. ⌜ now (s .exit) ≡ withUse (now (s .entry)) i v ⌝ }
+{
+    s[4 * i] = (v % 4294967296) as u32;
+    s[4 * i + 1] = (v / 4294967296) as u32;
+}
+
+fn value_of(s: &[u32], i: usize) -> usize
+    requires { ⌜ 4 * i + 2 < length (now s) ⌝ }
+    ensures { λ r. ⌜ r ≡ valueAt (now (s .entry)) i ⌝ }
+{
+    wide(s[4 * i + 2])
+}
+
+fn set_value(s: &mut [u32], i: usize, head: usize, count: usize, phase: usize)
+    requires { ⌜ (head < 65536) × (count ≤ 256) × (phase < 4) × (4 * i + 2 < length (now s)) ⌝ }
+    ensures { λ _. ⌜ now (s .exit) ≡ set (now (s .entry)) (4 * i + 2) (packed head count phase) ⌝ }
+{
+    s[4 * i + 2] = (1 + 2 * (phase + 4 * (count + 512 * head))) as u32;
+}
+
+fn link_of(s: &[u32], i: usize) -> usize
+    requires { ⌜ 4 * i + 3 < length (now s) ⌝ }
+    ensures { λ r. ⌜ r ≡ field 3 (now (s .entry)) i ⌝ }
+{
+    wide(s[4 * i + 3])
+}
+
+fn set_link(s: &mut [u32], i: usize, v: usize)
+    requires { ⌜ (v < 4294967296) × (4 * i + 3 < length (now s)) ⌝ }
+    ensures { λ _. ⌜ now (s .exit) ≡ set (now (s .entry)) (4 * i + 3) v ⌝ }
+{
+    s[4 * i + 3] = v as u32;
+}
+
+// What a value's word says: its factors, its phase, and its first record.
+fn count_in(v: usize) -> usize
+    ensures { λ r. ⌜ r ≡ countIn v ⌝ }
+{
+    v / 8 % 512
+}
+
+fn phase_in(v: usize) -> usize
+    ensures { λ r. ⌜ r ≡ turnIn v ⌝ }
+{
+    v / 2 % 4
+}
+
+fn head_in(v: usize) -> usize
+    ensures { λ r. ⌜ r ≡ headIn v ⌝ }
+{
+    v / 4096
+}
+
+fn first_word(nodes: &[u32], i: usize) -> u32
+    requires { ⌜ 2 * i < length (now nodes) ⌝ }
+    ensures { λ r. ⌜ r ≡ getD (now (nodes .entry)) (2 * i) 0 ⌝ }
+{
+    nodes[2 * i]
+}
+
+fn second_word(nodes: &[u32], i: usize) -> u32
+    requires { ⌜ 2 * i + 1 < length (now nodes) ⌝ }
+    ensures { λ r. ⌜ r ≡ getD (now (nodes .entry)) (2 * i + 1) 0 ⌝ }
+{
+    nodes[2 * i + 1]
+}
+
+fn zero_all(s: &mut [u32])
+    ensures { λ _. ⌜ now (s .exit) ≡ replicate (length (now (s .entry))) 0 ⌝ }
+{
+    let mut i = 0;
+    while i < s.len() {
+        s[i] = 0;
+        i += 1;
+    }
+}

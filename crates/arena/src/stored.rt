@@ -1,0 +1,150 @@
+//! The stored words of a circuit, read entry by entry: whether a used one is malformed, and the axis of an operation.
+
+use crate::header::Header;
+use crate::limits::NODE_WORDS;
+use crate::limits::OPERATION_WORDS;
+use crate::node::PauliNode;
+use crate::op::AxisKind;
+use crate::op::PbcOp;
+ghost use mathlib.Core.Path.{_≡_};
+ghost use lib.ListN.{getD};
+ghost use Rattle.arena.specs.Nodes.{nodeAt};
+ghost use Rattle.arena.specs.Expansion.{isMalformed, anyMalformed, badNodes, opAt, isBadOp, anyBadOp, badOperations, weighedOf, countsClifford};
+
+// A word, or 0 past the end.
+fn word_at(words: &[u32], i: usize) -> u32
+    ensures { λ r. ⌜ r ≡ getD (now (words .entry)) i 0 ⌝ }
+{
+    if i < words.len() { words[i] } else { 0 }
+}
+
+// ---- nodes
+
+fn node_at(qubits: u32, nodes: &[u32], index: u32) -> PauliNode
+    ensures { λ r. ⌜ r ≡ nodeAt qubits (now (nodes .entry)) index ⌝ }
+{
+    let at = NODE_WORDS * (index as usize);
+    PauliNode::decode(qubits, index, word_at(nodes, at), word_at(nodes, at + 1))
+}
+
+fn is_malformed(node: PauliNode) -> bool
+    ensures { λ r. ⌜ r ≡ isMalformed node ⌝ }
+{
+    match node {
+        PauliNode::Identity => false,
+        PauliNode::Single(_, _) => false,
+        PauliNode::Product(_, _) => false,
+        PauliNode::Malformed => true,
+    }
+}
+
+// Whether one of the first nodes is malformed.
+fn any_malformed(qubits: u32, nodes: &[u32], count: u32) -> bool
+    ensures { λ r. ⌜ r ≡ anyMalformed (nodeAt qubits (now (nodes .entry))) count ⌝ }
+{
+    let mut any = false;
+    let mut i = 0;
+    while i < count {
+        any = any | is_malformed(node_at(qubits, nodes, i));
+        i += 1;
+    }
+    any
+}
+
+// Whether the header or a used node stands in the way of a walk. O(nodes).
+pub(crate) fn bad_nodes(header: Header, nodes: &[u32]) -> bool
+    ensures { λ r. ⌜ r ≡ badNodes header (now (nodes .entry)) ⌝ }
+{
+    if header.breaks_limit() | header.exceeds_nodes(nodes.len()) {
+        return true;
+    }
+    any_malformed(header.qubits, nodes, header.nodes)
+}
+
+// ---- operations
+
+pub(crate) fn op_at(header: Header, operations: &[u32], index: u32) -> PbcOp
+    ensures { λ r. ⌜ r ≡ opAt header (now (operations .entry)) index ⌝ }
+{
+    let at = OPERATION_WORDS * (index as usize);
+    PbcOp::decode(
+        header.owner,
+        header.cbits,
+        word_at(operations, at),
+        word_at(operations, at + 1),
+        word_at(operations, at + 2),
+        word_at(operations, at + 3),
+    )
+}
+
+// An operation that is malformed, or names an unused node or measurement.
+fn is_bad_op(header: Header, op: PbcOp) -> bool
+    ensures { λ r. ⌜ r ≡ isBadOp header op ⌝ }
+{
+    match op {
+        PbcOp::Rotate(axis, _) => header.is_foreign(axis.as_ref()),
+        PbcOp::Measure(axis, outcome, _) => {
+            header.is_foreign(axis.as_ref()) | header.is_unknown(outcome)
+        }
+        PbcOp::ConditionalRotate(axis, _, outcome) => {
+            header.is_foreign(axis.as_ref()) | header.is_unknown(outcome)
+        }
+        PbcOp::Malformed => true,
+    }
+}
+
+fn any_bad_op(header: Header, operations: &[u32]) -> bool
+    ensures { λ r. ⌜ r ≡ anyBadOp header (opAt header (now (operations .entry))) (header .operations) ⌝ }
+{
+    let mut any = false;
+    let mut i = 0;
+    while i < header.operations {
+        any = any | is_bad_op(header, op_at(header, operations, i));
+        i += 1;
+    }
+    any
+}
+
+// Whether a used operation stands in the way of a walk over operations. O(operations), for a header within its limits.
+pub(crate) fn bad_operations(header: Header, operations: &[u32]) -> bool
+    ensures { λ r. ⌜ r ≡ badOperations header (now (operations .entry)) ⌝ }
+{
+    if header.exceeds_operations(operations.len()) {
+        return true;
+    }
+    any_bad_op(header, operations)
+}
+
+// The word of an operation's axis.
+pub(crate) fn axis_word(op: PbcOp) -> u32
+    ensures { λ r. ⌜ r ≡ weighedOf op .word ⌝ }
+{
+    match op {
+        PbcOp::Rotate(axis, _) => axis.as_ref().word,
+        PbcOp::Measure(axis, _, _) => axis.as_ref().word,
+        PbcOp::ConditionalRotate(axis, _, _) => axis.as_ref().word,
+        PbcOp::Malformed => 0,
+    }
+}
+
+fn is_clifford(kind: AxisKind) -> bool
+    ensures { λ r. ⌜ r ≡ countsClifford kind ⌝ }
+{
+    match kind {
+        AxisKind::None => true,
+        AxisKind::Pi8 => false,
+        AxisKind::Clifford => true,
+        AxisKind::Measurement => false,
+    }
+}
+
+// Whether the weight report counts the operation as Clifford: a rotation of angle 0, which has no axis kind, is counted so too.
+pub(crate) fn counts_as_clifford(op: PbcOp) -> bool
+    ensures { λ r. ⌜ r ≡ weighedOf op .clifford ⌝ }
+{
+    let kind = AxisKind::of(op);
+    let AxisKind::None = kind else {
+        return is_clifford(kind);
+    };
+    true
+}
