@@ -2,7 +2,7 @@
 use mathlib.Core.Path.{_≡_, refl, ap, ap₂, sym, _∙_, subst}
 use mathlib.Core.Logic.{_≢_}
 use mathlib.Core.Bool.{Bool, true, false, cond, _||_}
-use mathlib.Core.List.{List, [], _∷_, _++_, map}
+use mathlib.Core.List.{List, [], _∷_, _++_}
 use Prim.Native.Nat.{ℕ, zero, suc, _+_, _*_, _-_, _%_, _≤_, _<_}
 use native.Mathlib.Nat.{not-suc-le-zero}
 use native.Mathlib.Omega.{arith}
@@ -12,18 +12,18 @@ use lib.ListN.{length, take, drop, replicate, length-take, length-drop, length-a
 use Rattle.pauli.specs.Letters.{power, phaseNumber, real}
 use Rattle.pauli.proofs.Numbers.{phaseNumber-small}
 use Rattle.arena.specs.Types.{I, Phase, One, PlusI, MinusOne, MinusI}
-use Rattle.arena.specs.Errors.{ExpansionLimit, NonHermitianAxis, Checked, Fine}
-use Rattle.arena.specs.References.{PauliRef, nodeIn, axisOf}
-use Rattle.arena.specs.Nodes.{PauliNode, Identity, Single, Product, Malformed, nodeAt}
-use Rattle.arena.specs.Store.{Header, breaksLimit, exceedsNodes, foreign}
+use Rattle.arena.specs.Errors.{ExpansionLimit, NonHermitianAxis, Fine}
+use Rattle.arena.specs.References.{PauliRef, nodeIn}
+use Rattle.arena.specs.Nodes.{PauliNode, Malformed, nodeAt}
+use Rattle.arena.specs.Store.{Header, breaksLimit, exceedsNodes}
 use Rattle.arena.specs.Sparse.{Factor, Sparse, spread, dense}
 use Rattle.arena.specs.Walk.{Out, fine, refused, bind, Walked, walkNodes, answerOf, walk}
 use Rattle.arena.specs.Readers.{firstOf, Expanded, expandWalk, hermitianWalk}
 use Rattle.arena.specs.PoolSteps.{capOf, cleared}
 use Rattle.arena.specs.WalkWords.{Says, Ready, Showing, ShowReady, bytes, lettersWritten}
-use Rattle.arena.specs.Expansion.{expansionOf, ExpansionMade, hermitianOf, HermitianMade, isMalformed, anyMalformed, badNodes, lettersLeft, scratchLeft, expandCheck, hermitianCheck}
+use Rattle.arena.specs.Expansion.{expansionOf, ExpansionMade, isMalformed, anyMalformed, badNodes, lettersLeft, scratchLeft, expandCheck, hermitianCheck}
 use Rattle.arena.specs.Roots.{Fit, walkError}
-use Rattle.arena.proofs.Accepted.{passed-before, test-passed, left-false, right-false, Sound, sound, Own, own}
+use Rattle.arena.proofs.Accepted.{passed-before, test-passed, left-false, right-false, Sound, sound, own}
 use Rattle.arena.proofs.Refusing.{known-walk, refused-as}
 use Rattle.arena.proofs.WalkMoves.{agrees-fine}
 

@@ -5,7 +5,7 @@ use mathlib.Core.List.{List, [], _∷_}
 use Prim.Native.Nat.{ℕ, zero, suc, _+_, min}
 use lib.Dec.{leb, eqb}
 use lib.ListN.{length}
-use Rattle.arena.specs.Errors.{PbcError, ExpansionLimit, NoPool, refusalIn}
+use Rattle.arena.specs.Errors.{ExpansionLimit, NoPool, refusalIn}
 use Rattle.arena.specs.References.{nodeIn, phaseIn}
 use Rattle.arena.specs.Nodes.{PauliNode, Identity, Single, Product, Malformed}
 use Rattle.arena.specs.Sparse.{Sparse, turned, size}

@@ -8,14 +8,14 @@ use borrow.Author.Tests.{le-leb, lt-leb, eq-eqb, ne-eqb}
 use lib.Dec.{eqb}
 use lib.ListN.{length, getD, replicate, length-replicate}
 use Rattle.pauli.specs.Letters.{power}
-use Rattle.arena.specs.Errors.{PbcError, ExpansionLimit}
+use Rattle.arena.specs.Errors.{ExpansionLimit}
 use Rattle.arena.specs.References.{nodeIn, phaseIn}
 use Rattle.arena.specs.Nodes.{PauliNode, nodeAt}
-use Rattle.arena.specs.Sparse.{Factor, Sparse, turned, size}
-use Rattle.arena.specs.Walk.{Out, fine, refused, bind, update, State, Walked, Counted, rootUses, scan, worked, charge, less, giveBack, release, eval, showRoots, begin, walkNodes}
-use Rattle.arena.specs.Pool.{Who, spare, Chain, Free}
+use Rattle.arena.specs.Sparse.{Sparse, turned, size}
+use Rattle.arena.specs.Walk.{Out, fine, refused, bind, update, State, Walked, rootUses, scan, worked, charge, less, giveBack, release, eval, showRoots, begin, walkNodes}
+use Rattle.arena.specs.Pool.{spare, Free}
 use Rattle.arena.specs.PoolSteps.{AllFree, capOf, Holding, GivenBack}
-use Rattle.arena.specs.WalkWords.{Inv, none, kept, usesAt, withUse, valueAt, headIn, countIn, turnIn, Marks, ValuesKept, Uses, Counting, CountedUp, Agrees, Says, Rep, Stands, Walking, Rooted, Ready, Showing}
+use Rattle.arena.specs.WalkWords.{Inv, none, kept, usesAt, withUse, valueAt, headIn, countIn, turnIn, Marks, ValuesKept, Counting, CountedUp, Agrees, Says, Stands, Walking, Rooted, Ready, Showing}
 use Rattle.arena.specs.Roots.{Rootable, tallyOf, Begun, showRoot, RootShown, Releasable, Released}
 use Rattle.arena.proofs.Outcomes.{post-fine, bind-assoc, update-same}
 use Rattle.arena.proofs.Fitting.{node-fits}

@@ -1,7 +1,6 @@
 -- The weight report in words: the axes counted, then each shown, weighed and released.
 use mathlib.Core.Path.{_≡_, refl, ap, ap₂, sym, _∙_, subst}
-use mathlib.Core.Logic.{_≢_}
-use mathlib.Core.Bool.{Bool, true, false, cond, not, _||_}
+use mathlib.Core.Bool.{Bool, true, false, cond, not}
 use mathlib.Core.List.{List, [], _∷_, _++_, map}
 use Prim.Native.Nat.{ℕ, zero, suc, _+_, _*_, _-_, _≤_, _<_, max}
 use native.Mathlib.Nat.{not-suc-le-zero}
@@ -9,19 +8,19 @@ use native.Mathlib.Numerals.{add-one}
 use native.Mathlib.Omega.{arith}
 use borrow.Author.Tests.{ltb-true, ltb-false}
 use lib.Dec.{ltb}
-use lib.ListN.{length, getD, replicate, length-replicate}
-use Rattle.arena.specs.Errors.{Checked, Fine}
+use lib.ListN.{length, replicate, length-replicate}
+use Rattle.arena.specs.Errors.{Fine}
 use Rattle.arena.specs.References.{nodeIn, phaseIn}
 use Rattle.arena.specs.Nodes.{PauliNode, nodeAt}
 use Rattle.arena.specs.Operations.{PbcOp, Rotate, Measure, ConditionalRotate, Malformed}
-use Rattle.arena.specs.Store.{Header, exceedsOperations, foreign, unknown}
-use Rattle.arena.specs.Sparse.{Sparse, turned, size}
-use Rattle.arena.specs.Walk.{Out, fine, refused, bind, State, Walked, rootUses, plusOne, scan, charge, begin, release, showRoots, walkNodes, answerOf, walk}
+use Rattle.arena.specs.Store.{Header, exceedsOperations, foreign}
+use Rattle.arena.specs.Sparse.{turned, size}
+use Rattle.arena.specs.Walk.{Out, fine, refused, bind, State, Walked, rootUses, scan, charge, begin, release, showRoots, walkNodes, answerOf, walk}
 use Rattle.arena.specs.Readers.{Weighed, Weights, weigh, largest, wordsOf, Report, reportWalk}
 use Rattle.arena.specs.PoolSteps.{capOf}
-use Rattle.arena.specs.WalkWords.{Inv, none, edge, usesAt, withUse, valueAt, Uses, Says, Rep, Rooted}
-use Rattle.arena.specs.Expansion.{maxWeightsOf, WeightsMade, WeightsRefused, opAt, isBadOp, anyBadOp, badNodes, badOperations, weighedOf, axesTo, reportCheck}
-use Rattle.arena.specs.Roots.{Rootable, tallyOf, Begun, showRoot, RootShown, Releasable, Released, walkError, Fit, axisAt, axesOf, AxesNamed, Countable, AxesCounted, weighRoots, weightsOf, Resting, Weighing}
+use Rattle.arena.specs.WalkWords.{Inv, none, edge, usesAt, withUse, valueAt, Uses, Says, Rooted}
+use Rattle.arena.specs.Expansion.{maxWeightsOf, WeightsMade, WeightsRefused, opAt, isBadOp, anyBadOp, badNodes, weighedOf, axesTo, reportCheck}
+use Rattle.arena.specs.Roots.{Rootable, Begun, showRoot, RootShown, Releasable, Released, walkError, Fit, axisAt, axesOf, AxesNamed, Countable, AxesCounted, weighRoots, weightsOf, Resting, Weighing}
 use Rattle.arena.proofs.Outcomes.{bind-assoc}
 use Rattle.arena.proofs.Fitting.{node-fits}
 use Rattle.arena.proofs.Uses.{plus-edge}

@@ -4,7 +4,7 @@ use mathlib.Core.Path.{_≡_}
 use mathlib.Core.Logic.{_≢_}
 use mathlib.Core.Bool.{true, cond}
 use mathlib.Core.List.{List, [], _∷_}
-use Prim.Native.Nat.{ℕ, zero, suc, _+_, _*_, _-_, _≤_, _<_}
+use Prim.Native.Nat.{ℕ, _*_, _-_, _≤_, _<_}
 use lib.Dec.{eqb}
 use lib.ListN.{length, getD}
 use Rattle.pauli.specs.Letters.{phaseNumber}
@@ -13,7 +13,7 @@ use Rattle.arena.specs.References.{nodeIn, phaseIn}
 use Rattle.arena.specs.Nodes.{PauliNode, Malformed, nodeAt}
 use Rattle.arena.specs.Store.{Header}
 use Rattle.arena.specs.Sparse.{turned, size}
-use Rattle.arena.specs.Walk.{Out, fine, bind, State, Counted, rootUses, scan, charge, eval, begin, release}
+use Rattle.arena.specs.Walk.{Out, fine, bind, State, Counted, rootUses, scan, charge, eval, release}
 use Rattle.arena.specs.Pool.{Who}
 use Rattle.arena.specs.WalkWords.{Inv, none, valueAt, headIn, Uses, Rep, Rooted}
 use Rattle.arena.specs.Readers.{Weighed, Weights, weigh, wordsOf, Report}

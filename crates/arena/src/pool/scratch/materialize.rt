@@ -19,59 +19,13 @@ use crate::pool::multiply;
 use crate::pool::single;
 use crate::pool::wide;
 ghost use mathlib.Core.Path.{_≡_};
-ghost use Prim.Native.Nat.{_+_, _*_, _-_, _≤_, _<_, min};
-ghost use lib.ListN.{length};
+ghost use Prim.Native.Nat.{_+_, _-_, _≤_, _<_, min};
 ghost use Rattle.pauli.specs.Letters.{pauliOf};
 ghost use Rattle.arena.specs.Nodes.{nodeAt};
 ghost use Rattle.arena.specs.Sparse.{one};
 ghost use Rattle.arena.specs.Walk.{fine, bind, lend, finish, takeUse, combine, eval};
 ghost use Rattle.arena.specs.Machine.{step};
-ghost use Rattle.arena.specs.WalkWords.{usesAt, withUse, ValuesKept, Visiting, Visited, Counting, CountedUp, LinksKept, Says, Stands, Takeable, TookRep, Combining, Making, Topped, Branched, Started, Landed, Rooted};
-
-// ---- uses
-
-fn add_use(s: &mut [u32], i: usize)
-    requires { ⌜ (4 * i + 1 < length (now s)) × (usesAt (now s) i < 18446744073709551615) ⌝ }
-    ensures { λ _. ⌜ now (s .exit) ≡ withUse (now (s .entry)) i (usesAt (now (s .entry)) i + 1) ⌝ }
-{
-    let u = use_of(s, i);
-    set_use(s, i, u + 1);
-}
-
-// A node with a use is reachable, and uses its children: 1 for such a node.
-fn count_node(nodes: &[u32], s: &mut [u32], k: usize) -> usize
-    requires { ⌜ Visiting (now nodes) (now s) k ⌝ }
-    ensures { λ r. ⌜ ((g : Visiting (now (nodes .entry)) (now (s .entry)) k) → Visited g (now (s .exit)) r) ⌝ }
-    ensures { λ _. ⌜ ValuesKept (now (s .entry)) (now (s .exit)) ⌝ }
-{
-    let u = use_of(s, k);
-    if u == 0 {
-        return 0;
-    }
-    let a = first_word(nodes, k);
-    if a % 4 != 2 {
-        return 1;
-    }
-    let b = second_word(nodes, k);
-    add_use(s, wide(a / 4) / 4);
-    add_use(s, wide(b) / 4);
-    1
-}
-
-// Uses are counted from the top index down; the nodes reached are returned.
-fn scan_uses(nodes: &[u32], s: &mut [u32], count: usize) -> usize
-    requires { ⌜ Counting (now nodes) (now s) count ⌝ }
-    ensures { λ r. ⌜ ((g : Counting (now (nodes .entry)) (now (s .entry)) count) → CountedUp g (now (s .exit)) r) ⌝ }
-    ensures { λ r. ⌜ ValuesKept (now (s .entry)) (now (s .exit)) × (r ≤ count) ⌝ }
-{
-    let mut k = count;
-    let mut reached = 0;
-    while k != 0 {
-        k -= 1;
-        reached += count_node(nodes, s, k);
-    }
-    reached
-}
+ghost use Rattle.arena.specs.WalkWords.{LinksKept, Says, Stands, Takeable, TookRep, Combining, Making, Topped, Branched, Started, Landed, Rooted};
 
 // ---- values
 

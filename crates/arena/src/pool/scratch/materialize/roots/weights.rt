@@ -10,7 +10,7 @@ use crate::error::Checked;
 use crate::expansion::MaxAxisWeights;
 use crate::header::Header;
 use crate::pool::cap_of;
-use crate::pool::scratch::materialize::add_use;
+use crate::pool::scratch::add_use;
 use crate::pool::scratch::zero_all;
 use crate::stored::axis_word;
 use crate::stored::counts_as_clifford;

@@ -3,8 +3,8 @@ use mathlib.Core.Path.{ap, _∙_}
 use Prim.Native.Nat.{ℕ, _+_}
 use native.Mathlib.Omega.{arith}
 use Rattle.arena.specs.WalkWords.{withUse}
-use Rattle.arena.proofs.pool.scratch.materialize.add_use.Statement.{statement}
-use Rattle.arena.proofs.pool.scratch.materialize.add_use.Tie as tie
+use Rattle.arena.proofs.pool.scratch.add_use.Statement.{statement}
+use Rattle.arena.proofs.pool.scratch.add_use.Tie as tie
 
 use-of-requires : tie.Need-use-of-requires
 use-of-requires c κs = c .before .before .pre .0

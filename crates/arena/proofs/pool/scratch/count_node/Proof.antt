@@ -4,8 +4,8 @@ use native.Mathlib.Omega.{arith}
 use borrow.Author.Needs.{needs}
 use Rattle.arena.proofs.ScratchWords.{values-use, values-same, values-then}
 use Rattle.arena.proofs.UsesInWords.{visit-room, visit-words, visit-none, visit-leaf, left-fits, right-fits, visit-product}
-use Rattle.arena.proofs.pool.scratch.materialize.count_node.Statement.{statement}
-use Rattle.arena.proofs.pool.scratch.materialize.count_node.Tie as tie
+use Rattle.arena.proofs.pool.scratch.count_node.Statement.{statement}
+use Rattle.arena.proofs.pool.scratch.count_node.Tie as tie
 
 use-of-requires : tie.Need-use-of-requires
 use-of-requires c κs = visit-room (c .before .before .before .pre)

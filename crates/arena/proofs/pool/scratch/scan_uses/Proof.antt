@@ -2,8 +2,8 @@
 use native.Mathlib.Omega.{arith}
 use Rattle.arena.specs.WalkWords.{Counting}
 use Rattle.arena.proofs.UsesInWords.{Scanning, scan-begin, scan-end, visiting, scan-turn, one-more}
-use Rattle.arena.proofs.pool.scratch.materialize.scan_uses.Statement.{statement}
-use Rattle.arena.proofs.pool.scratch.materialize.scan_uses.Tie as tie
+use Rattle.arena.proofs.pool.scratch.scan_uses.Statement.{statement}
+use Rattle.arena.proofs.pool.scratch.scan_uses.Tie as tie
 
 abbrev Inv-loop : tie.InvT-loop
 Inv-loop nodes s₀ count k₀ reached₀ s k reached = (g : Counting nodes s₀ count) → Scanning g s k reached
