@@ -1,0 +1,209 @@
+-- Under a cap no axis with an odd angle, and no measured one, has more letters other than I than the cap.
+use mathlib.Core.Path.{_≡_, refl}
+use mathlib.Core.Bool.{Bool, true, false, cond, _||_, _&&_}
+use mathlib.Core.List.{List, [], _∷_, _++_, map}
+use Prim.Native.Nat.{ℕ, suc, _+_, _%_, _≤_, _<_}
+use native.Mathlib.Omega.{arith}
+use borrow.Author.Tests.{ltb-false, leb-false, eqb-false}
+use lib.Dec.{ltb, leb, eqb}
+use Rattle.pauli.specs.Letters.{real, _·_}
+use Rattle.pauli.specs.Rows.{Row, products, _★_, single, tally, present, weight}
+use Rattle.pauli.specs.Gates.{Gate, AllValid, back}
+use Rattle.pauli.specs.Rotations.{Rotation, Each, flush}
+use Rattle.pauli.proofs.Weight.{weight-single, flush-light}
+use Rattle.arena.proofs.Accepted.{left-false, right-false}
+use Rattle.convert.specs.Types.{Pauli, I, X, Y, Z, Target, Bit}
+use Rattle.convert.specs.Records.{GateKind, KindH, KindX, KindZ, KindS, KindSdg, KindT, KindTdg, KindCnot, KindCz, KindCcx, KindCcz, KindMeasure, KindY, KindSx, KindSwap, KindCy, Unsupported, Cap, NoCap, AtMost, Record, kindOf, Elementary, clifford, elT, elTdg, elCcx, elCcz, elMeasure, lowerAs, lower, placedFrom, lowerFrom, bare, Proper, AllProper}
+use Rattle.convert.specs.Plain.{Operation, anyAbove, seven, asRotation}
+use Rattle.convert.specs.Paper.{Paper, axes, tooHeavy, sevenAngles, rotateAll, measureFirst, writes, paperPerform, paperFlushed, paperStep, paperRun, paperBegin}
+use Rattle.convert.specs.Paper as paper
+use Rattle.convert.specs.Conversion.{isDoubly, anyDoubly, capTooSmall}
+use Rattle.convert.specs.Statement.{AllWithin, Capped}
+use Rattle.convert.proofs.Meaning.{map-append, valid-append}
+use Rattle.convert.proofs.Accepting.{bare-placed}
+
+-- ---- weights
+
+tally-most : (b : Bool) (k : ℕ) → tally b k ≤ suc k
+tally-most true k = omega arith
+tally-most false k = omega arith
+
+tally-least : (b : Bool) (k : ℕ) → k ≤ tally b k
+tally-least true k = omega arith
+tally-least false k = omega arith
+
+tally-product : (a b : Pauli) (x y z : ℕ) → x ≤ y + z → tally (present (a · b)) x ≤ tally (present a) y + tally (present b) z
+tally-product I b x y z h = go (present b)
+  where
+    go : (c : Bool) → tally c x ≤ y + tally c z
+    go true = omega arith
+    go false = h
+tally-product X b x y z h = omega (arith, tally-most (present (X · b)) x, tally-least (present b) z)
+tally-product Y b x y z h = omega (arith, tally-most (present (Y · b)) x, tally-least (present b) z)
+tally-product Z b x y z h = omega (arith, tally-most (present (Z · b)) x, tally-least (present b) z)
+
+weight-products : (us vs : List Pauli) → weight (products us vs) ≤ weight us + weight vs
+weight-products [] vs = omega arith
+weight-products (a ∷ us) [] = omega arith
+weight-products (a ∷ us) (b ∷ vs) = tally-product a b _ (weight us) (weight vs) (weight-products us vs)
+
+abbrev UpTo : ℕ → List Row → Type 0
+UpTo cap [] = Unit {0}
+UpTo cap (P ∷ Ps) = (weight (P .letters) ≤ cap) × UpTo cap Ps
+
+not-above : (cap : ℕ) (Ps : List Row) → anyAbove cap Ps ≡ false → UpTo cap Ps
+not-above cap [] e = tt
+not-above cap (P ∷ Ps) e = (ltb-false _ _ (left-false (ltb cap (weight (P .letters))) _ e), not-above cap Ps (right-false (ltb cap (weight (P .letters))) _ e))
+
+seven-light : (cap n a b d : ℕ) (l : Pauli) → 3 ≤ cap → UpTo cap (seven (single n a Z) (single n b Z) (single n d l))
+seven-light cap n a b d l h = (one a Z, (one b Z, (one d l, (two a b Z Z, (two a d Z l, (two b d Z l, (three, tt)))))))
+  where
+    one : (q : ℕ) (x : Pauli) → weight (single n q x .letters) ≤ cap
+    one q x = omega (arith, weight-single n q x)
+
+    pair : (q r : ℕ) (x y : Pauli) → weight ((single n q x ★ single n r y) .letters) ≤ 2
+    pair q r x y = omega (arith, weight-products (single n q x .letters) (single n r y .letters), weight-single n q x, weight-single n r y)
+
+    two : (q r : ℕ) (x y : Pauli) → weight ((single n q x ★ single n r y) .letters) ≤ cap
+    two q r x y = omega (arith, pair q r x y)
+
+    three : weight ((single n a Z ★ single n b Z ★ single n d l) .letters) ≤ cap
+    three = omega (arith, weight-products ((single n a Z ★ single n b Z) .letters) (single n d l .letters), pair a b Z Z, weight-single n d l)
+
+-- ---- a cap that serves
+
+-- the cap bears the products of a gate where no gate is pending
+abbrev Borne : ℕ → Elementary → Type 0
+Borne cap (clifford g) = Unit {0}
+Borne cap (elT q) = 0 < cap
+Borne cap (elTdg q) = 0 < cap
+Borne cap (elCcx a b d) = 2 < cap
+Borne cap (elCcz a b d) = 2 < cap
+Borne cap (elMeasure q k) = 0 < cap
+
+abbrev AllBorne : ℕ → List Elementary → Type 0
+AllBorne cap [] = Unit {0}
+AllBorne cap (e ∷ es) = Borne cap e × AllBorne cap es
+
+axes-light : (cap n : ℕ) (e : Elementary) → Borne cap e → UpTo cap (axes n [] e)
+unfolding axes paper.products back
+axes-light cap n (clifford g) h = tt
+axes-light cap n (elT q) h = (omega (arith, weight-single n q Z), tt)
+axes-light cap n (elTdg q) h = (omega (arith, weight-single n q Z), tt)
+axes-light cap n (elCcx a b d) h = seven-light cap n a b d X h
+axes-light cap n (elCcz a b d) h = seven-light cap n a b d Z h
+axes-light cap n (elMeasure q k) h = (omega (arith, weight-single n q Z), tt)
+
+-- ---- what is written
+
+within-append : (cap : ℕ) (us vs : List Operation) → AllWithin cap us → AllWithin cap vs → AllWithin cap (us ++ vs)
+within-append cap [] vs u v = v
+within-append cap (o ∷ us) vs u v = (u .0, within-append cap us vs (u .1) v)
+
+within-rotated : (cap : ℕ) (ks : List ℕ) (Ps : List Row) → UpTo cap Ps → AllWithin cap (rotateAll ks Ps)
+within-rotated cap [] Ps u = tt
+within-rotated cap (k ∷ ks) [] u = tt
+within-rotated cap (k ∷ ks) (P ∷ Ps) u = ((λ e. u .0), within-rotated cap ks Ps (u .1))
+
+within-measured : (cap m : ℕ) (b : Target) (Ps : List Row) → UpTo cap Ps → AllWithin cap (measureFirst m b Ps)
+within-measured cap m b [] u = tt
+within-measured cap m b (P ∷ Ps) u = (u .0, tt)
+
+within-writes : (cap n : ℕ) (gs : List Gate) (m : ℕ) (e : Elementary) → UpTo cap (axes n gs e) → AllWithin cap (writes n gs m e)
+unfolding writes
+within-writes cap n gs m (clifford g) u = tt
+within-writes cap n gs m (elT q) u = within-rotated cap (1 ∷ []) (axes n gs (elT q)) u
+within-writes cap n gs m (elTdg q) u = within-rotated cap (7 ∷ []) (axes n gs (elTdg q)) u
+within-writes cap n gs m (elCcx a b d) u = within-rotated cap sevenAngles (axes n gs (elCcx a b d)) u
+within-writes cap n gs m (elCcz a b d) u = within-rotated cap sevenAngles (axes n gs (elCcz a b d)) u
+within-writes cap n gs m (elMeasure q k) u = within-measured cap m (Bit k) (axes n gs (elMeasure q k)) u
+
+-- a flush writes even angles
+even-within : (cap : ℕ) (rs : List Rotation) → Each (λ r. (weight (r .axis .letters) ≤ 2) × (real (r .axis .phase) ≡ true) × (r .angle % 2 ≡ 0)) rs
+    → AllWithin cap (map asRotation rs)
+even-within cap [] h = tt
+even-within cap (r ∷ rs) h = ((λ e. absurd (omega (arith, h .0 .2))), even-within cap rs (h .1))
+
+-- ---- the run
+
+record Kept (cap n : ℕ) (p : Paper) : Type 0 where
+  valid : AllValid n (p .since)
+  within : AllWithin cap (p .operations)
+
+kept-perform : (cap n c : ℕ) (e : Elementary) (p : Paper) → Proper n c e → UpTo cap (axes n (p .since) e) → Kept cap n p → Kept cap n (paperPerform n e p)
+unfolding paperPerform
+kept-perform cap n c (clifford g) p h u K = record { valid = valid-append n (p .since) (g ∷ []) (K .valid) (h, tt); within = K .within }
+kept-perform cap n c (elT q) p h u K = record { valid = K .valid; within = within-append cap (p .operations) _ (K .within) (within-writes cap n (p .since) (p .given) (elT q) u) }
+kept-perform cap n c (elTdg q) p h u K = record { valid = K .valid; within = within-append cap (p .operations) _ (K .within) (within-writes cap n (p .since) (p .given) (elTdg q) u) }
+kept-perform cap n c (elCcx a b d) p h u K = record { valid = K .valid; within = within-append cap (p .operations) _ (K .within) (within-writes cap n (p .since) (p .given) (elCcx a b d) u) }
+kept-perform cap n c (elCcz a b d) p h u K = record { valid = K .valid; within = within-append cap (p .operations) _ (K .within) (within-writes cap n (p .since) (p .given) (elCcz a b d) u) }
+kept-perform cap n c (elMeasure q k) p h u K = record { valid = K .valid; within = within-append cap (p .operations) _ (K .within) (within-writes cap n (p .since) (p .given) (elMeasure q k) u) }
+
+kept-run : (cap n c : ℕ) (es : List Elementary) (p : Paper) → AllProper n c es → AllBorne cap es → Kept cap n p → Kept cap n (paperRun flush n (AtMost cap) es p)
+unfolding paperRun paperStep tooHeavy
+kept-run cap n c [] p h b K = K
+kept-run cap n c (e ∷ es) p h b K = kept-run cap n c es (paperStep flush n (AtMost cap) e p) (h .1) (b .1) (go (anyAbove cap (axes n (p .since) e)) refl)
+  where
+    go : (heavy : Bool) → anyAbove cap (axes n (p .since) e) ≡ heavy → Kept cap n (paperPerform n e (cond heavy (paperFlushed flush n p) p))
+    go true a = kept-perform cap n c e (paperFlushed flush n p) (h .0) (axes-light cap n e (b .0)) (record {
+      valid = tt;
+      within = within-append cap (p .operations) _ (K .within) (even-within cap (flush n (p .since)) (flush-light n (p .since) (K .valid)));
+    })
+    go false a = kept-perform cap n c e p (h .0) (not-above cap (axes n (p .since) e) a) K
+
+-- ---- records under a cap that is not too small
+
+both-left : (a b c : Bool) → (a && (b || c)) ≡ false → (a && b) ≡ false
+both-left true b c e = left-false b c e
+both-left false b c e = refl
+
+both-right : (a b c : Bool) → (a && (b || c)) ≡ false → (a && c) ≡ false
+both-right true b c e = right-false b c e
+both-right false b c e = refl
+
+and-true : (a : Bool) → (a && true) ≡ false → a ≡ false
+and-true true e = e
+and-true false e = refl
+
+positive : (cap : ℕ) → eqb cap 0 ≡ false → 0 < cap
+positive cap e = let ne : cap ≡ 0 → ⊥ = eqb-false cap 0 e in omega arith
+
+borne-lower : (cap : ℕ) (k : GateKind) (a b c : ℕ) → 0 < cap → (leb cap 2 && isDoubly k) ≡ false → AllBorne cap (lowerAs k a b c)
+unfolding lowerAs
+borne-lower cap KindH a b c h e = (tt, tt)
+borne-lower cap KindX a b c h e = (tt, tt)
+borne-lower cap KindZ a b c h e = (tt, tt)
+borne-lower cap KindS a b c h e = (tt, tt)
+borne-lower cap KindSdg a b c h e = (tt, tt)
+borne-lower cap KindT a b c h e = (h, tt)
+borne-lower cap KindTdg a b c h e = (h, tt)
+borne-lower cap KindCnot a b c h e = (tt, tt)
+borne-lower cap KindCz a b c h e = (tt, tt)
+borne-lower cap KindCcx a b c h e = (leb-false cap 2 (and-true (leb cap 2) e), tt)
+borne-lower cap KindCcz a b c h e = (leb-false cap 2 (and-true (leb cap 2) e), tt)
+borne-lower cap KindMeasure a b c h e = (h, tt)
+borne-lower cap KindY a b c h e = (tt, (tt, tt))
+borne-lower cap KindSx a b c h e = (tt, (tt, (tt, tt)))
+borne-lower cap KindSwap a b c h e = (tt, (tt, (tt, tt)))
+borne-lower cap KindCy a b c h e = (tt, (tt, (tt, tt)))
+borne-lower cap Unsupported a b c h e = tt
+
+borne-append : (cap : ℕ) (us vs : List Elementary) → AllBorne cap us → AllBorne cap vs → AllBorne cap (us ++ vs)
+borne-append cap [] vs u v = v
+borne-append cap (e ∷ us) vs u v = (u .0, borne-append cap us vs (u .1) v)
+
+borne-records : (cap i : ℕ) (rs : List Record) → 0 < cap → (leb cap 2 && anyDoubly rs) ≡ false → AllBorne cap (bare (lowerFrom i rs))
+unfolding lowerFrom lower
+borne-records cap i [] h e = tt
+borne-records cap i (r ∷ rs) h e =
+    rw (map-append _ (placedFrom i 0 (lower r)) (lowerFrom (suc i) rs), bare-placed i 0 (lower r))
+    (borne-append cap (lower r) (bare (lowerFrom (suc i) rs))
+    (borne-lower cap (kindOf (r .kind)) (r .a) (r .b) (r .c) h (both-left (leb cap 2) (isDoubly (kindOf (r .kind))) (anyDoubly rs) e))
+    (borne-records cap (suc i) rs h (both-right (leb cap 2) (isDoubly (kindOf (r .kind))) (anyDoubly rs) e)))
+
+pub capped : (n c i : ℕ) (cap : Cap) (rs : List Record) → AllProper n c (bare (lowerFrom i rs)) → capTooSmall cap rs ≡ false
+    → Capped cap (paperRun flush n cap (bare (lowerFrom i rs)) paperBegin .operations)
+capped n c i NoCap rs v e = tt
+capped n c i (AtMost cap) rs v e =
+    kept-run cap n c (bare (lowerFrom i rs)) paperBegin v
+    (borne-records cap i rs (positive cap (left-false (eqb cap 0) _ e)) (right-false (eqb cap 0) _ e)) (record { valid = tt; within = tt }) .within

@@ -1,0 +1,294 @@
+-- The checks of gates, by the number of their qubits.
+use mathlib.Core.Path.{_≡_, refl, sym, _∙_}
+use mathlib.Core.Bool.{Bool, true, false, not, _&&_, _||_}
+use mathlib.Core.List.{List, [], _∷_}
+use Prim.Native.Nat.{ℕ, zero, suc, _+_, _*_, _/_, _<_, _≤_, min}
+use native.Mathlib.Nat.{mul-le-mul-left}
+use native.Mathlib.Numerals.{add-one}
+use lib.ListN.{length, getD, take, drop}
+use native.Mathlib.Omega.{arith}
+use lib.Dec.{leb, ltb, eqb}
+use Rattle.arena.specs.Errors.{_⟫_⇒_}
+use Rattle.convert.specs.Types.{PbcError, QubitOutOfRange, RepeatedOperand, UnsupportedGate, ClassicalBitOutOfRange, BadStore, NonCliffordFrameGate, NoFrame, NoNodes, Header, Checked, Fine, Wrong}
+use Rattle.arena.specs.Store.{breaksLimit, exceedsNodes, noNodeRoom}
+use Rattle.convert.specs.Planes.{partWords}
+use Rattle.convert.proofs.RestLaws.{drop-record, no-more}
+use Rattle.convert.specs.Records.{GateKind, KindH, KindX, KindZ, KindS, KindSdg, KindT, KindTdg, KindCnot, KindCz, KindCcx, KindCcz, KindMeasure, KindY, KindSx, KindSwap, KindCy, Unsupported, records, kindOf}
+use Rattle.convert.specs.Frame.{qubitsOf, operandsChecked, namesUnused, frameGates, gateNodes, total, cliffordCheck}
+use Rattle.convert.specs.Conversion.{isMeasure, isDoubly, isUnsupported, recordChecked, recordsChecked, anyDoubly}
+use Rattle.convert.specs.Raw.{arityOf, testsOf, isFrame, frameNodes, measuresOf, recordOf}
+
+no-test : (k : Checked) (e : PbcError) → (k ⟫ false ⇒ e) ≡ k
+unfolding _⟫_⇒_
+no-test Fine e = refl
+no-test (Wrong f) e = refl
+
+or-false : (b : Bool) → b || false ≡ b
+or-false true = refl
+or-false false = refl
+
+-- the operands of a gate with so many qubits; 4 is a measurement
+byArity : ℕ → ℕ → ℕ → ℕ → List ℕ
+byArity zero a b c = []
+byArity (suc zero) a b c = a ∷ []
+byArity (suc (suc zero)) a b c = a ∷ b ∷ []
+byArity (suc (suc (suc zero))) a b c = a ∷ b ∷ c ∷ []
+byArity (suc (suc (suc (suc k)))) a b c = a ∷ []
+
+qubits-by : (k : GateKind) (a b c : ℕ) → qubitsOf k a b c ≡ byArity (arityOf k) a b c
+unfolding qubitsOf byArity
+qubits-by KindH a b c = refl
+qubits-by KindX a b c = refl
+qubits-by KindZ a b c = refl
+qubits-by KindS a b c = refl
+qubits-by KindSdg a b c = refl
+qubits-by KindT a b c = refl
+qubits-by KindTdg a b c = refl
+qubits-by KindCnot a b c = refl
+qubits-by KindCz a b c = refl
+qubits-by KindCcx a b c = refl
+qubits-by KindCcz a b c = refl
+qubits-by KindMeasure a b c = refl
+qubits-by KindY a b c = refl
+qubits-by KindSx a b c = refl
+qubits-by KindSwap a b c = refl
+qubits-by KindCy a b c = refl
+qubits-by Unsupported a b c = refl
+
+unsupported-by : (k : GateKind) → isUnsupported k ≡ eqb (arityOf k) 0
+unsupported-by KindH = refl
+unsupported-by KindX = refl
+unsupported-by KindZ = refl
+unsupported-by KindS = refl
+unsupported-by KindSdg = refl
+unsupported-by KindT = refl
+unsupported-by KindTdg = refl
+unsupported-by KindCnot = refl
+unsupported-by KindCz = refl
+unsupported-by KindCcx = refl
+unsupported-by KindCcz = refl
+unsupported-by KindMeasure = refl
+unsupported-by KindY = refl
+unsupported-by KindSx = refl
+unsupported-by KindSwap = refl
+unsupported-by KindCy = refl
+unsupported-by Unsupported = refl
+
+measure-by : (k : GateKind) → isMeasure k ≡ eqb (arityOf k) 4
+measure-by KindH = refl
+measure-by KindX = refl
+measure-by KindZ = refl
+measure-by KindS = refl
+measure-by KindSdg = refl
+measure-by KindT = refl
+measure-by KindTdg = refl
+measure-by KindCnot = refl
+measure-by KindCz = refl
+measure-by KindCcx = refl
+measure-by KindCcz = refl
+measure-by KindMeasure = refl
+measure-by KindY = refl
+measure-by KindSx = refl
+measure-by KindSwap = refl
+measure-by KindCy = refl
+measure-by Unsupported = refl
+
+pub doubly-by : (k : GateKind) → isDoubly k ≡ leb 2 (testsOf k)
+doubly-by KindH = refl
+doubly-by KindX = refl
+doubly-by KindZ = refl
+doubly-by KindS = refl
+doubly-by KindSdg = refl
+doubly-by KindT = refl
+doubly-by KindTdg = refl
+doubly-by KindCnot = refl
+doubly-by KindCz = refl
+doubly-by KindCcx = refl
+doubly-by KindCcz = refl
+doubly-by KindMeasure = refl
+doubly-by KindY = refl
+doubly-by KindSx = refl
+doubly-by KindSwap = refl
+doubly-by KindCy = refl
+doubly-by Unsupported = refl
+
+arity-most : (k : GateKind) → arityOf k ≤ 4
+arity-most KindH = omega arith
+arity-most KindX = omega arith
+arity-most KindZ = omega arith
+arity-most KindS = omega arith
+arity-most KindSdg = omega arith
+arity-most KindT = omega arith
+arity-most KindTdg = omega arith
+arity-most KindCnot = omega arith
+arity-most KindCz = omega arith
+arity-most KindCcx = omega arith
+arity-most KindCcz = omega arith
+arity-most KindMeasure = omega arith
+arity-most KindY = omega arith
+arity-most KindSx = omega arith
+arity-most KindSwap = omega arith
+arity-most KindCy = omega arith
+arity-most Unsupported = omega arith
+
+module _ (s : Checked) (n i : ℕ) (k : GateKind) (a b c : ℕ) where
+  pub none-checked : arityOf k ≡ 0 → s ≡ operandsChecked s n i [] (qubitsOf k a b c)
+  unfolding operandsChecked byArity
+  none-checked e = rw (qubits-by k a b c, e)
+
+  pub one-checked : (f : Checked) → f ≡ (s ⟫ leb n a ⇒ QubitOutOfRange i a) → (eqb (arityOf k) 1 || eqb (arityOf k) 4) ≡ true → f ≡ operandsChecked s n i [] (qubitsOf k a b c)
+  unfolding operandsChecked byArity
+  one-checked f ef e = ef ∙ go (arityOf k) (qubits-by k a b c) e
+    where
+      go : (m : ℕ) → qubitsOf k a b c ≡ byArity m a b c → (eqb m 1 || eqb m 4) ≡ true → (s ⟫ leb n a ⇒ QubitOutOfRange i a) ≡ operandsChecked s n i [] (qubitsOf k a b c)
+      go zero q t = let z : _≡_ {A = ℕ} 0 1 = cc in absurd (omega arith)
+      go (suc zero) q t = rw q (sym (no-test (s ⟫ leb n a ⇒ QubitOutOfRange i a) (RepeatedOperand i a)))
+      go (suc (suc zero)) q t = let z : _≡_ {A = ℕ} 0 1 = cc in absurd (omega arith)
+      go (suc (suc (suc zero))) q t = let z : _≡_ {A = ℕ} 0 1 = cc in absurd (omega arith)
+      go (suc (suc (suc (suc m)))) q t = rw q (sym (no-test (s ⟫ leb n a ⇒ QubitOutOfRange i a) (RepeatedOperand i a)))
+
+  pub two-checked : (f g h : Checked) → f ≡ (s ⟫ leb n a ⇒ QubitOutOfRange i a) → g ≡ (f ⟫ leb n b ⇒ QubitOutOfRange i b) → h ≡ (g ⟫ eqb b a ⇒ RepeatedOperand i b) → arityOf k ≡ 2
+      → h ≡ operandsChecked s n i [] (qubitsOf k a b c)
+  unfolding operandsChecked byArity
+  two-checked f g h ef eg eh e = rw (eh, eg, ef, qubits-by k a b c, e, no-test (s ⟫ leb n a ⇒ QubitOutOfRange i a) (RepeatedOperand i a), or-false (eqb b a))
+
+  pub three-checked : (f g h j m : Checked) → f ≡ (s ⟫ leb n a ⇒ QubitOutOfRange i a) → g ≡ (f ⟫ leb n b ⇒ QubitOutOfRange i b) → h ≡ (g ⟫ eqb b a ⇒ RepeatedOperand i b)
+      → j ≡ (h ⟫ leb n c ⇒ QubitOutOfRange i c) → m ≡ (j ⟫ eqb c b || eqb c a ⇒ RepeatedOperand i c)
+      → (arityOf k ≡ 0 → ⊥) → (eqb (arityOf k) 1 || eqb (arityOf k) 4) ≡ false → (arityOf k ≡ 2 → ⊥) → m ≡ operandsChecked s n i [] (qubitsOf k a b c)
+  unfolding operandsChecked byArity
+  three-checked f g h j m ef eg eh ej em n0 n14 n2 =
+      rw (em, ej, eh, eg, ef, qubits-by k a b c, three (arityOf k) (arity-most k) n0 n14 n2, no-test (s ⟫ leb n a ⇒ QubitOutOfRange i a) (RepeatedOperand i a), or-false (eqb b a), or-false (eqb c a))
+    where
+      three : (m : ℕ) → m ≤ 4 → (m ≡ 0 → ⊥) → (eqb m 1 || eqb m 4) ≡ false → (m ≡ 2 → ⊥) → m ≡ 3
+      three zero h a b c = absurd (a refl)
+      three (suc zero) h a b c = let z : _≡_ {A = ℕ} 0 1 = cc in absurd (omega arith)
+      three (suc (suc zero)) h a b c = absurd (c refl)
+      three (suc (suc (suc zero))) h a b c = refl
+      three (suc (suc (suc (suc zero)))) h a b c = let z : _≡_ {A = ℕ} 0 1 = cc in absurd (omega arith)
+      three (suc (suc (suc (suc (suc m))))) h a b c = absurd (omega arith)
+
+pub record-checked : (s : Checked) (n cbits i number a b c : ℕ) (u q r : Checked) → u ≡ (s ⟫ eqb (arityOf (kindOf number)) 0 ⇒ UnsupportedGate i number)
+    → q ≡ operandsChecked u n i [] (qubitsOf (kindOf number) a b c) → r ≡ (q ⟫ eqb (arityOf (kindOf number)) 4 && leb cbits b ⇒ ClassicalBitOutOfRange i b)
+    → r ≡ recordChecked s n cbits i (recordOf number a b c)
+unfolding recordChecked
+record-checked s n cbits i number a b c u q r eu eq er = rw (er, eq, eu, unsupported-by (kindOf number), measure-by (kindOf number))
+
+-- ---- the list
+
+pub checks-more : (s : Checked) (n cbits : ℕ) (gs : List ℕ) (i : ℕ) → i < length gs / 4
+    → recordsChecked s n cbits i (drop i (records gs))
+    ≡ recordsChecked (recordChecked s n cbits i (recordOf (getD gs (4 * i) 0) (getD gs (4 * i + 1) 0) (getD gs (4 * i + 2) 0) (getD gs (4 * i + 3) 0))) n cbits (i + 1) (drop (i + 1) (records gs))
+unfolding recordsChecked
+checks-more s n cbits gs i h = rw (drop-record gs i h, add-one i)
+
+pub checks-end : (s : Checked) (n cbits : ℕ) (gs : List ℕ) (i : ℕ) → length gs / 4 ≤ i → recordsChecked s n cbits i (drop i (records gs)) ≡ s
+unfolding recordsChecked
+checks-end s n cbits gs i h = rw (no-more gs i h)
+
+or-assoc : (a b c : Bool) → (a || (b || c)) ≡ ((a || b) || c)
+or-assoc true b c = refl
+or-assoc false b c = refl
+
+pub doubly-more : (gs : List ℕ) (i : ℕ) (f : Bool) → i < length gs / 4
+    → (f || anyDoubly (drop i (records gs))) ≡ ((f || leb 2 (testsOf (kindOf (getD gs (4 * i) 0)))) || anyDoubly (drop (i + 1) (records gs)))
+doubly-more gs i f h = rw (drop-record gs i h, add-one i, ← doubly-by (kindOf (getD gs (4 * i) 0))) (or-assoc f (isDoubly (kindOf (getD gs (4 * i) 0))) (anyDoubly (drop (suc i) (records gs))))
+
+pub doubly-end : (gs : List ℕ) (i : ℕ) (f : Bool) → length gs / 4 ≤ i → (f || anyDoubly (drop i (records gs))) ≡ f
+doubly-end gs i f h = rw (no-more gs i h) (or-false f)
+
+-- 4nL does not overflow
+pub plane-words : (n l : ℕ) → n < 4294967296 → l ≡ partWords n → 4 * n * l ≤ 4 * n * 67108864
+plane-words n l h e = mul-le-mul-left (4 * n) (omega arith)
+
+-- ---- frame gates
+
+drop-take : (w i : ℕ) (fs : List ℕ) → i < w → i < length fs → drop i (take w fs) ≡ getD fs i 0 ∷ drop (suc i) (take w fs)
+drop-take zero i fs h g = absurd (omega arith)
+drop-take (suc w) i [] h g = absurd (omega arith)
+drop-take (suc w) zero (x ∷ fs) h g = refl
+drop-take (suc w) (suc i) (x ∷ fs) h g = drop-take w i fs (omega arith) (omega arith)
+
+drop-nil : (i : ℕ) → drop {A = ℕ} i [] ≡ []
+drop-nil zero = refl
+drop-nil (suc i) = refl
+
+drop-end : (w i : ℕ) (fs : List ℕ) → min w (length fs) ≤ i → drop i (take w fs) ≡ []
+drop-end zero i fs h = drop-nil i
+drop-end (suc w) i [] h = drop-nil i
+drop-end (suc w) zero (x ∷ fs) h = absurd (omega arith)
+drop-end (suc w) (suc i) (x ∷ fs) h = drop-end w i fs (omega arith)
+
+pub unused-more : (k w i : ℕ) (fs : List ℕ) (f : Bool) → i < min w (length fs)
+    → (f || namesUnused k (drop i (take w fs))) ≡ ((f || leb k (getD fs i 0 / 4)) || namesUnused k (drop (i + 1) (take w fs)))
+unused-more k w i fs f h = rw (drop-take w i fs (omega arith) (omega arith), add-one i) (or-assoc f (leb k (getD fs i 0 / 4)) (namesUnused k (drop (suc i) (take w fs))))
+
+pub unused-end : (k w i : ℕ) (fs : List ℕ) (f : Bool) → min w (length fs) ≤ i → (f || namesUnused k (drop i (take w fs))) ≡ f
+unused-end k w i fs f h = rw (drop-end w i fs h) (or-false f)
+
+frame-by : (k : GateKind) (a b : ℕ) → eqb (length (frameGates k a b)) 0 ≡ not (isFrame k)
+unfolding frameGates
+frame-by KindH a b = refl
+frame-by KindX a b = refl
+frame-by KindZ a b = refl
+frame-by KindS a b = refl
+frame-by KindSdg a b = refl
+frame-by KindT a b = refl
+frame-by KindTdg a b = refl
+frame-by KindCnot a b = refl
+frame-by KindCz a b = refl
+frame-by KindCcx a b = refl
+frame-by KindCcz a b = refl
+frame-by KindMeasure a b = refl
+frame-by KindY a b = refl
+frame-by KindSx a b = refl
+frame-by KindSwap a b = refl
+frame-by KindCy a b = refl
+frame-by Unsupported a b = refl
+
+nodes-by : (k : GateKind) (a b : ℕ) → total gateNodes (frameGates k a b) ≡ frameNodes k
+unfolding frameGates
+nodes-by KindH a b = refl
+nodes-by KindX a b = refl
+nodes-by KindZ a b = refl
+nodes-by KindS a b = refl
+nodes-by KindSdg a b = refl
+nodes-by KindT a b = refl
+nodes-by KindTdg a b = refl
+nodes-by KindCnot a b = refl
+nodes-by KindCz a b = refl
+nodes-by KindCcx a b = refl
+nodes-by KindCcz a b = refl
+nodes-by KindMeasure a b = refl
+nodes-by KindY a b = refl
+nodes-by KindSx a b = refl
+nodes-by KindSwap a b = refl
+nodes-by KindCy a b = refl
+nodes-by Unsupported a b = refl
+
+pub clifford-checked : (h : Header) (nodes : ℕ) (fs : List ℕ) (kind a b : ℕ) (x y z : Bool) (r₁ r₂ r₃ r₄ r₅ : Checked)
+    → x ≡ breaksLimit h → y ≡ exceedsNodes h nodes → z ≡ namesUnused (h .nodes) (take (2 * h .qubits) fs)
+    → r₁ ≡ (Fine ⟫ x || y || z ⇒ BadStore) → r₂ ≡ (r₁ ⟫ not (isFrame (kindOf kind)) ⇒ NonCliffordFrameGate kind)
+    → r₃ ≡ operandsChecked r₂ (h .qubits) 0 [] (qubitsOf (kindOf kind) a b 0) → r₄ ≡ (r₃ ⟫ ltb (length fs) (2 * h .qubits) ⇒ NoFrame)
+    → r₅ ≡ (r₄ ⟫ noNodeRoom h nodes (frameNodes (kindOf kind)) ⇒ NoNodes) → r₅ ≡ cliffordCheck h nodes fs kind a b
+unfolding cliffordCheck
+clifford-checked h nodes fs kind a b x y z r₁ r₂ r₃ r₄ r₅ ex ey ez e₁ e₂ e₃ e₄ e₅ =
+    rw (e₅, e₄, e₃, e₂, e₁, ex, ey, ez, frame-by (kindOf kind) a b, nodes-by (kindOf kind) a b)
+
+pub measures-by : (k : GateKind) → (arityOf k ≡ 4 → 1 ≡ measuresOf k) × ((arityOf k ≡ 4 → ⊥) → 0 ≡ measuresOf k)
+measures-by KindH = ((λ e. absurd (omega arith)), λ e. refl)
+measures-by KindX = ((λ e. absurd (omega arith)), λ e. refl)
+measures-by KindZ = ((λ e. absurd (omega arith)), λ e. refl)
+measures-by KindS = ((λ e. absurd (omega arith)), λ e. refl)
+measures-by KindSdg = ((λ e. absurd (omega arith)), λ e. refl)
+measures-by KindT = ((λ e. absurd (omega arith)), λ e. refl)
+measures-by KindTdg = ((λ e. absurd (omega arith)), λ e. refl)
+measures-by KindCnot = ((λ e. absurd (omega arith)), λ e. refl)
+measures-by KindCz = ((λ e. absurd (omega arith)), λ e. refl)
+measures-by KindCcx = ((λ e. absurd (omega arith)), λ e. refl)
+measures-by KindCcz = ((λ e. absurd (omega arith)), λ e. refl)
+measures-by KindMeasure = ((λ e. refl), λ e. absurd (e refl))
+measures-by KindY = ((λ e. absurd (omega arith)), λ e. refl)
+measures-by KindSx = ((λ e. absurd (omega arith)), λ e. refl)
+measures-by KindSwap = ((λ e. absurd (omega arith)), λ e. refl)
+measures-by KindCy = ((λ e. absurd (omega arith)), λ e. refl)
+measures-by Unsupported = ((λ e. absurd (omega arith)), λ e. refl)

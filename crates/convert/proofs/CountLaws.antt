@@ -1,0 +1,124 @@
+-- When a flush comes, and what it makes of the planes.
+use mathlib.Core.Path.{_≡_, refl, sym, ap, _∙_}
+use mathlib.Core.Bool.{Bool, true, false, cond}
+use mathlib.Core.List.{List, [], _∷_, _++_}
+use Prim.Native.Nat.{ℕ, zero, suc, _+_, _*_, _≤_}
+use native.Mathlib.Omega.{arith}
+use lib.ListN.{length, getD, drop, length-append, length-replicate}
+use lib.Seq.{drop-at}
+use Rattle.pauli.specs.Rows.{Row, identity, Width}
+use Rattle.pauli.specs.Gates.{Gate, AllValid}
+use Rattle.pauli.specs.Table.{start, column, run}
+use Rattle.pauli.proofs.Short.{width-single}
+use Rattle.convert.specs.Types.{Pauli, X, Z}
+use Rattle.convert.specs.Records.{GateKind, KindH, KindX, KindZ, KindS, KindSdg, KindT, KindTdg, KindCnot, KindCz, KindCcx, KindCcz, KindMeasure, KindY, KindSx, KindSwap, KindCy, Unsupported, Cap, NoCap, AtMost, Elementary, lowerAs, AllProper}
+use Rattle.convert.specs.Plain.{exceeds}
+use Rattle.convert.specs.Planes.{partWords, packed}
+use Rattle.convert.specs.RawPlanes.{Wide, planeRun}
+use Rattle.convert.specs.Raw.{anyExceeds, isCapped, refreshed, replaned, recordGates, planesFor, Decided}
+use Rattle.arena.specs.Builder.{overlay}
+use Rattle.convert.proofs.PlaneLaws.{packed-length}
+use Rattle.convert.proofs.Packed.{plane-run, plane-again, plane-reset}
+
+-- without a cap there is no flush
+pub never : (n : ℕ) (t : List Row) (es : List Elementary) → false ≡ anyExceeds n NoCap t es
+unfolding exceeds
+never n t [] = refl
+never n t (e ∷ es) = never n t es
+
+-- ---- tables of the start are wide
+
+widths-column : (n : ℕ) (a : Pauli) (q k : ℕ) (rs : List Row) → ((i : ℕ) → Width n (getD rs i (identity n))) → (i : ℕ) → Width n (getD (column n a q k ++ rs) i (identity n))
+widths-column n a q zero rs w i = w i
+widths-column n a q (suc k) rs w zero = width-single n q a
+widths-column n a q (suc k) rs w (suc i) = widths-column n a (suc q) k rs w i
+
+widths-end : (n : ℕ) (a : Pauli) (q k : ℕ) (i : ℕ) → Width n (getD (column n a q k) i (identity n))
+widths-end n a q zero i = length-replicate n _
+widths-end n a q (suc k) zero = width-single n q a
+widths-end n a q (suc k) (suc i) = widths-end n a (suc q) k i
+
+length-column : (n : ℕ) (a : Pauli) (q k : ℕ) → length (column n a q k) ≡ k
+length-column n a q zero = refl
+length-column n a q (suc k) = ap suc (length-column n a (suc q) k)
+
+pub wide-start : (n : ℕ) → Wide n (start n)
+unfolding start
+wide-start n = record {
+  rows = rw (length-append, length-column n X 0 n, length-column n Z 0 n);
+  widths = widths-column n X 0 n (column n Z 0 n) (widths-end n Z 0 n);
+}
+
+-- ---- one record
+
+pub valid-of : (n : ℕ) (k : GateKind) (a b d : ℕ) → AllProper n (b + 1) (lowerAs k a b d) → AllValid n (recordGates k a b)
+unfolding lowerAs recordGates
+valid-of n KindH a b d w = w
+valid-of n KindX a b d w = w
+valid-of n KindZ a b d w = w
+valid-of n KindS a b d w = w
+valid-of n KindSdg a b d w = w
+valid-of n KindT a b d w = tt
+valid-of n KindTdg a b d w = tt
+valid-of n KindCnot a b d w = w
+valid-of n KindCz a b d w = w
+valid-of n KindCcx a b d w = tt
+valid-of n KindCcz a b d w = tt
+valid-of n KindMeasure a b d w = tt
+valid-of n KindY a b d w = w
+valid-of n KindSx a b d w = w
+valid-of n KindSwap a b d w = w
+valid-of n KindCy a b d w = w
+valid-of n Unsupported a b d w = w
+
+plane-one : (n : ℕ) (f : Bool) (gs : List Gate) (t : List Row) (rest : List ℕ) → Wide n t → AllValid n gs
+    → planeRun (partWords n) gs (refreshed f n (partWords n) (packed n t ++ rest)) ≡ packed n (run n gs (cond f (start n) t)) ++ rest
+plane-one n true gs t rest w v = rw (plane-again n t rest) (plane-run n gs (start n) rest (wide-start n) v)
+plane-one n false gs t rest w v = plane-run n gs t rest w v
+
+pub open-planes : (cap : Cap) (f : Bool) (n l : ℕ) (gs : List Gate) (ps : List ℕ) → isCapped cap ≡ true → replaned cap f n l gs ps ≡ planeRun l gs (refreshed f n l ps)
+open-planes NoCap f n l gs ps on = let z : _≡_ {A = Bool} false true = on in absurd (no z)
+  where
+    no : _≡_ {A = Bool} false true → ⊥
+    no e = let z : _≡_ {A = ℕ} 0 1 = cc in omega arith
+open-planes (AtMost most) f n l gs ps on = refl
+
+pub closed-planes : (cap : Cap) (f : Bool) (n l : ℕ) (gs : List Gate) (ps : List ℕ) → isCapped cap ≡ false → ps ≡ replaned cap f n l gs ps
+closed-planes NoCap f n l gs ps off = refl
+closed-planes (AtMost most) f n l gs ps off = absurd (no off)
+  where
+    no : _≡_ {A = Bool} true false → ⊥
+    no e = let z : _≡_ {A = ℕ} 0 1 = cc in omega arith
+
+same-rest : (n : ℕ) (t u : List Row) (ps : List ℕ) → packed n u ++ drop (length (packed n t)) ps ≡ overlay (packed n u) ps
+same-rest n t u ps = rw (packed-length n t, packed-length n u)
+
+pub decided-by : (n l : ℕ) (cap : Cap) (k : GateKind) (a b d : ℕ) (ps : List ℕ) (f : Bool) (ps′ : List ℕ) → l ≡ partWords n → AllProper n (b + 1) (lowerAs k a b d)
+    → ((t : List Row) (rest : List ℕ) → Wide n t → (isCapped cap ≡ true → ps ≡ packed n t ++ rest) → f ≡ anyExceeds n cap t (lowerAs k a b d))
+    → ps′ ≡ replaned cap f n l (recordGates k a b) ps
+    → Decided n cap k a b d ps f ps′
+decided-by n l NoCap k a b d ps f ps′ el w flag planes = record {
+  same = λ t ps₀ wd at. (flag t [] wd (λ on. absurd (no on)), planes ∙ at);
+}
+  where
+    no : _≡_ {A = Bool} false true → ⊥
+    no e = let z : _≡_ {A = ℕ} 0 1 = cc in omega arith
+decided-by n l (AtMost most) k a b d ps f ps′ el w flag planes = record {
+  same = λ t ps₀ wd at. (
+    flag t (drop (length (packed n t)) ps₀) wd (λ on. at),
+    planes ∙ rw (at, el) (plane-one n f (recordGates k a b) t (drop (length (packed n t)) ps₀) wd (valid-of n k a b d w) ∙ same-rest n t (run n (recordGates k a b) (cond f (start n) t)) ps₀),
+  );
+}
+
+pub prepared : (n l : ℕ) (cap : Cap) (ps ps′ : List ℕ) → l ≡ partWords n → (isCapped cap ≡ true → (n + n) * (l + l) ≤ length ps) → ps′ ≡ refreshed (isCapped cap) n l ps
+    → ps′ ≡ planesFor cap n (start n) ps
+prepared n l NoCap ps ps′ el room e = e
+prepared n l (AtMost most) ps ps′ el room e =
+    let h = rw el at (room refl) in
+    e ∙ rw (el, packed-length n (start n)) (plane-reset n ps h)
+
+-- planes written over once more
+pub planes-over : (cap : Cap) (n : ℕ) (t u : List Row) (ps ps′ : List ℕ) → ps′ ≡ planesFor cap n u ps → planesFor cap n t ps′ ≡ planesFor cap n t ps
+planes-over NoCap n t u ps ps′ e = e
+planes-over (AtMost most) n t u ps ps′ e =
+    rw e (ap (λ (l : List ℕ). packed n t ++ l) (drop-at (packed n u) (drop (length (packed n u)) ps) (length (packed n t)) (packed-length n u ∙ sym (packed-length n t)) ∙ ap (λ (m : ℕ). drop m ps) (packed-length n u ∙ sym (packed-length n t))))

@@ -1,0 +1,84 @@
+-- The counting pass counts what the writing pass writes.
+use mathlib.Core.Path.{_≡_, refl, ap, _∙_}
+use mathlib.Core.Bool.{Bool, true, false, cond}
+use mathlib.Core.List.{List, [], _∷_}
+use Prim.Native.Nat.{ℕ, _+_}
+use native.Mathlib.Omega.{arith}
+use lib.ListN.{length, length-append}
+use Rattle.pauli.specs.Gates.{Gate, gateH, gateX, gateZ, gateS, gateSdg, gateCnot, gateCz}
+use Rattle.pauli.specs.Rotations.{flush}
+use Rattle.convert.specs.Records.{Cap, Elementary, clifford, elT, elTdg, elCcx, elCcz, elMeasure, Placed, bare}
+use Rattle.convert.specs.Plain.{Plain, exceeds, plainStep}
+use Rattle.convert.specs.Frame.{pushed, multiplied, frameStep, total}
+use Rattle.convert.specs.Words.{Words, flushGate, flushGates, flushWords, writeSeven, write, wordStep, wordRun}
+use Rattle.convert.specs.Needs.{elementNodes, elementOps, writtenNodes, writtenOps, Needs, needStep, needRun}
+
+-- w is k past v
+record Past (v w : Words) (nodes ops : ℕ) : Type 0 where
+  nodes-are : w .arena .count ≡ v .arena .count + nodes
+  ops-are : length (w .ops) ≡ length (v .ops) + ops
+
+past-write : (n given : ℕ) (e : Elementary) (w : Words) → Past w (write n given e w) (elementNodes e) (elementOps e)
+unfolding write frameStep multiplied pushed writeSeven
+past-write n given (clifford (gateH q)) w = record { nodes-are = omega arith; ops-are = omega arith }
+past-write n given (clifford (gateX q)) w = record { nodes-are = omega arith; ops-are = omega arith }
+past-write n given (clifford (gateZ q)) w = record { nodes-are = omega arith; ops-are = omega arith }
+past-write n given (clifford (gateS q)) w = record { nodes-are = omega arith; ops-are = omega arith }
+past-write n given (clifford (gateSdg q)) w = record { nodes-are = omega arith; ops-are = omega arith }
+past-write n given (clifford (gateCnot c t)) w = record { nodes-are = omega arith; ops-are = omega arith }
+past-write n given (clifford (gateCz c t)) w = record { nodes-are = omega arith; ops-are = omega arith }
+past-write n given (elT q) w = record { nodes-are = omega arith; ops-are = simp length-append }
+past-write n given (elTdg q) w = record { nodes-are = omega arith; ops-are = simp length-append }
+past-write n given (elCcx a b d) w = record { nodes-are = omega arith; ops-are = simp length-append }
+past-write n given (elCcz a b d) w = record { nodes-are = omega arith; ops-are = simp length-append }
+past-write n given (elMeasure q k) w = record { nodes-are = omega arith; ops-are = simp length-append }
+
+past-gate : (g : Gate) (w : Words) → Past w (flushGate g w) (writtenNodes g) (writtenOps g)
+unfolding flushGate pushed
+past-gate (gateH q) w = record { nodes-are = omega arith; ops-are = simp length-append }
+past-gate (gateX q) w = record { nodes-are = omega arith; ops-are = simp length-append }
+past-gate (gateZ q) w = record { nodes-are = omega arith; ops-are = simp length-append }
+past-gate (gateS q) w = record { nodes-are = omega arith; ops-are = simp length-append }
+past-gate (gateSdg q) w = record { nodes-are = omega arith; ops-are = simp length-append }
+past-gate (gateCnot c t) w = record { nodes-are = omega arith; ops-are = simp length-append }
+past-gate (gateCz c t) w = record { nodes-are = omega arith; ops-are = simp length-append }
+
+past-gates : (gs : List Gate) (w : Words) → Past w (flushGates gs w) (total writtenNodes gs) (total writtenOps gs)
+unfolding flushGates
+past-gates [] w = record { nodes-are = omega arith; ops-are = omega arith }
+past-gates (g ∷ gs) w = record {
+  nodes-are = omega (arith, past-gate g w .nodes-are, past-gates gs (flushGate g w) .nodes-are);
+  ops-are = omega (arith, past-gate g w .ops-are, past-gates gs (flushGate g w) .ops-are);
+}
+
+past-step : (n : ℕ) (cap : Cap) (e : Placed Elementary) (p : Plain) (w : Words)
+    → Past w (wordStep n cap e p w) (cond (exceeds n cap (p .table) (e .gate)) (total writtenNodes (bare (p .pending))) 0 + elementNodes (e .gate))
+    (cond (exceeds n cap (p .table) (e .gate)) (total writtenOps (bare (p .pending))) 0 + elementOps (e .gate))
+unfolding wordStep flushWords
+past-step n cap e p w = go (exceeds n cap (p .table) (e .gate))
+  where
+    go : (b : Bool) → Past w (write n (p .given) (e .gate) (cond b (flushWords n (bare (p .pending)) w) w)) (cond b (total writtenNodes (bare (p .pending))) 0 + elementNodes (e .gate)) (cond b (total writtenOps (bare (p .pending))) 0 + elementOps (e .gate))
+    go true = record {
+      nodes-are = omega (arith, past-write n (p .given) (e .gate) (flushWords n (bare (p .pending)) w) .nodes-are, past-gates (bare (p .pending)) w .nodes-are);
+      ops-are = omega (arith, past-write n (p .given) (e .gate) (flushWords n (bare (p .pending)) w) .ops-are, past-gates (bare (p .pending)) w .ops-are);
+    }
+    go false = record { nodes-are = omega (arith, past-write n (p .given) (e .gate) w .nodes-are); ops-are = omega (arith, past-write n (p .given) (e .gate) w .ops-are) }
+
+abbrev pub have : Words → Needs
+have w = record { nodes = w .arena .count; operations = length (w .ops) }
+
+need-step : (n : ℕ) (cap : Cap) (e : Placed Elementary) (p : Plain) (w : Words) → needStep n cap e p (have w) ≡ have (wordStep n cap e p w)
+unfolding needStep
+need-step n cap e p w = λ i. record { nodes = nodes i; operations = operations i }
+  where
+    nodes : w .arena .count + cond (exceeds n cap (p .table) (e .gate)) (total writtenNodes (bare (p .pending))) 0 + elementNodes (e .gate) ≡ wordStep n cap e p w .arena .count
+    nodes = omega (arith, past-step n cap e p w .nodes-are)
+
+    operations : length (w .ops) + cond (exceeds n cap (p .table) (e .gate)) (total writtenOps (bare (p .pending))) 0 + elementOps (e .gate) ≡ length (wordStep n cap e p w .ops)
+    operations = omega (arith, past-step n cap e p w .ops-are)
+
+-- the counting pass counts what the writing pass writes
+pub needed : (n : ℕ) (cap : Cap) (es : List (Placed Elementary)) (p : Plain) (w : Words) → needRun n cap es p (have w) ≡ have (wordRun n cap es p w)
+unfolding needRun wordRun
+needed n cap [] p w = refl
+needed n cap (e ∷ es) p w = ap (needRun n cap es (plainStep flush n cap e p)) (need-step n cap e p w) ∙ needed n cap es (plainStep flush n cap e p) (wordStep n cap e p w)

@@ -1,0 +1,272 @@
+-- What is claimed of the conversion and of the later calls, in the words of specs/.
+use mathlib.Core.Path.{_≡_, refl, ap, ap₂, sym, _∙_, subst}
+use mathlib.Core.Logic.{_≢_}
+use mathlib.Core.Bool.{false}
+use mathlib.Core.List.{List, [], _∷_, map}
+use Prim.Native.Nat.{ℕ, _+_, _*_, _/_, _<_}
+use native.Mathlib.Omega.{arith}
+use borrow.Author.Tests.{leb-false}
+use lib.Dec.{leb}
+use lib.ListN.{length, getD, take}
+use lib.Seq.{getD-take, take-all, length-take-le}
+use Rattle.pauli.specs.Letters.{real}
+use Rattle.pauli.specs.Rows.{Row, Width, identity}
+use Rattle.pauli.specs.Gates.{act₁, act₂, forward, Gate, AllValid}
+use Rattle.pauli.specs.Table.{run, table, productOver}
+use Rattle.pauli.specs.Rotations.{rotations, flush}
+use Rattle.pauli.proofs.Table.{table-rows}
+use Rattle.pauli.proofs.Theorems.{flush-as-gates, table-is-back, table-real, independent}
+use Rattle.arena.specs.Nodes.{image}
+use Rattle.arena.specs.Builder.{overlay}
+use Rattle.arena.specs.Expansion.{opAt}
+use Rattle.arena.proofs.Reading.{image-older}
+use Rattle.arena.proofs.Accepted.{left-false, right-false}
+use Rattle.convert.specs.Types.{PbcError, Fine, Wrong}
+use Rattle.convert.specs.Records.{KindY, KindSx, KindSwap, KindCy, Cap, records, lowerAll, kindOf, Elementary, Placed, bare, AllProper}
+use Rattle.convert.specs.Plain.{begin, plainRun}
+use Rattle.convert.specs.Paper.{AllHermitian}
+use Rattle.convert.specs.Frame.{Arena, frameGates, namesUnused, cliffordCheck, opened, startArena}
+use Rattle.convert.specs.Words.{Words, decoded, meaning, opsFrom, operationsIn, wordRun, startWords}
+use Rattle.convert.specs.Needs.{needRun, placeRun, gatesFrom, cliffords}
+use Rattle.convert.specs.Conversion.{limits, Input, gatesIn, plainEnd, tableEnd, paperEnd, wordEnd, convertCheck, convertedHeader, ConvertedMade, ConvertedRefused, convertWithin, convertStep}
+use Rattle.convert.specs.Later.{Store, converted, Call, callFrame, later, laters}
+use Rattle.convert.specs.Statement.{Capped, Frame, Means, imageAt, images, Converts, endTable, endGates, Demand3}
+use Rattle.convert.specs.Lowering.{ruleY, ruleSx, ruleSwap, ruleCy, loweredActs}
+use Rattle.convert.specs.Circuits.{HandCircuits}
+use Rattle.convert.proofs.Nodes.{image-append}
+use Rattle.convert.proofs.FrameRows.{Under, Keeps, kept-map, Shows, shown, word-under}
+use Rattle.convert.proofs.Meaning.{Meant, meant, reads-kept}
+use Rattle.convert.proofs.PaperAxes.{Agrees, agrees, table-run}
+use Rattle.convert.proofs.Signs.{hermitian}
+use Rattle.convert.proofs.Counting.{needed}
+use Rattle.convert.proofs.Places.{firstPlace, pending-since, place-whole}
+use Rattle.convert.proofs.Accepting.{accepted, FitsGate, fits-gate}
+use Rattle.convert.proofs.CapKept.{capped}
+use Rattle.convert.proofs.LaterCalls.{framed, shows-framed, later-framed, Good, good-laters, made-step, meant-input, good-converted}
+use Rattle.convert.proofs.LoweredGates.{y-acts, sx-acts, swap-acts, cy-acts}
+use Rattle.convert.proofs.HandCircuits.{hand-circuits}
+use Rattle.convert.proofs.OperationWords.{AllFour, four-run, ops-read}
+
+-- ---- Means
+
+frame-table : (n : ℕ) (gs : List Gate) → AllValid n gs → Frame n gs (table n gs)
+frame-table n gs v = record { size = table-rows n gs v .size; conjugated = table-is-back n gs v; signed = table-real n gs v; independent = independent n gs v }
+
+map-map : {A B C : Type 0} (f : B → C) (g : A → B) (l : List A) → map (λ a. f (g a)) l ≡ map f (map g l)
+map-map f g [] = refl
+map-map f g (a ∷ l) = ap (λ r. f (g a) ∷ r) (map-map f g l)
+
+-- at every point of a conversion, es being the elementary gates so far
+pub means : (n owner cbits : ℕ) (cap : Cap) (es : List (Placed Elementary)) → AllProper n cbits (bare es)
+    → Means n owner cbits (plainRun flush n cap es (begin n)) (wordRun n cap es (begin n) (startWords n))
+means n owner cbits cap es v = record {
+  places = λ j hj. shown n _ _ (M .core .shows) j hj;
+  operations = map-map (meaning n (w .arena .count) (w .arena .nodes)) (decoded owner cbits) (w .ops) ∙ M .core .written .reads;
+  frame = subst (λ t. Frame n (bare (plainRun flush n cap es (begin n) .pending)) t) (sym (M .table-of)) (frame-table n _ (M .valid));
+}
+  where
+    w : Words
+    w = wordRun n cap es (begin n) (startWords n)
+
+    M : Meant n owner cbits (plainRun flush n cap es (begin n)) w
+    M = meant n owner cbits cap es v
+
+-- the rotations that a flush would write act by conjugation as the pending gates do
+pub flush-acts : (n cbits : ℕ) (cap : Cap) (es : List (Placed Elementary)) → AllProper n cbits (bare es) → (Q : Row) → Width n Q
+    → rotations (flush n (bare (plainRun flush n cap es (begin n) .pending))) Q ≡ forward (bare (plainRun flush n cap es (begin n) .pending)) Q
+flush-acts n cbits cap es v Q w = flush-as-gates n _ Q (meant n 0 cbits cap es v .valid) w
+
+-- ---- an accepted conversion
+
+agrees-input : (x : Input) → convertCheck limits x ≡ Fine → Agrees (x .qubits) (plainEnd x) (paperEnd x)
+unfolding plainEnd paperEnd
+agrees-input x e = agrees flush (x .qubits) (x .cbits) (x .cap) (gatesIn x) (accepted limits x e .proper)
+
+hermitian-input : (x : Input) → convertCheck limits x ≡ Fine → AllHermitian (paperEnd x .operations)
+unfolding paperEnd
+hermitian-input x e = hermitian (x .qubits) (x .cbits) (x .cap) (bare (gatesIn x)) (accepted limits x e .proper)
+
+capped-input : (x : Input) → convertCheck limits x ≡ Fine → Capped (x .cap) (paperEnd x .operations)
+unfolding paperEnd gatesIn lowerAll
+capped-input x e = capped (x .qubits) (x .cbits) 0 (x .cap) (records (x .gates)) (accepted limits x e .proper) (accepted limits x e .cap)
+
+-- ---- the frame words of a store, read through all its words
+
+module _ (n : ℕ) (s : Store) (t : List Row) (q : s .header .qubits ≡ n) (S : Shows n (opened (s .header) (s .nodes) (s .frame)) t) where
+  all-words : Arena
+  all-words = record { count = s .header .nodes; nodes = s .nodes; frame = s .frame }
+
+  through : Keeps n (opened (s .header) (s .nodes) (s .frame)) all-words
+  unfolding all-words
+  through = record {
+    more = omega arith;
+    same = λ w lt. image-older n (s .header .nodes) (s .header .nodes) (take (2 * s .header .nodes) (s .nodes)) (s .nodes) w (omega arith) (omega arith)
+        (take-all (2 * s .header .nodes) (take (2 * s .header .nodes) (s .nodes)) (omega (arith, S .even)));
+  }
+
+  images-are : images s ≡ t
+  unfolding images all-words
+  images-are =
+      ap (λ m. map (image m (s .header .nodes) (s .nodes)) (take (2 * s .header .qubits) (s .frame))) q
+      ∙ kept-map n (opened (s .header) (s .nodes) (s .frame)) all-words through (take (2 * s .header .qubits) (s .frame)) (S .under)
+      ∙ S .rows
+
+  image-is : (j : ℕ) → j < n + n → imageAt s j ≡ getD t j (identity n)
+  unfolding all-words
+  image-is j hj =
+      ap₂ (λ m w. image m (s .header .nodes) (s .nodes) w) q (sym (getD-take (2 * s .header .qubits) (s .frame) j 0 (omega arith)))
+      ∙ through .same _ (word-under n (opened (s .header) (s .nodes) (s .frame)) t S j)
+      ∙ shown n (opened (s .header) (s .nodes) (s .frame)) t S j hj
+
+-- ---- a frame gate by itself, on whatever words it is lent
+
+under-named : (k : ℕ) (ws : List ℕ) → namesUnused k ws ≡ false → Under k ws
+under-named k [] e = tt
+under-named k (w ∷ ws) e =
+    let h : w / 4 < k = leb-false k (w / 4) (left-false _ (namesUnused k ws) e) in
+    (omega arith, under-named k ws (right-false (leb k (w / 4)) _ e))
+
+-- each row of images is rewritten by the rule of the gate
+pub frame-gate : (s : Store) (k a b : ℕ) → cliffordCheck (s .header) (length (s .nodes)) (s .frame) k a b ≡ Fine
+    → images (later (callFrame k a b) s) ≡ run (s .header .qubits) (frameGates (kindOf k) a b) (images s)
+frame-gate s k a b e =
+    ap images (later-framed s k a b e)
+    ∙ images-are n (framed (frameGates (kindOf k) a b) s) _ refl (shows-framed s t (frameGates (kindOf k) a b) (f .valid) S)
+    ∙ ap (run n (frameGates (kindOf k) a b)) (sym (images-are n s t refl S))
+  where
+    n : ℕ
+    n = s .header .qubits
+
+    f : FitsGate (s .header) (length (s .nodes)) (s .frame) k a b
+    f = fits-gate (s .header) (length (s .nodes)) (s .frame) k a b e
+
+    t : List Row
+    t = map (image n (s .header .nodes) (take (2 * s .header .nodes) (s .nodes))) (take (2 * n) (s .frame))
+
+    S : Shows n (opened (s .header) (s .nodes) (s .frame)) t
+    S = record {
+      even = length-take-le (2 * s .header .nodes) (s .nodes) (f .used);
+      some = f .some;
+      size = length-take-le (2 * n) (s .frame) (f .places) ∙ omega arith;
+      under = under-named (s .header .nodes) (take (2 * n) (s .frame)) (f .named);
+      rows = refl;
+    }
+
+-- ---- an accepted conversion is that of the papers
+
+four-words : (x : Input) → AllFour (wordEnd x .ops)
+unfolding wordEnd startWords
+four-words x = four-run (x .qubits) (x .cap) (gatesIn x) (begin (x .qubits)) (startWords (x .qubits)) tt
+
+operations-read : (x : Input) → convertCheck limits x ≡ Fine
+    → operationsIn (convertedHeader x) (convertStep x .nodes) (convertStep x .operations) ≡ paperEnd x .operations
+unfolding operationsIn
+operations-read x e =
+    ap₂ (λ ns ops. map (meaning (x .qubits) (wordEnd x .arena .count) ns) (opsFrom (opAt (convertedHeader x) ops) 0 (length (wordEnd x .ops))))
+    (ap (λ r. r .nodes) (made-step x e)) (ap (λ r. r .operations) (made-step x e))
+    ∙ ap (map (meaning (x .qubits) (wordEnd x .arena .count) (overlay (wordEnd x .arena .nodes) (x .nodes)))) (ops-read (convertedHeader x) (wordEnd x .ops) _ (four-words x))
+    ∙ reads-kept (x .qubits) (wordEnd x .arena) lent kept (map (decoded (x .owner) (x .cbits)) (wordEnd x .ops)) (M .core .written .below)
+    ∙ M .core .written .reads ∙ agrees-input x e .operations
+  where
+    M : Meant (x .qubits) (x .owner) (x .cbits) (plainEnd x) (wordEnd x)
+    M = meant-input x e
+
+    lent : Arena
+    lent = record { count = wordEnd x .arena .count; nodes = overlay (wordEnd x .arena .nodes) (x .nodes); frame = x .frame }
+
+    kept : Keeps (x .qubits) (wordEnd x .arena) lent
+    kept = record {
+      more = omega arith;
+      same = λ w lt. image-append (x .qubits) (wordEnd x .arena .count) (wordEnd x .arena .nodes) (M .core .shows .even) (wordEnd x .arena .count) _ w (omega arith) lt;
+    }
+
+pub converts : (x : Input) → convertCheck limits x ≡ Fine → Converts x
+converts x e = record {
+  operations = operations-read x e;
+  hermitian = hermitian-input x e;
+  capped = capped-input x e;
+  measurements = agrees-input x e .given;
+  frame = subst (λ t. Frame (x .qubits) (paperEnd x .since) t) (sym (images-are (x .qubits) (converted x) _ (good-converted x e .qubits) (good-converted x e .shows) ∙ agrees-input x e .table-of))
+      (frame-table (x .qubits) (paperEnd x .since) (agrees-input x e .valid));
+}
+
+-- ---- demand 3
+
+table-input : (x : Input) → plainEnd x .table ≡ tableEnd x
+unfolding plainEnd tableEnd begin
+table-input x = table-run flush (x .qubits) (x .cap) (gatesIn x) (begin (x .qubits))
+
+pub demand3 : (x : Input) → convertCheck limits x ≡ Fine → (cs : List Call) → Demand3 x cs (laters cs (converted x))
+unfolding endTable endGates
+demand3 x e cs = record {
+  rows = image-is n s (endTable x cs) (G .qubits) (G .shows);
+  conjugated = all ∙ F .conjugated;
+  signed = λ j hj. ap (λ P. real (P .phase)) (image-is n s (endTable x cs) (G .qubits) (G .shows) j hj) ∙ F .signed j hj;
+  independent = λ us vs lu lv ne. subst (λ t. productOver n us t .letters ≢ productOver n vs t .letters) (sym all) (F .independent us vs lu lv ne);
+}
+  where
+    n : ℕ
+    n = x .qubits
+
+    s : Store
+    s = laters cs (converted x)
+
+    G : Good n s (endTable x cs) (endGates x cs)
+    G = good-laters n cs (converted x) (tableEnd x) (paperEnd x .since)
+        (subst (λ t. Good n (converted x) t (paperEnd x .since)) (table-input x) (subst (λ gs. Good n (converted x) (plainEnd x .table) gs) (agrees-input x e .pending) (good-converted x e)))
+
+    F : Frame n (endGates x cs) (endTable x cs)
+    F = subst (λ t. Frame n (endGates x cs) t) (sym (G .table-of)) (frame-table n (endGates x cs) (G .valid))
+
+    all : images s ≡ endTable x cs
+    all = images-are n s (endTable x cs) (G .qubits) (G .shows)
+
+-- ---- acceptance and refusal
+
+-- the header that an accepted conversion answers
+pub made : (x : Input) → convertCheck limits x ≡ Fine → convertStep x .answer ≡ ConvertedMade (convertedHeader x)
+made x e = ap (λ r. r .answer) (made-step x e)
+
+-- a refusal changes no node, operation or frame word
+pub refused : (x : Input) (error : PbcError) → convertCheck limits x ≡ Wrong error
+    → (convertStep x .answer ≡ ConvertedRefused error) × (convertStep x .nodes ≡ x .nodes) × (convertStep x .operations ≡ x .operations) × (convertStep x .frame ≡ x .frame)
+unfolding convertStep convertWithin
+refused x error e = rw e (refl, refl, refl, refl)
+
+-- ---- what is needed, and what is pending
+
+-- the counting pass counts what the writing pass writes
+pub needs-counted : (x : Input)
+    → needRun (x .qubits) (x .cap) (gatesIn x) (begin (x .qubits)) (record { nodes = 1 + 2 * x .qubits; operations = 0 })
+    ≡ record { nodes = wordEnd x .arena .count; operations = length (wordEnd x .ops) }
+unfolding wordEnd startWords startArena
+needs-counted x = needed (x .qubits) (x .cap) (gatesIn x) (begin (x .qubits)) (startWords (x .qubits))
+
+-- the pending gates are the frame gates from the place of the last flush on, which is a whole record
+pub pending-from-place : (x : Input)
+    → plainEnd x .pending ≡ cliffords (gatesFrom (placeRun (x .qubits) (x .cap) (gatesIn x) (begin (x .qubits)) firstPlace) (records (x .gates)))
+unfolding plainEnd gatesIn
+pending-from-place x = pending-since (x .qubits) (x .cap) (records (x .gates))
+
+pub place-is-whole : (x : Input) → placeRun (x .qubits) (x .cap) (gatesIn x) (begin (x .qubits)) firstPlace .part ≡ 0
+unfolding gatesIn
+place-is-whole x = place-whole (x .qubits) (x .cap) (records (x .gates)) (begin (x .qubits))
+
+-- ---- lowering: the lowered gates act by conjugation as the gate does
+
+pub y-as-lowered : (n q b : ℕ) (P : Row) → q < n → Width n P → loweredActs KindY q b P ≡ act₁ ruleY q P
+y-as-lowered n q b P hq w = y-acts n q P hq w b
+
+pub sx-as-lowered : (n q b : ℕ) (P : Row) → q < n → Width n P → loweredActs KindSx q b P ≡ act₁ ruleSx q P
+sx-as-lowered n q b P hq w = sx-acts n q P hq w b
+
+pub swap-as-lowered : (n a b : ℕ) (P : Row) → a < n → b < n → a ≢ b → Width n P → loweredActs KindSwap a b P ≡ act₂ ruleSwap a b P
+swap-as-lowered n a b P ha hb ne w = swap-acts n a b P ha hb ne w
+
+pub cy-as-lowered : (n c t : ℕ) (P : Row) → c < n → t < n → c ≢ t → Width n P → loweredActs KindCy c t P ≡ act₂ ruleCy c t P
+cy-as-lowered n c t P hc ht ne w = cy-acts n c t P hc ht ne w
+
+-- ---- the circuits that are followed by hand
+
+pub hand : HandCircuits
+hand = hand-circuits

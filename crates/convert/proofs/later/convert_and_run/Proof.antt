@@ -1,0 +1,74 @@
+-- `convert_and_run` meets its contract.
+use mathlib.Core.Path.{ap, sym, _∙_}
+use Rattle.convert.specs.Conversion.{inputOf}
+use Rattle.convert.proofs.LaterRuns.{run-made, run-refused, demand3-of}
+use borrow.Author.Needs.{needs}
+use Rattle.convert.proofs.later.convert_and_run.Statement.{statement}
+use Rattle.convert.proofs.later.convert_and_run.Tie as tie
+
+to-pbc-requires : tie.Need-to-pbc-requires
+to-pbc-requires c κs = search needs
+
+enum-known-converted : tie.Need-enum-known-converted
+enum-known-converted c = search needs
+
+run-calls-requires : tie.Need-run-calls-requires
+run-calls-requires c κs = search needs
+
+enum-known-converted-2 : tie.Need-enum-known-converted-2
+enum-known-converted-2 c = search needs
+
+same-length : tie.Need-same-length
+same-length c = search needs
+
+same-length-2 : tie.Need-same-length-2
+same-length-2 c = search needs
+
+same-length-3 : tie.Need-same-length-3
+same-length-3 c = search needs
+
+same-length-4 : tie.Need-same-length-4
+same-length-4 c = search needs
+
+returns : tie.Need-returns
+returns c =
+    let x = inputOf (c .before .before .before .before .before .before .before .before .before .before .before .before .before .before .before .before .before .before .before .before .before .before .before .before .before .before .before .before .before .before .before .before .args .qubits) (c .before .before .before .before .before .before .before .before .before .before .before .before .before .before .before .before .before .before .before .before .before .before .before .before .before .before .before .before .before .before .before .before .args .cbits) (c .before .before .before .before .before .before .before .before .before .before .before .before .before .before .before .before .before .before .before .before .before .before .before .before .before .before .before .before .before .before .before .before .args .owner) (c .before .before .before .before .before .before .before .before .before .before .before .before .before .before .before .before .before .before .before .before .before .before .before .before .before .before .before .before .before .before .before .before .args .cap) (c .before .before .before .before .before .before .before .before .before .before .before .before .before .before .before .before .before .before .before .before .before .before .before .before .before .before .before .before .before .before .before .before .args .gates .now) (c .before .before .before .before .before .before .before .before .before .before .before .before .before .before .before .before .before .before .before .before .before .before .before .before .before .before .before .before .before .before .before .before .args .nodes .now) (c .before .before .before .before .before .before .before .before .before .before .before .before .before .before .before .before .before .before .before .before .before .before .before .before .before .before .before .before .before .before .before .before .args .operations .now) (c .before .before .before .before .before .before .before .before .before .before .before .before .before .before .before .before .before .before .before .before .before .before .before .before .before .before .before .before .before .before .before .before .args .frame .now) (c .before .before .before .before .before .before .before .before .before .before .before .before .before .before .before .before .before .before .before .before .before .before .before .before .before .before .before .before .before .before .before .before .args .planes .now) in
+    let p = run-made x (c .before .before .before .before .before .before .before .before .before .before .before .before .before .before .before .before .before .before .before .before .before .before .before .before .before .before .before .before .before .before .before .before .args .calls .now) _ _ _ _ (c .before .before .before .before .before .before .before .before .before .before .before .before .before .before .before .before .before .before .before .before .before .to-pbc .ensures .1 .0) (c .before .before .before .before .before .before .before .before .before .before .before .before .before .before .before .before .before .before .before .before .before .to-pbc .ensures .1 .1 .0) (c .before .before .before .before .before .before .before .before .before .before .before .before .before .before .before .before .before .before .before .before .before .to-pbc .ensures .1 .1 .1 .0) (c .before .before .before .before .before .before .before .before .before .before .before .before .before .before .before .before .before .before .before .before .before .to-pbc .ensures .1 .1 .1 .1) _ _ _ _ _ (sym (c .before .before .before .before .before .before .before .before .before .before .before .converted .given .1) ∙ c .before .before .before .before .before .before .before .before .before .before .before .before .before .before .before .before .before .before .before .before .before .to-pbc .ensures .0) (c .before .before .before .before .before .before .run-calls .ensures .0) (c .before .before .before .before .before .before .run-calls .ensures .1 .0) (c .before .before .before .before .before .before .run-calls .ensures .1 .1 .0) (c .before .before .before .before .before .before .run-calls .ensures .1 .1 .1) in
+    (ap (λ s. s .answer) p, (ap (λ s. s .nodes) p, (ap (λ s. s .operations) p, (ap (λ s. s .frame) p, (ap (λ s. s .planes) p, demand3-of x (c .before .before .before .before .before .before .before .before .before .before .before .before .before .before .before .before .before .before .before .before .before .before .before .before .before .before .before .before .before .before .before .before .args .calls .now) _ p)))))
+
+same-length-5 : tie.Need-same-length-5
+same-length-5 c = search needs
+
+same-length-6 : tie.Need-same-length-6
+same-length-6 c = search needs
+
+same-length-7 : tie.Need-same-length-7
+same-length-7 c = search needs
+
+same-length-8 : tie.Need-same-length-8
+same-length-8 c = search needs
+
+returns-2 : tie.Need-returns-2
+returns-2 c =
+    let x = inputOf (c .before .before .before .before .before .before .before .before .before .before .before .before .before .before .before .before .before .before .before .before .before .before .args .qubits) (c .before .before .before .before .before .before .before .before .before .before .before .before .before .before .before .before .before .before .before .before .before .before .args .cbits) (c .before .before .before .before .before .before .before .before .before .before .before .before .before .before .before .before .before .before .before .before .before .before .args .owner) (c .before .before .before .before .before .before .before .before .before .before .before .before .before .before .before .before .before .before .before .before .before .before .args .cap) (c .before .before .before .before .before .before .before .before .before .before .before .before .before .before .before .before .before .before .before .before .before .before .args .gates .now) (c .before .before .before .before .before .before .before .before .before .before .before .before .before .before .before .before .before .before .before .before .before .before .args .nodes .now) (c .before .before .before .before .before .before .before .before .before .before .before .before .before .before .before .before .before .before .before .before .before .before .args .operations .now) (c .before .before .before .before .before .before .before .before .before .before .before .before .before .before .before .before .before .before .before .before .before .before .args .frame .now) (c .before .before .before .before .before .before .before .before .before .before .before .before .before .before .before .before .before .before .before .before .before .before .args .planes .now) in
+    let p = run-refused x (c .before .before .before .before .before .before .before .before .before .before .before .before .before .before .before .before .before .before .before .before .before .before .args .calls .now) _ _ _ _ (c .before .before .before .before .before .before .before .before .before .before .before .to-pbc .ensures .1 .0) (c .before .before .before .before .before .before .before .before .before .before .before .to-pbc .ensures .1 .1 .0) (c .before .before .before .before .before .before .before .before .before .before .before .to-pbc .ensures .1 .1 .1 .0) (c .before .before .before .before .before .before .before .before .before .before .before .to-pbc .ensures .1 .1 .1 .1) _ (sym (c .before .converted2 .given .1) ∙ c .before .before .before .before .before .before .before .before .before .before .before .to-pbc .ensures .0) in
+    (ap (λ s. s .answer) p, (ap (λ s. s .nodes) p, (ap (λ s. s .operations) p, (ap (λ s. s .frame) p, (ap (λ s. s .planes) p, demand3-of x (c .before .before .before .before .before .before .before .before .before .before .before .before .before .before .before .before .before .before .before .before .before .before .args .calls .now) _ p)))))
+
+pub convert-and-run-spec : {M : Type 1} → statement M
+convert-and-run-spec =
+    tie.close
+    (tie.spec
+    to-pbc-requires
+    enum-known-converted
+    run-calls-requires
+    enum-known-converted-2
+    same-length
+    same-length-2
+    same-length-3
+    same-length-4
+    returns
+    same-length-5
+    same-length-6
+    same-length-7
+    same-length-8
+    returns-2)

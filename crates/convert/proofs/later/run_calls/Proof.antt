@@ -1,0 +1,77 @@
+-- `run_calls` meets its contract.
+use borrow.Author.Needs.{needs}
+use mathlib.Core.Path.{_≡_, refl, ap, _∙_}
+use Prim.Native.Nat.{_-_, _/_, _≤_}
+use native.Mathlib.Omega.{arith}
+use lib.ListN.{length}
+use Rattle.convert.specs.LaterCalls.{circuitOf, callIn, called, ranTo, ran}
+use Rattle.convert.proofs.LaterRuns.{ran-more}
+use Rattle.convert.proofs.later.run_calls.Statement.{statement}
+use Rattle.convert.proofs.later.run_calls.Tie as tie
+
+abbrev Inv-loop : tie.InvT-loop
+Inv-loop calls nodes₀ operations₀ frame₀ count last₀ i₀ nodes operations frame last i =
+    (i ≤ count) × (length nodes ≡ length nodes₀) × (length operations ≡ length operations₀) × (length frame ≡ length frame₀)
+    × (circuitOf last nodes operations frame ≡ ranTo calls i (circuitOf last₀ nodes₀ operations₀ frame₀))
+
+abbrev μ-loop : tie.MeasureT-loop
+μ-loop calls nodes₀ operations₀ frame₀ count last₀ i₀ nodes operations frame last i = count - i
+
+loop-holds : tie.Need-loop-holds Inv-loop μ-loop
+unfolding ranTo
+loop-holds c = (omega arith, refl, refl, refl, refl)
+
+words-at-requires : tie.Need-words-at-requires Inv-loop μ-loop
+words-at-requires c κs = c .loop-test .taken
+
+run-call-requires : tie.Need-run-call-requires Inv-loop μ-loop
+run-call-requires c κs = search needs
+
+add-i : tie.Need-add-i Inv-loop μ-loop
+add-i c = search needs
+
+loop-less : tie.Need-loop-less Inv-loop μ-loop
+loop-less c = omega (arith, c .before .before .before .before .before .before .before .before .before .before .before .loop-test .taken)
+
+loop-again : tie.Need-loop-again Inv-loop μ-loop
+loop-again c =
+    let at = c .before .before .before .before .before .before .before .before .before .before .before .before .loop in (
+      omega (arith, c .before .before .before .before .before .before .before .before .before .before .before .loop-test .taken),
+      omega (arith, c .before .before .before .before .before .before .run-call .kept, at .inv .1),
+      omega (arith, c .before .before .before .before .before .before .run-call .kept, at .inv .2),
+      omega (arith, c .before .before .before .before .before .before .run-call .kept, at .inv .3),
+      ran-more (c .before .before .before .before .before .before .before .before .before .before .before .before .before .before .before .before .before .args .calls .now) (at .i) _ _ _ (at .inv .4) (c .before .before .before .before .before .before .run-call .ensures ∙ ap (λ w. called (callIn (at .operations) w) (circuitOf (at .last) (at .nodes) (at .operations) (at .frame))) (c .before .before .before .before .before .before .before .before .before .before .words-at .ensures)),
+    )
+
+same-length : tie.Need-same-length Inv-loop μ-loop
+same-length c = c .before .loop .inv .1
+
+same-length-2 : tie.Need-same-length-2 Inv-loop μ-loop
+same-length-2 c = c .before .loop .inv .2
+
+same-length-3 : tie.Need-same-length-3 Inv-loop μ-loop
+same-length-3 c = c .before .loop .inv .3
+
+returns : tie.Need-returns Inv-loop μ-loop
+unfolding ran
+returns c =
+    let end : c .before .loop .i ≡ length (c .before .before .before .before .before .before .args .calls .now) / 6 = omega (arith, c .loop-test .left, c .before .loop .inv .0) in
+    let all = (c .before .loop .inv .4 ∙ ap (λ k. ranTo (c .before .before .before .before .before .before .args .calls .now) k (circuitOf (c .before .before .before .before .before .before .args .header) (c .before .before .before .before .before .before .args .nodes .now) (c .before .before .before .before .before .before .args .operations .now) (c .before .before .before .before .before .before .args .frame .now))) end) in
+    (ap (λ s. s .store .header) all, (ap (λ s. s .store .nodes) all, (ap (λ s. s .operations) all, ap (λ s. s .store .frame) all)))
+
+pub run-calls-spec : {M : Type 1} → statement M
+run-calls-spec =
+    tie.close
+    (tie.spec
+    Inv-loop
+    μ-loop
+    loop-holds
+    words-at-requires
+    run-call-requires
+    add-i
+    loop-less
+    loop-again
+    same-length
+    same-length-2
+    same-length-3
+    returns)

@@ -1,0 +1,236 @@
+-- What a conversion answers, and what it leaves in the slices lent: for acceptance and every refusal.
+use mathlib.Core.Bool.{Bool, true, false, not, _&&_, _||_}
+use mathlib.Core.List.{List, [], _∷_}
+use Prim.Native.Nat.{ℕ, suc, _*_, _/_, _%_}
+use lib.Dec.{ltb, leb, eqb}
+use lib.ListN.{length}
+use Rattle.pauli.specs.Rows.{Row}
+use Rattle.pauli.specs.Table.{start}
+use Rattle.pauli.specs.Rotations.{flush}
+use Rattle.arena.specs.Limits.{maxQubits, maxCbits, maxNodes, maxOperations, nodeWords, operationWords}
+use Rattle.arena.specs.Errors.{_⟫_⇒_}
+use Rattle.arena.specs.Builder.{overlay}
+use Rattle.convert.specs.Types.{Header, TooManyQubits, BrokenGateList, UnsupportedGate, ClassicalBitOutOfRange, CapTooSmall, NoPlanes, NoFrame, NoNodes, NoOperations, Checked, Fine, Wrong}
+use Rattle.convert.specs.Records.{GateKind, KindH, KindX, KindZ, KindS, KindSdg, KindT, KindTdg, KindCnot, KindCz, KindCcx, KindCcz, KindMeasure, KindY, KindSx, KindSwap, KindCy, Unsupported, Cap, NoCap, AtMost, Record, records, kindOf, Elementary, Placed, lowerAll, bare}
+use Rattle.convert.specs.Plain.{Plain, begin, plainRun, tableRun}
+use Rattle.convert.specs.Paper.{Paper, paperRun, paperBegin}
+use Rattle.convert.specs.Frame.{qubitsOf, operandsChecked}
+use Rattle.convert.specs.Words.{Words, flat, startWords, wordRun}
+use Rattle.convert.specs.Planes.{partWords, packed}
+pub use Rattle.convert.specs.declared.convert.Converted.the-variants.{the-data as Converted, Made as ConvertedMade, Refused as ConvertedRefused}
+
+-- what is lent to a conversion
+pub record Input : Type 0 where
+  pub qubits : ℕ
+  pub cbits : ℕ
+  pub owner : ℕ
+  pub cap : Cap
+  pub gates : List ℕ
+  pub nodes : List ℕ
+  pub operations : List ℕ
+  pub frame : List ℕ
+  pub planes : List ℕ
+
+abbrev pub inputOf : (qubits cbits owner : ℕ) → Cap → (gates nodes operations frame planes : List ℕ) → Input
+inputOf qubits cbits owner cap gates nodes operations frame planes = record {
+  qubits = qubits;
+  cbits = cbits;
+  owner = owner;
+  cap = cap;
+  gates = gates;
+  nodes = nodes;
+  operations = operations;
+  frame = frame;
+  planes = planes;
+}
+
+-- ---- the four ends: of the plain conversion, of the plain table alone, of the papers' conversion, of the words
+
+unfoldable pub gatesIn : Input → List (Placed Elementary)
+gatesIn x = lowerAll (records (x .gates))
+
+unfoldable pub plainEnd : Input → Plain
+plainEnd x = plainRun flush (x .qubits) (x .cap) (gatesIn x) (begin (x .qubits))
+
+unfoldable pub tableEnd : Input → List Row
+tableEnd x = tableRun (x .qubits) (x .cap) (bare (gatesIn x)) (start (x .qubits))
+
+unfoldable pub paperEnd : Input → Paper
+paperEnd x = paperRun flush (x .qubits) (x .cap) (bare (gatesIn x)) paperBegin
+
+unfoldable pub wordEnd : Input → Words
+wordEnd x = wordRun (x .qubits) (x .cap) (gatesIn x) (begin (x .qubits)) (startWords (x .qubits))
+
+-- ---- checks of the gate list
+
+abbrev pub isMeasure : GateKind → Bool
+isMeasure KindMeasure = true
+isMeasure KindH = false
+isMeasure KindX = false
+isMeasure KindZ = false
+isMeasure KindS = false
+isMeasure KindSdg = false
+isMeasure KindT = false
+isMeasure KindTdg = false
+isMeasure KindCnot = false
+isMeasure KindCz = false
+isMeasure KindCcx = false
+isMeasure KindCcz = false
+isMeasure KindY = false
+isMeasure KindSx = false
+isMeasure KindSwap = false
+isMeasure KindCy = false
+isMeasure Unsupported = false
+
+abbrev pub isDoubly : GateKind → Bool
+isDoubly KindCcx = true
+isDoubly KindCcz = true
+isDoubly KindH = false
+isDoubly KindX = false
+isDoubly KindZ = false
+isDoubly KindS = false
+isDoubly KindSdg = false
+isDoubly KindT = false
+isDoubly KindTdg = false
+isDoubly KindCnot = false
+isDoubly KindCz = false
+isDoubly KindMeasure = false
+isDoubly KindY = false
+isDoubly KindSx = false
+isDoubly KindSwap = false
+isDoubly KindCy = false
+isDoubly Unsupported = false
+
+abbrev pub isUnsupported : GateKind → Bool
+isUnsupported Unsupported = true
+isUnsupported KindH = false
+isUnsupported KindX = false
+isUnsupported KindZ = false
+isUnsupported KindS = false
+isUnsupported KindSdg = false
+isUnsupported KindT = false
+isUnsupported KindTdg = false
+isUnsupported KindCnot = false
+isUnsupported KindCz = false
+isUnsupported KindCcx = false
+isUnsupported KindCcz = false
+isUnsupported KindMeasure = false
+isUnsupported KindY = false
+isUnsupported KindSx = false
+isUnsupported KindSwap = false
+isUnsupported KindCy = false
+
+-- the checks so far, then those of gate i: 5, then 7 and 8 operand by operand, then 9
+unfoldable pub recordChecked : Checked → ℕ → ℕ → ℕ → Record → Checked
+recordChecked k n cbits i r =
+    operandsChecked (k ⟫ isUnsupported (kindOf (r .kind)) ⇒ UnsupportedGate i (r .kind)) n i [] (qubitsOf (kindOf (r .kind)) (r .a) (r .b) (r .c))
+    ⟫ isMeasure (kindOf (r .kind)) && leb cbits (r .b) ⇒ ClassicalBitOutOfRange i (r .b)
+
+-- gate by gate, the first faulty gate deciding
+unfoldable pub recordsChecked : Checked → ℕ → ℕ → ℕ → List Record → Checked
+recordsChecked k n cbits i [] = k
+recordsChecked k n cbits i (r ∷ rs) = recordsChecked (recordChecked k n cbits i r) n cbits (suc i) rs
+
+-- ---- the other checks
+
+abbrev pub anyDoubly : List Record → Bool
+anyDoubly [] = false
+anyDoubly (r ∷ rs) = isDoubly (kindOf (r .kind)) || anyDoubly rs
+
+-- cap 0, or cap 1 or 2 with a ccx or ccz
+abbrev pub capTooSmall : Cap → List Record → Bool
+capTooSmall NoCap rs = false
+capTooSmall (AtMost cap) rs = eqb cap 0 || (leb cap 2 && anyDoubly rs)
+
+-- 4nL
+abbrev pub planeWords : ℕ → ℕ
+planeWords n = 4 * n * partWords n
+
+-- fewer than 4nL plane words under a cap
+abbrev pub planesTooFew : Cap → ℕ → ℕ → Bool
+planesTooFew NoCap n m = false
+planesTooFew (AtMost cap) n m = ltb m (planeWords n)
+
+-- the words of a gate list
+abbrev pub maxGateWords : ℕ
+maxGateWords = 262144
+
+-- the limits that a conversion keeps
+pub record Limits : Type 0 where
+  pub qubits : ℕ
+  pub cbits : ℕ
+  pub gateWords : ℕ
+  pub nodes : ℕ
+  pub operations : ℕ
+
+abbrev pub limits : Limits
+limits = record { qubits = maxQubits; cbits = maxCbits; gateWords = maxGateWords; nodes = maxNodes; operations = maxOperations }
+
+-- 1, 2, then 5, 7, 8, 9 gate by gate, then 11, 12
+unfoldable pub gatesCheck : Limits → Input → Checked
+gatesCheck l x =
+    recordsChecked
+    (Fine
+    ⟫ ltb (l .qubits) (x .qubits) || ltb (l .cbits) (x .cbits) ⇒ TooManyQubits
+    ⟫ not (eqb (length (x .gates) % 4) 0) || ltb (l .gateWords) (length (x .gates)) ⇒ BrokenGateList)
+    (x .qubits) (x .cbits) 0 (records (x .gates))
+    ⟫ capTooSmall (x .cap) (records (x .gates)) ⇒ CapTooSmall
+    ⟫ planesTooFew (x .cap) (x .qubits) (length (x .planes)) ⇒ NoPlanes
+
+-- then 13, 14, 15, where the needs are those of the whole conversion
+unfoldable pub convertCheck : Limits → Input → Checked
+convertCheck l x =
+    gatesCheck l x
+    ⟫ ltb (length (x .frame)) (2 * x .qubits) ⇒ NoFrame
+    ⟫ ltb (l .nodes) (wordEnd x .arena .count) || ltb (length (x .nodes) / nodeWords) (wordEnd x .arena .count) ⇒ NoNodes
+    ⟫ ltb (l .operations) (length (wordEnd x .ops)) || ltb (length (x .operations) / operationWords) (length (wordEnd x .ops)) ⇒ NoOperations
+
+-- ---- the answer and the slices
+
+abbrev pub convertedHeader : Input → Header
+convertedHeader x = record {
+  qubits = x .qubits;
+  cbits = x .cbits;
+  owner = x .owner;
+  nodes = wordEnd x .arena .count;
+  operations = length (wordEnd x .ops);
+  measurements = plainEnd x .given;
+}
+
+-- the planes hold the packed end table, over what was there: under a cap, once the checks up to 12 have passed
+abbrev pub planesAs : Cap → Input → List ℕ
+planesAs NoCap x = x .planes
+planesAs (AtMost cap) x = overlay (packed (x .qubits) (tableEnd x)) (x .planes)
+
+abbrev pub planesAfter : Checked → Input → List ℕ
+planesAfter Fine x = planesAs (x .cap) x
+planesAfter (Wrong e) x = x .planes
+
+pub record ConvertStep : Type 0 where
+  pub answer : Converted
+  pub nodes : List ℕ
+  pub operations : List ℕ
+  pub frame : List ℕ
+  pub planes : List ℕ
+
+abbrev pub convertAs : Checked → List ℕ → Input → ConvertStep
+convertAs Fine planes x = record {
+  answer = ConvertedMade (convertedHeader x);
+  nodes = overlay (wordEnd x .arena .nodes) (x .nodes);
+  operations = overlay (flat (wordEnd x .ops)) (x .operations);
+  frame = overlay (wordEnd x .arena .frame) (x .frame);
+  planes = planes;
+}
+convertAs (Wrong e) planes x = record {
+  answer = ConvertedRefused e;
+  nodes = x .nodes;
+  operations = x .operations;
+  frame = x .frame;
+  planes = planes;
+}
+
+unfoldable pub convertWithin : Limits → Input → ConvertStep
+convertWithin l x = convertAs (convertCheck l x) (planesAfter (gatesCheck l x) x) x
+
+unfoldable pub convertStep : Input → ConvertStep
+convertStep x = convertWithin limits x

@@ -1,0 +1,160 @@
+-- The frame in words (document 01, "Frame"), and what push_output_clifford answers and leaves: for acceptance and every refusal.
+use mathlib.Core.Bool.{Bool, false, _||_}
+use mathlib.Core.List.{List, [], _∷_, _++_}
+use Prim.Native.Nat.{ℕ, suc, _+_, _*_}
+use lib.Dec.{leb, ltb, eqb}
+use lib.ListN.{length, getD, set, take}
+use Rattle.pauli.specs.Letters.{phaseNumber}
+use Rattle.pauli.specs.Gates.{Gate, gateH, gateX, gateZ, gateS, gateSdg, gateCnot, gateCz}
+use Rattle.arena.specs.Limits.{nodeWords}
+use Rattle.arena.specs.Errors.{_⟫_⇒_}
+use Rattle.arena.specs.References.{nodeIn, scaledWord}
+use Rattle.arena.specs.Nodes.{productWord}
+use Rattle.arena.specs.Store.{breaksLimit, exceedsNodes, noNodeRoom}
+use Rattle.arena.specs.Builder.{Step, decided, Lent, overlay, withNodes, startNodes, startFrame}
+use Rattle.convert.specs.Types.{Phase, One, PlusI, MinusOne, MinusI, Header, BadStore, NonCliffordFrameGate, QubitOutOfRange, RepeatedOperand, NoFrame, NoNodes, Checked, Fine}
+use Rattle.convert.specs.Records.{GateKind, KindH, KindX, KindZ, KindS, KindSdg, KindT, KindTdg, KindCnot, KindCz, KindCcx, KindCcz, KindMeasure, KindY, KindSx, KindSwap, KindCy, Unsupported, kindOf}
+pub use Rattle.convert.specs.declared.frame_gate.FramePushed.the-variants.{the-data as FramePushed, Made as FramePushedMade, Refused as FramePushedRefused}
+
+-- ---- a gate's work on used nodes and frame words
+
+-- the number of used nodes, their words, and the 2n frame words
+pub record Arena : Type 0 where
+  pub count : ℕ
+  pub nodes : List ℕ
+  pub frame : List ℕ
+
+-- a fresh circuit
+unfoldable pub startArena : ℕ → Arena
+startArena n = record { count = 1 + 2 * n; nodes = startNodes n; frame = startFrame n }
+
+-- the word at a place of the frame
+abbrev pub word : Arena → ℕ → ℕ
+word s i = getD (s .frame) i 0
+
+-- one more product
+unfoldable pub pushed : ℕ → ℕ → Arena → Arena
+pushed l r s = record { count = suc (s .count); nodes = s .nodes ++ productWord l ∷ r ∷ []; frame = s .frame }
+
+abbrev pub stored : ℕ → ℕ → Arena → Arena
+stored i w s = record { count = s .count; nodes = s .nodes; frame = set (s .frame) i w }
+
+-- the product of the words at l and r, with a phase, is stored at i
+unfoldable pub multiplied : ℕ → ℕ → ℕ → Phase → Arena → Arena
+multiplied i l r p s = stored i (4 * s .count + phaseNumber p) (pushed (word s l) (word s r) s)
+
+-- h exchanges x and z; x negates z; z negates x; s, sdg: x becomes -i, +i times product(x, z);
+-- cnot: x_c becomes product(x_c, x_t), then z_t product(z_c, z_t); cz: x_c becomes product(x_c, z_t), then x_t product(z_c, x_t)
+unfoldable pub frameStep : ℕ → Gate → Arena → Arena
+frameStep n (gateH q) s = stored (n + q) (word s q) (stored q (word s (n + q)) s)
+frameStep n (gateX q) s = stored (n + q) (scaledWord MinusOne (word s (n + q))) s
+frameStep n (gateZ q) s = stored q (scaledWord MinusOne (word s q)) s
+frameStep n (gateS q) s = multiplied q q (n + q) MinusI s
+frameStep n (gateSdg q) s = multiplied q q (n + q) PlusI s
+frameStep n (gateCnot c t) s = multiplied (n + t) (n + c) (n + t) One (multiplied c c t One s)
+frameStep n (gateCz c t) s = multiplied t (n + c) t One (multiplied c c (n + t) One s)
+
+-- the nodes that a gate pushes
+abbrev pub gateNodes : Gate → ℕ
+gateNodes (gateH q) = 0
+gateNodes (gateX q) = 0
+gateNodes (gateZ q) = 0
+gateNodes (gateS q) = 1
+gateNodes (gateSdg q) = 1
+gateNodes (gateCnot c t) = 2
+gateNodes (gateCz c t) = 2
+
+-- ---- operands: 7, then 8, operand by operand
+
+-- the qubits of a kind, in declared order
+unfoldable pub qubitsOf : GateKind → ℕ → ℕ → ℕ → List ℕ
+qubitsOf KindH a b c = a ∷ []
+qubitsOf KindX a b c = a ∷ []
+qubitsOf KindZ a b c = a ∷ []
+qubitsOf KindS a b c = a ∷ []
+qubitsOf KindSdg a b c = a ∷ []
+qubitsOf KindT a b c = a ∷ []
+qubitsOf KindTdg a b c = a ∷ []
+qubitsOf KindCnot a b c = a ∷ b ∷ []
+qubitsOf KindCz a b c = a ∷ b ∷ []
+qubitsOf KindCcx a b c = a ∷ b ∷ c ∷ []
+qubitsOf KindCcz a b c = a ∷ b ∷ c ∷ []
+qubitsOf KindMeasure a b c = a ∷ []
+qubitsOf KindY a b c = a ∷ []
+qubitsOf KindSx a b c = a ∷ []
+qubitsOf KindSwap a b c = a ∷ b ∷ []
+qubitsOf KindCy a b c = a ∷ b ∷ []
+qubitsOf Unsupported a b c = []
+
+abbrev pub member : ℕ → List ℕ → Bool
+member q [] = false
+member q (r ∷ rs) = eqb q r || member q rs
+
+-- the checks so far, then those of the operands of gate i after the operands seen
+unfoldable pub operandsChecked : Checked → ℕ → ℕ → List ℕ → List ℕ → Checked
+operandsChecked k n i seen [] = k
+operandsChecked k n i seen (q ∷ qs) =
+    operandsChecked (k ⟫ leb n q ⇒ QubitOutOfRange i q ⟫ member q seen ⇒ RepeatedOperand i q) n i (q ∷ seen) qs
+
+-- ---- push_output_clifford: 3, 6, 7, 8, 13, 14
+
+-- the frame gate of a kind, as a list of one; the other kinds have none
+unfoldable pub frameGates : GateKind → ℕ → ℕ → List Gate
+frameGates KindH a b = gateH a ∷ []
+frameGates KindX a b = gateX a ∷ []
+frameGates KindZ a b = gateZ a ∷ []
+frameGates KindS a b = gateS a ∷ []
+frameGates KindSdg a b = gateSdg a ∷ []
+frameGates KindT a b = []
+frameGates KindTdg a b = []
+frameGates KindCnot a b = gateCnot a b ∷ []
+frameGates KindCz a b = gateCz a b ∷ []
+frameGates KindCcx a b = []
+frameGates KindCcz a b = []
+frameGates KindMeasure a b = []
+frameGates KindY a b = []
+frameGates KindSx a b = []
+frameGates KindSwap a b = []
+frameGates KindCy a b = []
+frameGates Unsupported a b = []
+
+abbrev pub total : (Gate → ℕ) → List Gate → ℕ
+total f [] = 0
+total f (g ∷ gs) = f g + total f gs
+
+unfoldable pub frameRun : ℕ → List Gate → Arena → Arena
+frameRun n [] s = s
+frameRun n (g ∷ gs) s = frameRun n gs (frameStep n g s)
+
+-- a word names a node that is not among the k used ones
+abbrev pub namesUnused : ℕ → List ℕ → Bool
+namesUnused k [] = false
+namesUnused k (w ∷ ws) = leb k (nodeIn w) || namesUnused k ws
+
+-- of the frame, the first 2n words that are lent are tested
+unfoldable pub cliffordCheck : Header → (nodes : ℕ) → (frame : List ℕ) → (kind a b : ℕ) → Checked
+cliffordCheck h nodes frame kind a b =
+    operandsChecked
+    (Fine
+    ⟫ breaksLimit h || exceedsNodes h nodes || namesUnused (h .nodes) (take (2 * h .qubits) frame) ⇒ BadStore
+    ⟫ eqb (length (frameGates (kindOf kind) a b)) 0 ⇒ NonCliffordFrameGate kind)
+    (h .qubits) 0 [] (qubitsOf (kindOf kind) a b 0)
+    ⟫ ltb (length frame) (2 * h .qubits) ⇒ NoFrame
+    ⟫ noNodeRoom h nodes (total gateNodes (frameGates (kindOf kind) a b)) ⇒ NoNodes
+
+-- the used nodes and the 2n frame words
+abbrev pub opened : Header → (nodes frame : List ℕ) → Arena
+opened h nodes frame = record { count = h .nodes; nodes = take (nodeWords * h .nodes) nodes; frame = take (2 * h .qubits) frame }
+
+-- the header and the words after a gate's work, over what was lent
+abbrev pub closed : Arena → Header → (nodes frame : List ℕ) → Step FramePushed Lent
+closed s h nodes frame = record {
+  answer = FramePushedMade (withNodes (s .count) h);
+  words = record { nodes = overlay (s .nodes) nodes; frame = overlay (s .frame) frame };
+}
+
+unfoldable pub cliffordStep : Header → (nodes frame : List ℕ) → (kind a b : ℕ) → Step FramePushed Lent
+cliffordStep h nodes frame kind a b =
+    decided (cliffordCheck h (length nodes) frame kind a b) FramePushedRefused
+    (record { nodes = nodes; frame = frame })
+    (closed (frameRun (h .qubits) (frameGates (kindOf kind) a b) (opened h nodes frame)) h nodes frame)

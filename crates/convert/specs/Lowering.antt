@@ -1,0 +1,53 @@
+-- What y, sx, swap and cy do to a row by conjugation, U P U†, letter by letter; and what their lowered gates do.
+use mathlib.Core.List.{List}
+use Prim.Native.Nat.{ℕ}
+use Rattle.pauli.specs.Rows.{Row}
+use Rattle.pauli.specs.Gates.{Image₁, Image₂, plus, minus, plus₂, minus₂, Gate, forward}
+use Rattle.convert.specs.Types.{Pauli, I, X, Y, Z}
+use Rattle.convert.specs.Records.{GateKind, lowerAs, placedFrom, bare}
+use Rattle.convert.specs.Needs.{cliffords}
+
+-- Y commutes with Y, and anticommutes with X and Z
+abbrev pub ruleY : Pauli → Image₁
+ruleY I = plus I
+ruleY X = minus X
+ruleY Y = plus Y
+ruleY Z = minus Z
+
+-- the square root of X is a quarter turn about X: Y becomes Z, Z becomes -Y
+abbrev pub ruleSx : Pauli → Image₁
+ruleSx I = plus I
+ruleSx X = plus X
+ruleSx Y = plus Z
+ruleSx Z = minus Y
+
+-- the letters change places
+abbrev pub ruleSwap : Pauli → Pauli → Image₂
+ruleSwap a b = plus₂ b a
+
+-- controlled Y: X of the control brings Y to the target; X and Z of the target bring Z to the control
+abbrev pub ruleCy : Pauli → Pauli → Image₂
+ruleCy I I = plus₂ I I
+ruleCy I X = plus₂ Z X
+ruleCy I Y = plus₂ I Y
+ruleCy I Z = plus₂ Z Z
+ruleCy X I = plus₂ X Y
+ruleCy X X = minus₂ Y Z
+ruleCy X Y = plus₂ X I
+ruleCy X Z = plus₂ Y X
+ruleCy Y I = plus₂ Y Y
+ruleCy Y X = plus₂ X Z
+ruleCy Y Y = plus₂ Y I
+ruleCy Y Z = minus₂ X X
+ruleCy Z I = plus₂ Z I
+ruleCy Z X = plus₂ I X
+ruleCy Z Y = plus₂ Z Y
+ruleCy Z Z = plus₂ I Z
+
+-- the frame gates that a kind is lowered to
+abbrev pub loweredGates : GateKind → ℕ → ℕ → List Gate
+loweredGates k a b = bare (cliffords (placedFrom 0 0 (lowerAs k a b 0)))
+
+-- U P U† for these gates U
+abbrev pub loweredActs : GateKind → ℕ → ℕ → Row → Row
+loweredActs k a b P = forward (loweredGates k a b) P

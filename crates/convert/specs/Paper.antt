@@ -1,0 +1,92 @@
+-- The conversion by the papers alone: no table. An axis is U† P U for the Clifford gates U since the last flush.
+use mathlib.Core.Path.{_≡_}
+use mathlib.Core.Bool.{Bool, true, false, cond}
+use mathlib.Core.List.{List, [], _∷_, _++_, map}
+use Prim.Native.Nat.{ℕ, suc}
+use Rattle.pauli.specs.Letters.{real}
+use Rattle.pauli.specs.Rows.{Row, single}
+use Rattle.pauli.specs.Gates.{Gate, back}
+use Rattle.pauli.specs.Rotations.{Rotation}
+use Rattle.pauli.specs.Doubly.{sevenRows}
+use Rattle.convert.specs.Types.{X, Z, Target, Bit}
+use Rattle.convert.specs.Records.{Cap, NoCap, AtMost, Elementary, clifford, elT, elTdg, elCcx, elCcz, elMeasure}
+use Rattle.convert.specs.Plain.{Operation, rotateBy, measureOf, conditionalBy, malformed, seven, anyAbove, asRotation}
+
+pub record Paper : Type 0 where
+  pub since : List Gate
+  pub operations : List Operation
+  pub given : ℕ
+
+-- the Pauli products that a gate turns about or measures
+unfoldable pub products : ℕ → Elementary → List Row
+products n (clifford g) = []
+products n (elT q) = single n q Z ∷ []
+products n (elTdg q) = single n q Z ∷ []
+products n (elCcx a b d) = seven (single n a Z) (single n b Z) (single n d X)
+products n (elCcz a b d) = seven (single n a Z) (single n b Z) (single n d Z)
+products n (elMeasure q k) = single n q Z ∷ []
+
+-- those products, seen through the gates gs before it
+unfoldable pub axes : ℕ → List Gate → Elementary → List Row
+axes n gs e = map (back gs) (products n e)
+
+unfoldable pub tooHeavy : ℕ → Cap → List Gate → Elementary → Bool
+tooHeavy n NoCap gs e = false
+tooHeavy n (AtMost cap) gs e = anyAbove cap (axes n gs e)
+
+-- the angles of the seven rows
+abbrev pub sevenAngles : List ℕ
+sevenAngles = map (λ t. t .angle) sevenRows
+
+abbrev pub rotateAll : List ℕ → List Row → List Operation
+rotateAll [] Ps = []
+rotateAll (k ∷ ks) [] = []
+rotateAll (k ∷ ks) (P ∷ Ps) = rotateBy k P ∷ rotateAll ks Ps
+
+abbrev pub measureFirst : ℕ → Target → List Row → List Operation
+measureFirst m b [] = []
+measureFirst m b (P ∷ Ps) = measureOf P m b ∷ []
+
+-- what a gate writes, after the gates gs and m measurements
+unfoldable pub writes : ℕ → List Gate → ℕ → Elementary → List Operation
+writes n gs m (clifford g) = []
+writes n gs m (elT q) = rotateAll (1 ∷ []) (axes n gs (elT q))
+writes n gs m (elTdg q) = rotateAll (7 ∷ []) (axes n gs (elTdg q))
+writes n gs m (elCcx a b d) = rotateAll sevenAngles (axes n gs (elCcx a b d))
+writes n gs m (elCcz a b d) = rotateAll sevenAngles (axes n gs (elCcz a b d))
+writes n gs m (elMeasure q k) = measureFirst m (Bit k) (axes n gs (elMeasure q k))
+
+abbrev pub adds : Paper → List Operation → Paper
+adds p os = record { since = p .since; operations = p .operations ++ os; given = p .given }
+
+unfoldable pub paperPerform : ℕ → Elementary → Paper → Paper
+paperPerform n (clifford g) p = record { since = p .since ++ g ∷ []; operations = p .operations; given = p .given }
+paperPerform n (elT q) p = adds p (writes n (p .since) (p .given) (elT q))
+paperPerform n (elTdg q) p = adds p (writes n (p .since) (p .given) (elTdg q))
+paperPerform n (elCcx a b d) p = adds p (writes n (p .since) (p .given) (elCcx a b d))
+paperPerform n (elCcz a b d) p = adds p (writes n (p .since) (p .given) (elCcz a b d))
+paperPerform n (elMeasure q k) p = record { since = p .since; operations = p .operations ++ writes n (p .since) (p .given) (elMeasure q k); given = suc (p .given) }
+
+abbrev pub paperFlushed : (ℕ → List Gate → List Rotation) → ℕ → Paper → Paper
+paperFlushed flush n p = record { since = []; operations = p .operations ++ map asRotation (flush n (p .since)); given = p .given }
+
+unfoldable pub paperStep : (ℕ → List Gate → List Rotation) → ℕ → Cap → Elementary → Paper → Paper
+paperStep flush n cap e p = paperPerform n e (cond (tooHeavy n cap (p .since) e) (paperFlushed flush n p) p)
+
+unfoldable pub paperRun : (ℕ → List Gate → List Rotation) → ℕ → Cap → List Elementary → Paper → Paper
+paperRun flush n cap [] p = p
+paperRun flush n cap (e ∷ es) p = paperRun flush n cap es (paperStep flush n cap e p)
+
+abbrev pub paperBegin : Paper
+paperBegin = record { since = []; operations = []; given = 0 }
+
+-- every axis has sign +1 or -1
+abbrev pub Hermitian : Operation → Type 0
+Hermitian (rotateBy k P) = real (P .phase) ≡ true
+Hermitian (measureOf P m b) = real (P .phase) ≡ true
+Hermitian (conditionalBy k P m) = real (P .phase) ≡ true
+Hermitian malformed = ⊥
+
+abbrev pub AllHermitian : List Operation → Type 0
+AllHermitian [] = Unit {0}
+AllHermitian (o ∷ os) = Hermitian o × AllHermitian os

@@ -1,0 +1,471 @@
+-- What the code does to the lent words, where they lie; and the numbers by which it knows a kind.
+use mathlib.Core.Path.{_≡_}
+use mathlib.Core.Bool.{Bool, true, false, not, cond, _||_}
+use mathlib.Core.List.{List, [], _∷_, _++_}
+use Prim.Native.Nat.{ℕ, zero, suc, _+_, _*_, _/_, _%_, _<_, _≤_}
+use lib.Seq.{sets}
+use lib.ListN.{length, getD, set, drop}
+use Rattle.pauli.specs.Gates.{Gate, gateH, gateX, gateZ, gateS, gateSdg, gateCnot, gateCz, AllValid}
+use Rattle.arena.specs.References.{scaledWord}
+use Rattle.arena.specs.Builder.{overlay, startFrame}
+use lib.Dec.{ltb, eqb}
+use Rattle.arena.specs.Limits.{nodeWords, operationWords, maxQubits, maxCbits, maxNodes, maxOperations}
+use Rattle.arena.specs.Errors.{_⟫_⇒_}
+use Rattle.convert.specs.Conversion.{recordsChecked, capTooSmall, planesTooFew, maxGateWords}
+use Rattle.arena.specs.Operations.{rotateWords, measureWords}
+use Rattle.convert.specs.Words.{Words, startWords, wordRun, idX, idZ}
+use Rattle.convert.specs.Types.{MinusOne, Bit, TooManyQubits, BrokenGateList, CapTooSmall, NoPlanes, NoFrame, NoNodes, NoOperations, Checked, Fine, Header}
+use Rattle.convert.specs.Records.{GateKind, KindH, KindX, KindZ, KindS, KindSdg, KindT, KindTdg, KindCnot, KindCz, KindCcx, KindCcz, KindMeasure, KindY, KindSx, KindSwap, KindCy, Unsupported, Cap, NoCap, AtMost, Elementary, Placed, bare, lowerAs, lowerFrom, Record, records, kindOf, AllProper, lowerAll}
+use Rattle.pauli.specs.Rows.{Row, tally}
+use Rattle.pauli.specs.Doubly.{Term, term, sevenRows}
+use Rattle.pauli.specs.Table.{start, run}
+use Rattle.pauli.specs.Rotations.{flush}
+use Rattle.convert.specs.Plain.{Plain, begin, exceeds, plainRun}
+use Rattle.convert.specs.Needs.{Needs, writtenNodes, writtenOps, needRun}
+use Rattle.convert.specs.Planes.{packed}
+use Rattle.convert.specs.RawPlanes.{Wide, planeRun, planeReset}
+use Rattle.convert.specs.declared.frame_gate.planes.count.Needed.{Needed}
+use Rattle.convert.specs.Frame.{Arena, stored, word, gateNodes, total}
+
+-- ---- kinds
+
+-- 0 for no kind, 1 to 3 for so many qubits, 4 for a measurement
+abbrev pub arityOf : GateKind → ℕ
+arityOf KindH = 1
+arityOf KindX = 1
+arityOf KindZ = 1
+arityOf KindS = 1
+arityOf KindSdg = 1
+arityOf KindT = 1
+arityOf KindTdg = 1
+arityOf KindCnot = 2
+arityOf KindCz = 2
+arityOf KindCcx = 3
+arityOf KindCcz = 3
+arityOf KindMeasure = 4
+arityOf KindY = 1
+arityOf KindSx = 1
+arityOf KindSwap = 2
+arityOf KindCy = 2
+arityOf Unsupported = 0
+
+-- what is tested before a gate: 0 nothing, 1 z of a, 2 the seven products of ccx, 3 those of ccz
+abbrev pub testsOf : GateKind → ℕ
+testsOf KindH = 0
+testsOf KindX = 0
+testsOf KindZ = 0
+testsOf KindS = 0
+testsOf KindSdg = 0
+testsOf KindT = 1
+testsOf KindTdg = 1
+testsOf KindCnot = 0
+testsOf KindCz = 0
+testsOf KindCcx = 2
+testsOf KindCcz = 3
+testsOf KindMeasure = 1
+testsOf KindY = 0
+testsOf KindSx = 0
+testsOf KindSwap = 0
+testsOf KindCy = 0
+testsOf Unsupported = 0
+
+-- the seven frame gates
+abbrev pub isFrame : GateKind → Bool
+isFrame KindH = true
+isFrame KindX = true
+isFrame KindZ = true
+isFrame KindS = true
+isFrame KindSdg = true
+isFrame KindT = false
+isFrame KindTdg = false
+isFrame KindCnot = true
+isFrame KindCz = true
+isFrame KindCcx = false
+isFrame KindCcz = false
+isFrame KindMeasure = false
+isFrame KindY = false
+isFrame KindSx = false
+isFrame KindSwap = false
+isFrame KindCy = false
+isFrame Unsupported = false
+
+-- the nodes that they push
+abbrev pub frameNodes : GateKind → ℕ
+frameNodes KindH = 0
+frameNodes KindX = 0
+frameNodes KindZ = 0
+frameNodes KindS = 1
+frameNodes KindSdg = 1
+frameNodes KindT = 0
+frameNodes KindTdg = 0
+frameNodes KindCnot = 2
+frameNodes KindCz = 2
+frameNodes KindCcx = 0
+frameNodes KindCcz = 0
+frameNodes KindMeasure = 0
+frameNodes KindY = 0
+frameNodes KindSx = 0
+frameNodes KindSwap = 0
+frameNodes KindCy = 0
+frameNodes Unsupported = 0
+
+-- the frame gates that a record stands for
+unfoldable pub recordGates : GateKind → ℕ → ℕ → List Gate
+recordGates KindH a b = gateH a ∷ []
+recordGates KindX a b = gateX a ∷ []
+recordGates KindZ a b = gateZ a ∷ []
+recordGates KindS a b = gateS a ∷ []
+recordGates KindSdg a b = gateSdg a ∷ []
+recordGates KindT a b = []
+recordGates KindTdg a b = []
+recordGates KindCnot a b = gateCnot a b ∷ []
+recordGates KindCz a b = gateCz a b ∷ []
+recordGates KindCcx a b = []
+recordGates KindCcz a b = []
+recordGates KindMeasure a b = []
+recordGates KindY a b = gateZ a ∷ gateX a ∷ []
+recordGates KindSx a b = gateH a ∷ gateS a ∷ gateH a ∷ []
+recordGates KindSwap a b = gateCnot a b ∷ gateCnot b a ∷ gateCnot a b ∷ []
+recordGates KindCy a b = gateSdg b ∷ gateCnot a b ∷ gateS b ∷ []
+recordGates Unsupported a b = []
+
+-- a flush comes before these gates
+abbrev pub anyExceeds : ℕ → Cap → List Row → List Elementary → Bool
+anyExceeds n cap t [] = false
+anyExceeds n cap t (e ∷ es) = exceeds n cap t e || anyExceeds n cap t es
+
+-- ---- frame gates in the buffers
+
+abbrev pub arena : ℕ → List ℕ → List ℕ → Arena
+arena c ns fs = record { count = c; nodes = ns; frame = fs }
+
+-- one more product, written over what the buffer has at its place
+abbrev pub putProduct : ℕ → ℕ → Arena → Arena
+putProduct l r s = arena (s .count + 1) (set (set (s .nodes) (2 * s .count) (2 + 4 * l)) (2 * s .count + 1) r) (s .frame)
+
+unfoldable pub putMultiplied : ℕ → ℕ → ℕ → ℕ → Arena → Arena
+putMultiplied i l r p s = stored i (4 * s .count + p) (putProduct (word s l) (word s r) s)
+
+pub record Multiplied (i l r p c : ℕ) (ns fs : List ℕ) (c′ : ℕ) (ns′ fs′ : List ℕ) : Type 0 where
+  pub same : arena c′ ns′ fs′ ≡ putMultiplied i l r p (arena c ns fs)
+
+-- as frameStep, in the buffers
+unfoldable pub putStep : ℕ → Gate → Arena → Arena
+putStep n (gateH q) s = stored (n + q) (word s q) (stored q (word s (n + q)) s)
+putStep n (gateX q) s = stored (n + q) (scaledWord MinusOne (word s (n + q))) s
+putStep n (gateZ q) s = stored q (scaledWord MinusOne (word s q)) s
+putStep n (gateS q) s = putMultiplied q q (n + q) 3 s
+putStep n (gateSdg q) s = putMultiplied q q (n + q) 1 s
+putStep n (gateCnot c t) s = putMultiplied (n + t) (n + c) (n + t) 0 (putMultiplied c c t 0 s)
+putStep n (gateCz c t) s = putMultiplied t (n + c) t 0 (putMultiplied c c (n + t) 0 s)
+
+unfoldable pub putRun : ℕ → List Gate → Arena → Arena
+putRun n [] s = s
+putRun n (g ∷ gs) s = putRun n gs (putStep n g s)
+
+-- the 2n frame words are references to nodes below 65,536
+abbrev pub Small : ℕ → List ℕ → Type 0
+Small n fs = (i : ℕ) → i < n + n → getD fs i 0 < 262144
+
+-- what frame gates ask of the buffers
+pub record Ready (n : ℕ) (gs : List Gate) (c : ℕ) (ns fs : List ℕ) : Type 0 where
+  pub valid : AllValid n gs
+  pub qubits : n ≤ 256
+  pub places : n + n ≤ length fs
+  pub small : Small n fs
+  pub few : c + total gateNodes gs ≤ 65536
+  pub room : 2 * (c + total gateNodes gs) ≤ length ns
+
+-- what they make of them
+pub record Ran (n : ℕ) (gs : List Gate) (c : ℕ) (ns fs : List ℕ) (c′ : ℕ) (ns′ fs′ : List ℕ) : Type 0 where
+  pub same : arena c′ ns′ fs′ ≡ putRun n gs (arena c ns fs)
+  pub small : Small n fs′
+  pub counted : c′ ≡ c + total gateNodes gs
+
+-- ---- records among the words
+
+abbrev pub recordAt : List ℕ → ℕ → Record
+recordAt gs i = record { kind = getD gs (4 * i) 0; a = getD gs (4 * i + 1) 0; b = getD gs (4 * i + 2) 0; c = getD gs (4 * i + 3) 0 }
+
+abbrev pub recordOf : ℕ → ℕ → ℕ → ℕ → Record
+recordOf k a b c = record { kind = k; a = a; b = b; c = c }
+
+-- the elementary gates of the records from i on
+abbrev pub restOf : List ℕ → ℕ → List (Placed Elementary)
+restOf gs i = lowerFrom i (drop i (records gs))
+
+-- every record passed the checks: its operands are among the n qubits, and differ
+pub record Fits (n : ℕ) (gs : List ℕ) : Type 0 where
+  pub each : (i : ℕ) → i < length gs / 4
+      → AllProper n (getD gs (4 * i + 2) 0 + 1) (lowerAs (kindOf (getD gs (4 * i) 0)) (getD gs (4 * i + 1) 0) (getD gs (4 * i + 2) 0) (getD gs (4 * i + 3) 0))
+  pub bits : (i : ℕ) → i < length gs / 4
+      → AllProper n maxCbits (lowerAs (kindOf (getD gs (4 * i) 0)) (getD gs (4 * i + 1) 0) (getD gs (4 * i + 2) 0) (getD gs (4 * i + 3) 0))
+
+-- ---- planes before a record's operations, and after its gates
+
+abbrev pub isCapped : Cap → Bool
+isCapped NoCap = false
+isCapped (AtMost most) = true
+
+abbrev pub refreshed : Bool → ℕ → ℕ → List ℕ → List ℕ
+refreshed true n l p = planeReset n l p
+refreshed false n l p = p
+
+abbrev pub replaned : Cap → Bool → ℕ → ℕ → List Gate → List ℕ → List ℕ
+replaned NoCap flushed n l gs p = p
+replaned (AtMost most) flushed n l gs p = planeRun l gs (refreshed flushed n l p)
+
+-- the planes under a cap are those of a table, over what was there
+abbrev pub planesFor : Cap → ℕ → List Row → List ℕ → List ℕ
+planesFor NoCap n t ps = ps
+planesFor (AtMost most) n t ps = overlay (packed n t) ps
+
+-- whether a flush comes before a record, whatever table the planes stand for; and the planes after it
+pub record Decided (n : ℕ) (cap : Cap) (kind : GateKind) (a b d : ℕ) (ps : List ℕ) (r : Bool) (ps′ : List ℕ) : Type 0 where
+  pub same : (t : List Row) (ps₀ : List ℕ) → Wide n t → ps ≡ planesFor cap n t ps₀
+      → (r ≡ anyExceeds n cap t (lowerAs kind a b d)) × (ps′ ≡ planesFor cap n (run n (recordGates kind a b) (cond r (start n) t)) ps₀)
+
+-- ---- counts
+
+-- nodes and operations of a record's own; nodes and operations that it adds to a flush
+abbrev pub needed : ℕ → ℕ → ℕ → ℕ → Needed
+needed a b c d = record { nodes = a; operations = b; joints = c; rotations = d }
+
+abbrev pub costOf : GateKind → Needed
+costOf KindH = needed 0 0 0 3
+costOf KindX = needed 0 0 0 1
+costOf KindZ = needed 0 0 0 1
+costOf KindS = needed 1 0 0 1
+costOf KindSdg = needed 1 0 0 1
+costOf KindT = needed 0 1 0 0
+costOf KindTdg = needed 0 1 0 0
+costOf KindCnot = needed 2 0 1 3
+costOf KindCz = needed 2 0 1 3
+costOf KindCcx = needed 4 7 0 0
+costOf KindCcz = needed 4 7 0 0
+costOf KindMeasure = needed 0 1 0 0
+costOf KindY = needed 0 0 0 2
+costOf KindSx = needed 1 0 0 7
+costOf KindSwap = needed 6 0 3 9
+costOf KindCy = needed 4 0 1 5
+costOf Unsupported = needed 0 0 0 0
+
+-- the nodes that it pushes where it is no frame gate
+abbrev pub loneNodes : GateKind → ℕ
+loneNodes KindH = 0
+loneNodes KindX = 0
+loneNodes KindZ = 0
+loneNodes KindS = 0
+loneNodes KindSdg = 0
+loneNodes KindT = 0
+loneNodes KindTdg = 0
+loneNodes KindCnot = 0
+loneNodes KindCz = 0
+loneNodes KindCcx = 4
+loneNodes KindCcz = 4
+loneNodes KindMeasure = 0
+loneNodes KindY = 0
+loneNodes KindSx = 0
+loneNodes KindSwap = 0
+loneNodes KindCy = 0
+loneNodes Unsupported = 0
+
+-- the measurements that a record gives
+abbrev pub measuresOf : GateKind → ℕ
+measuresOf KindH = 0
+measuresOf KindX = 0
+measuresOf KindZ = 0
+measuresOf KindS = 0
+measuresOf KindSdg = 0
+measuresOf KindT = 0
+measuresOf KindTdg = 0
+measuresOf KindCnot = 0
+measuresOf KindCz = 0
+measuresOf KindCcx = 0
+measuresOf KindCcz = 0
+measuresOf KindMeasure = 1
+measuresOf KindY = 0
+measuresOf KindSx = 0
+measuresOf KindSwap = 0
+measuresOf KindCy = 0
+measuresOf Unsupported = 0
+
+-- one record more, after a flush or not
+abbrev pub costs : Bool → Needed → Needed → Needed
+costs true k c = needed (k .nodes + k .joints + c .nodes) (k .operations + k .rotations + c .operations) (c .joints) (c .rotations)
+costs false k c = needed (k .nodes + c .nodes) (k .operations + c .operations) (k .joints + c .joints) (k .rotations + c .rotations)
+
+-- the count that stands beside a plain state
+abbrev pub countFor : Plain → Needs → Needed
+countFor p k = needed (k .nodes) (k .operations) (total writtenNodes (bare (p .pending))) (total writtenOps (bare (p .pending)))
+
+abbrev pub needsOf : ℕ → ℕ → Needs
+needsOf a b = record { nodes = a; operations = b }
+
+-- ---- what writes operations, in the buffers: nodes used, node words, operations used, operation words
+
+pub record Writing : Type 0 where
+  pub count : ℕ
+  pub nodes : List ℕ
+  pub used : ℕ
+  pub operations : List ℕ
+
+abbrev pub writing : ℕ → List ℕ → ℕ → List ℕ → Writing
+writing c ns u os = record { count = c; nodes = ns; used = u; operations = os }
+
+-- one more operation
+abbrev pub putOp : List ℕ → Writing → Writing
+putOp vs s = writing (s .count) (s .nodes) (s .used + 1) (sets (s .operations) (operationWords * s .used) vs)
+
+-- one more product
+abbrev pub putNode : ℕ → ℕ → Writing → Writing
+putNode l r s = writing (s .count + 1) (set (set (s .nodes) (2 * s .count) (2 + 4 * l)) (2 * s .count + 1) r) (s .used) (s .operations)
+
+unfoldable pub putJoint : ℕ → ℕ → Writing → Writing
+putJoint l r s = putOp (rotateWords (4 * s .count) 6) (putOp (rotateWords r 2) (putOp (rotateWords l 2) (putNode l r s)))
+
+-- as flushGate, in the buffers
+unfoldable pub putFlush : Gate → Writing → Writing
+putFlush (gateH q) s = putOp (rotateWords (idZ q) 2) (putOp (rotateWords (idX q) 2) (putOp (rotateWords (idZ q) 2) s))
+putFlush (gateX q) s = putOp (rotateWords (idX q) 4) s
+putFlush (gateZ q) s = putOp (rotateWords (idZ q) 4) s
+putFlush (gateS q) s = putOp (rotateWords (idZ q) 2) s
+putFlush (gateSdg q) s = putOp (rotateWords (idZ q) 6) s
+putFlush (gateCnot c t) s = putJoint (idZ c) (idX t) s
+putFlush (gateCz c t) s = putJoint (idZ c) (idZ t) s
+
+unfoldable pub putFlushes : List Gate → Writing → Writing
+putFlushes [] s = s
+putFlushes (g ∷ gs) s = putFlushes gs (putFlush g s)
+
+-- what a flush of gates asks of the buffers
+pub record FlushReady (n : ℕ) (gs : List Gate) (c : ℕ) (ns : List ℕ) (u : ℕ) (os : List ℕ) : Type 0 where
+  pub valid : AllValid n gs
+  pub qubits : n ≤ 256
+  pub few : c + total writtenNodes gs ≤ 65536
+  pub room : 2 * (c + total writtenNodes gs) ≤ length ns
+  pub fewer : u + total writtenOps gs ≤ 65536
+  pub place : 4 * (u + total writtenOps gs) ≤ length os
+
+-- what it makes of them
+pub record Flushed (gs : List Gate) (c : ℕ) (ns : List ℕ) (u : ℕ) (os : List ℕ) (c′ : ℕ) (ns′ : List ℕ) (u′ : ℕ) (os′ : List ℕ) : Type 0 where
+  pub same : writing c′ ns′ u′ os′ ≡ putFlushes gs (writing c ns u os)
+  pub counted : c′ ≡ c + total writtenNodes gs
+  pub turned : u′ ≡ u + total writtenOps gs
+
+-- the frame gates of so many records from i on
+abbrev pub gatesOver : List ℕ → ℕ → ℕ → List Gate
+gatesOver gs i zero = []
+gatesOver gs i (suc k) = recordGates (kindOf (getD gs (4 * i) 0)) (getD gs (4 * i + 1) 0) (getD gs (4 * i + 2) 0) ++ gatesOver gs (suc i) k
+
+-- ---- ccx and ccz, by the words of a, b and d
+
+-- row j of the seven
+abbrev pub rowAt : ℕ → Term
+rowAt j = getD sevenRows j (term false false false 0)
+
+-- a is 1, b is 2, d is 4
+abbrev pub subsetOf : Term → ℕ
+subsetOf t = tally (t .a) 0 + 2 * tally (t .b) 0 + 4 * tally (t .d) 0
+
+-- the word of the product of the operands in a subset, where k is the node ab
+abbrev pub subsetWord : ℕ → ℕ → ℕ → ℕ → ℕ → ℕ
+subsetWord zero a b d k = 0
+subsetWord (suc zero) a b d k = a
+subsetWord (suc (suc zero)) a b d k = b
+subsetWord (suc (suc (suc zero))) a b d k = 4 * k
+subsetWord (suc (suc (suc (suc zero)))) a b d k = d
+subsetWord (suc (suc (suc (suc (suc zero))))) a b d k = 4 * (k + 1)
+subsetWord (suc (suc (suc (suc (suc (suc zero)))))) a b d k = 4 * (k + 2)
+subsetWord (suc (suc (suc (suc (suc (suc (suc j))))))) a b d k = 4 * (k + 3)
+
+-- the first j rotations
+unfoldable pub putRows : ℕ → ℕ → ℕ → ℕ → ℕ → Writing → Writing
+putRows zero a b d k s = s
+putRows (suc j) a b d k s = putOp (rotateWords (subsetWord (subsetOf (rowAt j)) a b d k) (rowAt j .angle)) (putRows j a b d k s)
+
+-- ab, ad, bd and (ab)d are pushed
+unfoldable pub putFour : ℕ → ℕ → ℕ → Writing → Writing
+putFour a b d s = putNode (4 * s .count) d (putNode b d (putNode a d (putNode a b s)))
+
+unfoldable pub putSeven : ℕ → ℕ → ℕ → Writing → Writing
+putSeven a b d s = putRows 7 a b d (s .count) (putFour a b d s)
+
+-- what a record writes that is no frame gate, after so many measurements, by the frame words
+unfoldable pub putRecord : ℕ → ℕ → GateKind → ℕ → ℕ → ℕ → List ℕ → Writing → Writing
+putRecord n given KindH a b d fs s = s
+putRecord n given KindX a b d fs s = s
+putRecord n given KindZ a b d fs s = s
+putRecord n given KindS a b d fs s = s
+putRecord n given KindSdg a b d fs s = s
+putRecord n given KindT a b d fs s = putOp (rotateWords (getD fs (n + a) 0) 1) s
+putRecord n given KindTdg a b d fs s = putOp (rotateWords (getD fs (n + a) 0) 7) s
+putRecord n given KindCnot a b d fs s = s
+putRecord n given KindCz a b d fs s = s
+putRecord n given KindCcx a b d fs s = putSeven (getD fs (n + a) 0) (getD fs (n + b) 0) (getD fs d 0) s
+putRecord n given KindCcz a b d fs s = putSeven (getD fs (n + a) 0) (getD fs (n + b) 0) (getD fs (n + d) 0) s
+putRecord n given KindMeasure a b d fs s = putOp (measureWords (getD fs (n + a) 0) given (Bit b)) s
+putRecord n given KindY a b d fs s = s
+putRecord n given KindSx a b d fs s = s
+putRecord n given KindSwap a b d fs s = s
+putRecord n given KindCy a b d fs s = s
+putRecord n given Unsupported a b d fs s = s
+
+-- what it asks of the buffers
+pub record RecordReady (n given : ℕ) (kind : GateKind) (a b d c : ℕ) (ns : List ℕ) (u : ℕ) (os fs : List ℕ) : Type 0 where
+  pub proper : AllProper n maxCbits (lowerAs kind a b d)
+  pub qubits : n ≤ 256
+  pub places : n + n ≤ length fs
+  pub small : Small n fs
+  pub few : c + loneNodes kind ≤ 65536
+  pub room : 2 * (c + loneNodes kind) ≤ length ns
+  pub fewer : u + costOf kind .operations ≤ 65536
+  pub place : 4 * (u + costOf kind .operations) ≤ length os
+
+-- what a flush, if there is one, makes of the buffers: the pending gates are written and the frame starts again
+pub record FlushedIf (f : Bool) (n : ℕ) (gs : List Gate) (c : ℕ) (ns fs : List ℕ) (u : ℕ) (os : List ℕ) (c′ : ℕ) (ns′ fs′ : List ℕ) (u′ : ℕ) (os′ : List ℕ) : Type 0 where
+  pub is : f ≡ true → Flushed gs c ns u os c′ ns′ u′ os′
+  pub frame : f ≡ true → fs′ ≡ overlay (startFrame n) fs
+  pub not : f ≡ false → (c′ ≡ c) × (ns′ ≡ ns) × (fs′ ≡ fs) × (u′ ≡ u) × (os′ ≡ os)
+
+-- ---- the ends of a conversion
+
+abbrev pub plainLast : ℕ → Cap → List ℕ → Plain
+plainLast n cap gs = plainRun flush n cap (lowerAll (records gs)) (begin n)
+
+abbrev pub wordsLast : ℕ → Cap → List ℕ → Words
+wordsLast n cap gs = wordRun n cap (lowerAll (records gs)) (begin n) (startWords n)
+
+abbrev pub needsLast : ℕ → Cap → List ℕ → Needs
+needsLast n cap gs = needRun n cap (lowerAll (records gs)) (begin n) (needsOf (1 + 2 * n) 0)
+
+-- the needs fit
+pub record Room (n : ℕ) (cap : Cap) (gs ns os : List ℕ) : Type 0 where
+  pub nodes : needsLast n cap gs .nodes ≤ 65536
+  pub nodes-lent : 2 * needsLast n cap gs .nodes ≤ length ns
+  pub operations : needsLast n cap gs .operations ≤ 65536
+  pub operations-lent : 4 * needsLast n cap gs .operations ≤ length os
+
+-- ---- the checks by what they look at
+
+unfoldable pub gatesChecked : ℕ → ℕ → Cap → List ℕ → ℕ → Checked
+gatesChecked n cbits cap gs planes =
+    recordsChecked
+    (Fine
+    ⟫ ltb maxQubits n || ltb maxCbits cbits ⇒ TooManyQubits
+    ⟫ not (eqb (length gs % 4) 0) || ltb maxGateWords (length gs) ⇒ BrokenGateList)
+    n cbits 0 (records gs)
+    ⟫ capTooSmall cap (records gs) ⇒ CapTooSmall
+    ⟫ planesTooFew cap n planes ⇒ NoPlanes
+
+unfoldable pub roomChecked : (nodes operations n frame node-words operation-words : ℕ) → Checked
+roomChecked k m n frame ns os =
+    Fine
+    ⟫ ltb frame (2 * n) ⇒ NoFrame
+    ⟫ ltb maxNodes k || ltb (ns / nodeWords) k ⇒ NoNodes
+    ⟫ ltb maxOperations m || ltb (os / operationWords) m ⇒ NoOperations
+
+-- ---- what is lent to a conversion, and the header that it makes
+
+abbrev pub headerOf : (qubits cbits owner nodes operations measurements : ℕ) → Header
+headerOf q c o k m g = record { qubits = q; cbits = c; owner = o; nodes = k; operations = m; measurements = g }

@@ -1,0 +1,106 @@
+-- Gate records (document 01), and the elementary gates that they are lowered to.
+use mathlib.Core.Logic.{_≢_}
+use mathlib.Core.List.{List, [], _∷_, _++_, map}
+use Prim.Native.Nat.{ℕ, suc, _<_}
+use lib.ListN.{getD}
+use Rattle.pauli.specs.Gates.{Gate, gateH, gateX, gateZ, gateS, gateSdg, gateCnot, gateCz, Valid}
+pub use Rattle.convert.specs.declared.gate.GateKind.the-variants.{the-data as GateKind, H as KindH, X as KindX, Z as KindZ, S as KindS, Sdg as KindSdg, T as KindT, Tdg as KindTdg, Cnot as KindCnot, Cz as KindCz, Ccx as KindCcx, Ccz as KindCcz, Measure as KindMeasure, Y as KindY, Sx as KindSx, Swap as KindSwap, Cy as KindCy, Unsupported}
+pub use Rattle.convert.specs.declared.cap.Cap.the-variants.{the-data as Cap, None as NoCap, AtMost}
+
+-- four words: kind, then operands in declared order, the rest ignored
+pub record Record : Type 0 where
+  pub kind : ℕ
+  pub a : ℕ
+  pub b : ℕ
+  pub c : ℕ
+
+-- the records that a list of words holds
+unfoldable pub records : List ℕ → List Record
+records [] = []
+records (k ∷ []) = []
+records (k ∷ a ∷ []) = []
+records (k ∷ a ∷ b ∷ []) = []
+records (k ∷ a ∷ b ∷ c ∷ ws) = record { kind = k; a = a; b = b; c = c } ∷ records ws
+
+-- the kinds by number, from 0 on
+abbrev pub kinds : List GateKind
+kinds =
+    KindH ∷ KindX ∷ KindZ ∷ KindS ∷ KindSdg ∷ KindT ∷ KindTdg ∷ Unsupported ∷ KindCnot ∷ KindCz ∷ KindCcx ∷ KindCcz ∷ KindMeasure
+    ∷ Unsupported ∷ Unsupported ∷ KindY ∷ KindSx ∷ Unsupported ∷ Unsupported ∷ KindSwap ∷ KindCy ∷ []
+
+-- all other numbers are unsupported
+unfoldable pub kindOf : ℕ → GateKind
+kindOf k = getD kinds k Unsupported
+
+-- ---- lowering
+
+-- a frame gate, or what writes operations
+pub data Elementary : Type 0 where
+  clifford : Gate → Elementary
+  elT elTdg : ℕ → Elementary
+  elCcx elCcz : ℕ → ℕ → ℕ → Elementary
+  elMeasure : ℕ → ℕ → Elementary  -- qubit, classical bit
+
+-- y is z, x; sx is h, s, h; swap(a,b) is cnot(a,b), cnot(b,a), cnot(a,b); cy is sdg target, cnot, s target
+unfoldable pub lowerAs : GateKind → ℕ → ℕ → ℕ → List Elementary
+lowerAs KindH a b c = clifford (gateH a) ∷ []
+lowerAs KindX a b c = clifford (gateX a) ∷ []
+lowerAs KindZ a b c = clifford (gateZ a) ∷ []
+lowerAs KindS a b c = clifford (gateS a) ∷ []
+lowerAs KindSdg a b c = clifford (gateSdg a) ∷ []
+lowerAs KindT a b c = elT a ∷ []
+lowerAs KindTdg a b c = elTdg a ∷ []
+lowerAs KindCnot a b c = clifford (gateCnot a b) ∷ []
+lowerAs KindCz a b c = clifford (gateCz a b) ∷ []
+lowerAs KindCcx a b c = elCcx a b c ∷ []
+lowerAs KindCcz a b c = elCcz a b c ∷ []
+lowerAs KindMeasure a b c = elMeasure a b ∷ []
+lowerAs KindY a b c = clifford (gateZ a) ∷ clifford (gateX a) ∷ []
+lowerAs KindSx a b c = clifford (gateH a) ∷ clifford (gateS a) ∷ clifford (gateH a) ∷ []
+lowerAs KindSwap a b c = clifford (gateCnot a b) ∷ clifford (gateCnot b a) ∷ clifford (gateCnot a b) ∷ []
+lowerAs KindCy a b c = clifford (gateSdg b) ∷ clifford (gateCnot a b) ∷ clifford (gateS b) ∷ []
+lowerAs Unsupported a b c = []
+
+unfoldable pub lower : Record → List Elementary
+lower r = lowerAs (kindOf (r .kind)) (r .a) (r .b) (r .c)
+
+-- a gate with the index of its record, and its place among the elementary gates of that record
+pub record Placed (A : Type 0) : Type 0 where
+  pub gate : A
+  pub index : ℕ
+  pub part : ℕ
+
+abbrev pub placed : {A : Type 0} → ℕ → ℕ → A → Placed A
+placed i j g = record { gate = g; index = i; part = j }
+
+-- the elementary gates of record i, from part j on
+abbrev pub placedFrom : ℕ → ℕ → List Elementary → List (Placed Elementary)
+placedFrom i j [] = []
+placedFrom i j (e ∷ es) = placed i j e ∷ placedFrom i (suc j) es
+
+-- those of all records, the first of which has index i
+unfoldable pub lowerFrom : ℕ → List Record → List (Placed Elementary)
+lowerFrom i [] = []
+lowerFrom i (r ∷ rs) = placedFrom i 0 (lower r) ++ lowerFrom (suc i) rs
+
+unfoldable pub lowerAll : List Record → List (Placed Elementary)
+lowerAll rs = lowerFrom 0 rs
+
+-- the gates without their places
+abbrev pub bare : {A : Type 0} → List (Placed A) → List A
+bare gs = map (λ g. g .gate) gs
+
+-- ---- what the checks of a conversion leave
+
+-- the operands are among the n qubits and the classical bits, and the qubits of one gate differ
+abbrev pub Proper : ℕ → ℕ → Elementary → Type 0
+Proper n cbits (clifford g) = Valid n g
+Proper n cbits (elT q) = q < n
+Proper n cbits (elTdg q) = q < n
+Proper n cbits (elCcx a b d) = (a < n) × (b < n) × (d < n) × (a ≢ b) × (a ≢ d) × (b ≢ d)
+Proper n cbits (elCcz a b d) = (a < n) × (b < n) × (d < n) × (a ≢ b) × (a ≢ d) × (b ≢ d)
+Proper n cbits (elMeasure q k) = (q < n) × (k < cbits)
+
+abbrev pub AllProper : ℕ → ℕ → List Elementary → Type 0
+AllProper n cbits [] = Unit {0}
+AllProper n cbits (e ∷ es) = Proper n cbits e × AllProper n cbits es

@@ -1,0 +1,132 @@
+-- The conversion in words: nodes, frame words, operation words. Order and node numbers are the Rust's.
+use mathlib.Core.Bool.{Bool, true, false, cond}
+use mathlib.Core.List.{List, [], _∷_, _++_, map}
+use Prim.Native.Nat.{ℕ, zero, suc, _+_, _*_}
+use lib.ListN.{getD}
+use Rattle.pauli.specs.Gates.{Gate, gateH, gateX, gateZ, gateS, gateSdg, gateCnot, gateCz}
+use Rattle.pauli.specs.Rotations.{flush}
+use Rattle.pauli.specs.Doubly.{sevenRows}
+use Rattle.pauli.specs.Angle.{eighthsOf}
+use Rattle.arena.specs.Nodes.{image}
+use Rattle.arena.specs.Operations.{rotateWords, measureWords, decodeOp}
+use Rattle.arena.specs.Builder.{startFrame}
+use Rattle.arena.specs.Expansion.{opAt}
+use Rattle.convert.specs.Types.{Header, Bit, PbcOp, Rotate, Measure, ConditionalRotate, Malformed}
+use Rattle.convert.specs.Records.{Cap, Elementary, clifford, elT, elTdg, elCcx, elCcz, elMeasure, Placed, bare}
+use Rattle.convert.specs.Plain.{Operation, rotateBy, measureOf, conditionalBy, malformed, Plain, exceeds, plainStep}
+use Rattle.convert.specs.Frame.{Arena, startArena, word, pushed, frameStep}
+
+-- nodes and frame, and the words of each operation
+pub record Words : Type 0 where
+  pub arena : Arena
+  pub ops : List (List ℕ)
+
+unfoldable pub startWords : ℕ → Words
+startWords n = record { arena = startArena n; ops = [] }
+
+-- the words of all operations, one after the other
+abbrev pub flat : List (List ℕ) → List ℕ
+flat [] = []
+flat (o ∷ os) = o ++ flat os
+
+-- ---- writing
+
+abbrev pub addOps : List (List ℕ) → Words → Words
+addOps os w = record { arena = w .arena; ops = w .ops ++ os }
+
+-- the words of the nodes X and Z of qubit q
+abbrev pub idX : ℕ → ℕ
+idX q = 4 * (1 + 2 * q)
+
+abbrev pub idZ : ℕ → ℕ
+idZ q = 4 * (2 + 2 * q)
+
+-- cnot and cz in a flush: the product of two words is pushed first, then they are turned about by 2, 2 and their product by -2
+abbrev pub writeJoint : ℕ → ℕ → Words → Words
+writeJoint l r w = record {
+  arena = pushed l r (w .arena);
+  ops = w .ops ++ rotateWords l 2 ∷ rotateWords r 2 ∷ rotateWords (4 * w .arena .count) 6 ∷ [];
+}
+
+-- what a flush writes for a gate
+unfoldable pub flushGate : Gate → Words → Words
+flushGate (gateH q) w = addOps (rotateWords (idZ q) 2 ∷ rotateWords (idX q) 2 ∷ rotateWords (idZ q) 2 ∷ []) w
+flushGate (gateX q) w = addOps (rotateWords (idX q) 4 ∷ []) w
+flushGate (gateZ q) w = addOps (rotateWords (idZ q) 4 ∷ []) w
+flushGate (gateS q) w = addOps (rotateWords (idZ q) 2 ∷ []) w
+flushGate (gateSdg q) w = addOps (rotateWords (idZ q) 6 ∷ []) w
+flushGate (gateCnot c t) w = writeJoint (idZ c) (idX t) w
+flushGate (gateCz c t) w = writeJoint (idZ c) (idZ t) w
+
+unfoldable pub flushGates : List Gate → Words → Words
+flushGates [] w = w
+flushGates (g ∷ gs) w = flushGates gs (flushGate g w)
+
+-- the frame words are again those of the start
+abbrev pub restarted : ℕ → Words → Words
+restarted n w = record { arena = record { count = w .arena .count; nodes = w .arena .nodes; frame = startFrame n }; ops = w .ops }
+
+unfoldable pub flushWords : ℕ → List Gate → Words → Words
+flushWords n gs w = restarted n (flushGates gs w)
+
+-- ccx and ccz, by the words of a, b and d: ab, ad, bd, then (ab)d are pushed
+abbrev pub fourPushed : ℕ → ℕ → ℕ → Arena → Arena
+fourPushed a b d s = pushed (4 * s .count) d (pushed b d (pushed a d (pushed a b s)))
+
+-- the word of the product of those of a, b and d that are marked, where k is the node ab
+abbrev pub wordAs : Bool → Bool → Bool → ℕ → ℕ → ℕ → ℕ → ℕ
+wordAs true false false a b d k = a
+wordAs false true false a b d k = b
+wordAs false false true a b d k = d
+wordAs true true false a b d k = 4 * k
+wordAs true false true a b d k = 4 * suc k
+wordAs false true true a b d k = 4 * suc (suc k)
+wordAs true true true a b d k = 4 * suc (suc (suc k))
+wordAs false false false a b d k = 0
+
+-- the rotations by the seven rows
+abbrev pub sevenOps : ℕ → ℕ → ℕ → ℕ → List (List ℕ)
+sevenOps a b d k = map (λ t. rotateWords (wordAs (t .a) (t .b) (t .d) a b d k) (t .angle)) sevenRows
+
+unfoldable pub writeSeven : ℕ → ℕ → ℕ → Words → Words
+writeSeven a b d w = record { arena = fourPushed a b d (w .arena); ops = w .ops ++ sevenOps a b d (w .arena .count) }
+
+-- an elementary gate, after so many measurements
+unfoldable pub write : ℕ → ℕ → Elementary → Words → Words
+write n given (clifford g) w = record { arena = frameStep n g (w .arena); ops = w .ops }
+write n given (elT q) w = addOps (rotateWords (word (w .arena) (n + q)) 1 ∷ []) w
+write n given (elTdg q) w = addOps (rotateWords (word (w .arena) (n + q)) 7 ∷ []) w
+write n given (elCcx a b d) w = writeSeven (word (w .arena) (n + a)) (word (w .arena) (n + b)) (word (w .arena) d) w
+write n given (elCcz a b d) w = writeSeven (word (w .arena) (n + a)) (word (w .arena) (n + b)) (word (w .arena) (n + d)) w
+write n given (elMeasure q k) w = addOps (measureWords (word (w .arena) (n + q)) given (Bit k) ∷ []) w
+
+-- ---- the conversion: the plain state goes beside the words and decides the flush
+
+unfoldable pub wordStep : ℕ → Cap → Placed Elementary → Plain → Words → Words
+wordStep n cap e p w = write n (p .given) (e .gate) (cond (exceeds n cap (p .table) (e .gate)) (flushWords n (bare (p .pending)) w) w)
+
+unfoldable pub wordRun : ℕ → Cap → List (Placed Elementary) → Plain → Words → Words
+wordRun n cap [] p w = w
+wordRun n cap (e ∷ es) p w = wordRun n cap es (plainStep flush n cap e p) (wordStep n cap e p w)
+
+-- ---- reading operations through nodes
+
+-- what an operation stands for, of n qubits and k used nodes in the words
+unfoldable pub meaning : ℕ → ℕ → List ℕ → PbcOp → Operation
+meaning n k nodes (Rotate axis angle) = rotateBy (eighthsOf angle) (image n k nodes (axis .0 .word))
+meaning n k nodes (Measure axis outcome target) = measureOf (image n k nodes (axis .0 .word)) (outcome .1) target
+meaning n k nodes (ConditionalRotate axis angle outcome) = conditionalBy (eighthsOf angle) (image n k nodes (axis .0 .word)) (outcome .1)
+meaning n k nodes Malformed = malformed
+
+-- the operation of four words
+abbrev pub decoded : ℕ → ℕ → List ℕ → PbcOp
+decoded owner cbits ws = decodeOp owner cbits (getD ws 0 0) (getD ws 1 0) (getD ws 2 0) (getD ws 3 0)
+
+-- so many operations from i on
+abbrev pub opsFrom : (ℕ → PbcOp) → ℕ → ℕ → List PbcOp
+opsFrom op i zero = []
+opsFrom op i (suc k) = op i ∷ opsFrom op (suc i) k
+
+-- the used operations of a circuit, read from its words
+unfoldable pub operationsIn : Header → (nodes operations : List ℕ) → List Operation
+operationsIn h nodes ops = map (meaning (h .qubits) (h .nodes) nodes) (opsFrom (opAt h ops) 0 (h .operations))

@@ -1,0 +1,253 @@
+//! The checks of a conversion and of a frame gate, in document 01's order.
+
+use crate::cap::Cap;
+use crate::gate::GateKind;
+use arena::Checked;
+use arena::Header;
+use arena::MAX_CBITS;
+use arena::MAX_NODES;
+use arena::MAX_OPERATIONS;
+use arena::MAX_QUBITS;
+use arena::NODE_WORDS;
+use arena::OPERATION_WORDS;
+use arena::PbcError;
+ghost use mathlib.Core.Path.{_≡_};
+ghost use mathlib.Core.List.{[]};
+ghost use Prim.Native.Nat.{min};
+ghost use lib.Dec.{leb};
+ghost use lib.ListN.{take};
+ghost use Rattle.arena.specs.Errors.{_⟫_⇒_};
+ghost use Rattle.convert.specs.Types.{QubitOutOfRange};
+ghost use Rattle.convert.specs.Records.{records};
+ghost use Rattle.convert.specs.Frame.{qubitsOf, operandsChecked, namesUnused, cliffordCheck};
+ghost use Rattle.convert.specs.Conversion.{recordChecked, recordsChecked, anyDoubly, capTooSmall, planesTooFew};
+ghost use Rattle.convert.specs.Planes.{partWords};
+ghost use Rattle.convert.specs.Raw.{recordOf, gatesChecked, roomChecked};
+
+/// The most words of a gate list.
+pub const MAX_GATE_WORDS: usize = 262144;
+
+// A qubit of gate i.
+fn check_operand(checked: Checked, n: u32, i: u64, q: u32) -> Checked
+    ensures { λ r. ⌜ r ≡ (checked ⟫ leb n q ⇒ QubitOutOfRange i q) ⌝ }
+{
+    checked.refuse_if(n <= q, PbcError::QubitOutOfRange(i, q as u64))
+}
+
+// The qubits of gate i: 7, then 8, operand by operand.
+fn check_qubits(checked: Checked, n: u32, i: u64, kind: GateKind, a: u32, b: u32, c: u32) -> Checked
+    ensures { λ r. ⌜ r ≡ operandsChecked checked n i [] (qubitsOf kind a b c) ⌝ }
+{
+    let arity = kind.arity();
+    if arity == 0 {
+        return checked;
+    }
+    let first = check_operand(checked, n, i, a);
+    if (arity == 1) | (arity == 4) {
+        return first;
+    }
+    let second = check_operand(first, n, i, b).refuse_if(
+        b == a,
+        PbcError::RepeatedOperand(i, b as u64),
+    );
+    if arity == 2 {
+        return second;
+    }
+    check_operand(second, n, i, c).refuse_if(
+        (c == b) | (c == a),
+        PbcError::RepeatedOperand(i, c as u64),
+    )
+}
+
+// Gate i: 5, then 7 and 8, then 9.
+fn check_record(
+    checked: Checked,
+    n: u32,
+    cbits: u32,
+    i: u64,
+    number: u32,
+    a: u32,
+    b: u32,
+    c: u32,
+) -> Checked
+    ensures { λ r. ⌜ r ≡ recordChecked checked n cbits i (recordOf number a b c) ⌝ }
+{
+    let kind = GateKind::of(number);
+    let known = checked.refuse_if(
+        kind.arity() == 0,
+        PbcError::UnsupportedGate(i, number as u64),
+    );
+    check_qubits(known, n, i, kind, a, b, c).refuse_if(
+        (kind.arity() == 4) & (cbits <= b),
+        PbcError::ClassicalBitOutOfRange(i, b as u64),
+    )
+}
+
+// Every gate of the list, the first faulty one deciding.
+pub(crate) fn check_records(before: Checked, n: u32, cbits: u32, gates: &[u32]) -> Checked
+    ensures { λ r. ⌜ r ≡ recordsChecked before n cbits 0 (records (now (gates .entry))) ⌝ }
+{
+    let count = gates.len() / 4;
+    let mut checked = before;
+    let mut i: usize = 0;
+    while i < count {
+        checked = check_record(
+            checked,
+            n,
+            cbits,
+            i as u64,
+            gates[4 * i],
+            gates[4 * i + 1],
+            gates[4 * i + 2],
+            gates[4 * i + 3],
+        );
+        i += 1;
+    }
+    checked
+}
+
+// Whether the list has a ccx or ccz.
+fn any_doubly(gates: &[u32]) -> bool
+    ensures { λ r. ⌜ r ≡ anyDoubly (records (now (gates .entry))) ⌝ }
+{
+    let count = gates.len() / 4;
+    let mut found = false;
+    let mut i: usize = 0;
+    while i < count {
+        found = found | (2 <= GateKind::of(gates[4 * i]).tests());
+        i += 1;
+    }
+    found
+}
+
+// Cap 0, or cap 1 or 2 with a ccx or ccz.
+pub(crate) fn cap_too_small(cap: Cap, gates: &[u32]) -> bool
+    ensures { λ r. ⌜ r ≡ capTooSmall cap (records (now (gates .entry))) ⌝ }
+{
+    match cap {
+        Cap::None => false,
+        Cap::AtMost(most) => (most == 0) | ((most <= 2) & any_doubly(gates)),
+    }
+}
+
+// L, the words of a part.
+pub(crate) fn part_words(n: u32) -> usize
+    ensures { λ r. ⌜ r ≡ partWords n ⌝ }
+{
+    let words = ((n as usize) + 63) / 64;
+    if words == 0 {
+        return 1;
+    }
+    words
+}
+
+// Fewer than 4nL plane words under a cap.
+pub(crate) fn planes_too_few(cap: Cap, n: u32, planes: usize) -> bool
+    ensures { λ r. ⌜ r ≡ planesTooFew cap n planes ⌝ }
+{
+    match cap {
+        Cap::None => false,
+        Cap::AtMost(_) => planes < 4 * (n as usize) * part_words(n),
+    }
+}
+
+fn least(a: usize, b: usize) -> usize
+    ensures { λ r. ⌜ r ≡ min a b ⌝ }
+{
+    if a < b {
+        return a;
+    }
+    b
+}
+
+// A conversion up to its planes: 1, 2, then gate by gate, then 11, 12.
+pub(crate) fn check_gates(
+    qubits: u32,
+    cbits: u32,
+    cap: Cap,
+    gates: &[u32],
+    planes: usize,
+) -> Checked
+    ensures { λ r. ⌜ r ≡ gatesChecked qubits cbits cap (now (gates .entry)) planes ⌝ }
+{
+    let sized = Checked::Fine
+        .refuse_if(
+            (MAX_QUBITS < qubits) | (MAX_CBITS < cbits),
+            PbcError::TooManyQubits,
+        )
+        .refuse_if(
+            !(gates.len() % 4 == 0) | (MAX_GATE_WORDS < gates.len()),
+            PbcError::BrokenGateList,
+        );
+    check_records(sized, qubits, cbits, gates)
+        .refuse_if(cap_too_small(cap, gates), PbcError::CapTooSmall)
+        .refuse_if(planes_too_few(cap, qubits, planes), PbcError::NoPlanes)
+}
+
+// The needs of a conversion: 13, 14, 15.
+pub(crate) fn check_room(
+    needed: u32,
+    written: u32,
+    qubits: u32,
+    frame: usize,
+    nodes: usize,
+    operations: usize,
+) -> Checked
+    ensures { λ r. ⌜ r ≡ roomChecked needed written qubits frame nodes operations ⌝ }
+{
+    Checked::Fine
+        .refuse_if(frame < 2 * (qubits as usize), PbcError::NoFrame)
+        .refuse_if(
+            (MAX_NODES < needed) | (nodes / NODE_WORDS < (needed as usize)),
+            PbcError::NoNodes,
+        )
+        .refuse_if(
+            (MAX_OPERATIONS < written) | (operations / OPERATION_WORDS < (written as usize)),
+            PbcError::NoOperations,
+        )
+}
+
+// Whether one of the first words that are lent names an unused node.
+fn names_unused(used: u32, frame: &[u32], words: usize) -> bool
+    ensures { λ r. ⌜ r ≡ namesUnused used (take words (now (frame .entry))) ⌝ }
+{
+    let count = least(words, frame.len());
+    let mut found = false;
+    let mut i: usize = 0;
+    while i < count {
+        found = found | (used <= frame[i] / 4);
+        i += 1;
+    }
+    found
+}
+
+// A frame gate: 3, 6, 7, 8, 13, 14.
+pub(crate) fn check_clifford(
+    header: Header,
+    nodes: usize,
+    frame: &[u32],
+    kind: u32,
+    a: u32,
+    b: u32,
+) -> Checked
+    ensures { λ r. ⌜ r ≡ cliffordCheck header nodes (now (frame .entry)) kind a b ⌝ }
+{
+    let gate = GateKind::of(kind);
+    let words = 2 * (header.qubits as usize);
+    let unused = names_unused(header.nodes, frame, words);
+    let known = Checked::Fine
+        .refuse_if(
+            header.breaks_limit() | header.exceeds_nodes(nodes) | unused,
+            PbcError::BadStore,
+        )
+        .refuse_if(
+            !gate.is_frame(),
+            PbcError::NonCliffordFrameGate(kind as u64),
+        );
+    check_qubits(known, header.qubits, 0, gate, a, b, 0)
+        .refuse_if(frame.len() < words, PbcError::NoFrame)
+        .refuse_if(
+            header.no_node_room(nodes, gate.frame_nodes()),
+            PbcError::NoNodes,
+        )
+}

@@ -1,0 +1,10 @@
+//! The conversion, from convert.rs.
+
+use arena::Header;
+use arena::PbcError;
+
+/// What `convert` answers.
+pub enum Converted {
+    Made(Header),
+    Refused(PbcError),
+}

@@ -1,0 +1,226 @@
+//! The counting pass: what a conversion needs, and under a cap the planes of its end.
+
+pub mod flush;
+
+use super::heavy;
+use super::plane_record;
+use super::reset;
+use crate::cap::Cap;
+use crate::gate::GateKind;
+ghost use mathlib.Core.Path.{_≡_};
+ghost use mathlib.Core.Bool.{true};
+ghost use mathlib.Core.List.{List, _++_};
+ghost use Prim.Native.Nat.{ℕ, _+_, _*_, _/_, _<_, _≤_};
+ghost use lib.ListN.{length, getD};
+ghost use Rattle.pauli.specs.Rows.{Row};
+ghost use Rattle.pauli.specs.Gates.{AllValid};
+ghost use Rattle.pauli.specs.Rotations.{flush};
+ghost use Rattle.pauli.specs.Table.{start};
+ghost use Rattle.convert.specs.Records.{lowerAs, lowerAll, AllProper, records, kindOf};
+ghost use Rattle.convert.specs.Plain.{plainRun, begin};
+ghost use Rattle.convert.specs.Needs.{needRun};
+ghost use Rattle.convert.specs.Planes.{partWords, packed};
+ghost use Rattle.convert.specs.RawPlanes.{Wide};
+ghost use Rattle.convert.specs.Raw.{needed, costOf, costs, recordGates, anyExceeds, isCapped, refreshed, replaned, planesFor, Decided, Fits, countFor, needsOf};
+
+/// Nodes and operations; and those that a flush of the pending gates writes, its joint nodes and its rotations.
+pub struct Needed {
+    pub nodes: u32,
+    pub operations: u32,
+    pub joints: u32,
+    pub rotations: u32,
+}
+
+fn of(nodes: u32, operations: u32, joints: u32, rotations: u32) -> Needed
+    ensures { λ r. ⌜ r ≡ needed nodes operations joints rotations ⌝ }
+{
+    Needed {
+        nodes,
+        operations,
+        joints,
+        rotations,
+    }
+}
+
+// What a record needs.
+fn cost_of(kind: GateKind) -> Needed
+    ensures { λ r. ⌜ r ≡ costOf kind ⌝ }
+{
+    match kind {
+        GateKind::H => of(0, 0, 0, 3),
+        GateKind::X => of(0, 0, 0, 1),
+        GateKind::Z => of(0, 0, 0, 1),
+        GateKind::S => of(1, 0, 0, 1),
+        GateKind::Sdg => of(1, 0, 0, 1),
+        GateKind::T => of(0, 1, 0, 0),
+        GateKind::Tdg => of(0, 1, 0, 0),
+        GateKind::Cnot => of(2, 0, 1, 3),
+        GateKind::Cz => of(2, 0, 1, 3),
+        GateKind::Ccx => of(4, 7, 0, 0),
+        GateKind::Ccz => of(4, 7, 0, 0),
+        GateKind::Measure => of(0, 1, 0, 0),
+        GateKind::Y => of(0, 0, 0, 2),
+        GateKind::Sx => of(1, 0, 0, 7),
+        GateKind::Swap => of(6, 0, 3, 9),
+        GateKind::Cy => of(4, 0, 1, 5),
+        GateKind::Unsupported => of(0, 0, 0, 0),
+    }
+}
+
+// One record more.
+fn add(flushed: bool, k: Needed, c: Needed) -> Needed
+    requires { ⌜ (k .nodes + k .joints ≤ 2000000) × (k .operations + k .rotations ≤ 2000000) ⌝ }
+    requires { ⌜ (c .nodes + c .joints ≤ 16) × (c .operations + c .rotations ≤ 16) ⌝ }
+    ensures { λ r. ⌜ r ≡ costs flushed k c ⌝ }
+{
+    if flushed {
+        return of(
+            k.nodes + k.joints + c.nodes,
+            k.operations + k.rotations + c.operations,
+            c.joints,
+            c.rotations,
+        );
+    }
+    of(
+        k.nodes + c.nodes,
+        k.operations + c.operations,
+        k.joints + c.joints,
+        k.rotations + c.rotations,
+    )
+}
+
+// Whether a flush comes before this record.
+fn flushes(
+    planes: &[u64],
+    n: usize,
+    l: usize,
+    cap: Cap,
+    kind: GateKind,
+    a: usize,
+    b: usize,
+    d: usize,
+) -> bool
+    requires { ⌜ AllProper n (b + 1) (lowerAs kind a b d) ⌝ }
+    requires { ⌜ (l ≡ partWords n) × (isCapped cap ≡ true → (n + n) * (l + l) ≤ length (now planes)) × (n ≤ 256) ⌝ }
+    ensures { λ r. ⌜ ((t : List Row) (rest : List ℕ) → Wide n t → (isCapped cap ≡ true → now (planes .entry) ≡ packed n t ++ rest) → r ≡ anyExceeds n cap t (lowerAs kind a b d)) ⌝ }
+{
+    match cap {
+        Cap::None => false,
+        Cap::AtMost(most) => heavy(planes, n, l, most, kind, a, b, d),
+    }
+}
+
+fn refresh(planes: &mut [u64], n: usize, l: usize, flushed: bool)
+    requires { ⌜ (l ≡ partWords n) × ((n + n) * (l + l) ≤ length (now planes)) × (n ≤ 256) ⌝ }
+    ensures { λ _. ⌜ now (planes .exit) ≡ refreshed flushed n l (now (planes .entry)) ⌝ }
+{
+    if !flushed {
+        return;
+    }
+    reset(planes, n, l);
+}
+
+// The planes after a flush and the record's gates.
+fn replane(
+    planes: &mut [u64],
+    n: usize,
+    l: usize,
+    cap: Cap,
+    flushed: bool,
+    kind: GateKind,
+    a: usize,
+    b: usize,
+)
+    requires { ⌜ AllValid n (recordGates kind a b) ⌝ }
+    requires { ⌜ (l ≡ partWords n) × (isCapped cap ≡ true → (n + n) * (l + l) ≤ length (now planes)) × (n ≤ 256) ⌝ }
+    ensures { λ _. ⌜ now (planes .exit) ≡ replaned cap flushed n l (recordGates kind a b) (now (planes .entry)) ⌝ }
+{
+    if !cap.is_capped() {
+        return;
+    }
+    refresh(planes, n, l, flushed);
+    plane_record(planes, n, l, kind, a, b);
+}
+
+// Whether a flush comes before this record; the planes go past it.
+fn decide(
+    planes: &mut [u64],
+    n: usize,
+    l: usize,
+    cap: Cap,
+    kind: GateKind,
+    a: usize,
+    b: usize,
+    d: usize,
+) -> bool
+    requires { ⌜ AllProper n (b + 1) (lowerAs kind a b d) ⌝ }
+    requires { ⌜ (l ≡ partWords n) × (isCapped cap ≡ true → (n + n) * (l + l) ≤ length (now planes)) × (n ≤ 256) ⌝ }
+    ensures { λ r. ⌜ Decided n cap kind a b d (now (planes .entry)) r (now (planes .exit)) ⌝ }
+{
+    let flushed = flushes(planes, n, l, cap, kind, a, b, d);
+    replane(planes, n, l, cap, flushed, kind, a, b);
+    flushed
+}
+
+// Under a cap, the planes as at the start.
+fn prepare(planes: &mut [u64], n: usize, l: usize, cap: Cap)
+    requires { ⌜ (l ≡ partWords n) × (isCapped cap ≡ true → (n + n) * (l + l) ≤ length (now planes)) × (n ≤ 256) ⌝ }
+    ensures { λ _. ⌜ now (planes .exit) ≡ planesFor cap n (start n) (now (planes .entry)) ⌝ }
+{
+    if !cap.is_capped() {
+        return;
+    }
+    reset(planes, n, l);
+}
+
+fn wide(x: u32) -> usize
+    ensures { λ r. ⌜ r ≡ x ⌝ }
+{
+    x as usize
+}
+
+fn first(n: usize) -> Needed
+    requires { ⌜ n ≤ 256 ⌝ }
+    ensures { λ r. ⌜ r ≡ needed (1 + 2 * n) 0 0 0 ⌝ }
+{
+    of(1 + 2 * (n as u32), 0, 0, 0)
+}
+
+// The kind of record i.
+fn kind_at(gates: &[u32], i: usize) -> GateKind
+    requires { ⌜ i < length (now gates) / 4 ⌝ }
+    ensures { λ r. ⌜ r ≡ kindOf (getD (now (gates .entry)) (4 * i) 0) ⌝ }
+{
+    GateKind::of(gates[4 * i])
+}
+
+// Operand j of record i, from 1 on.
+fn operand_at(gates: &[u32], i: usize, j: usize) -> usize
+    requires { ⌜ (i < length (now gates) / 4) × (j < 4) ⌝ }
+    ensures { λ r. ⌜ r ≡ getD (now (gates .entry)) (4 * i + j) 0 ⌝ }
+{
+    wide(gates[4 * i + j])
+}
+
+// What the conversion needs. Under a cap the planes afterwards are those of its end.
+fn count_records(planes: &mut [u64], n: usize, l: usize, cap: Cap, gates: &[u32]) -> Needed
+    requires { ⌜ Fits n (now gates) ⌝ }
+    requires { ⌜ (l ≡ partWords n) × (isCapped cap ≡ true → (n + n) * (l + l) ≤ length (now planes)) × (n ≤ 256) × (length (now gates) ≤ 262144) ⌝ }
+    ensures { λ r. ⌜ r ≡ countFor (plainRun flush n cap (lowerAll (records (now (gates .entry)))) (begin n)) (needRun n cap (lowerAll (records (now (gates .entry)))) (begin n) (needsOf (1 + 2 * n) 0)) ⌝ }
+    ensures { λ r. ⌜ now (planes .exit) ≡ planesFor cap n (plainRun flush n cap (lowerAll (records (now (gates .entry)))) (begin n) .table) (now (planes .entry)) ⌝ }
+{
+    prepare(planes, n, l, cap);
+    let count = gates.len() / 4;
+    let mut k = first(n);
+    let mut i: usize = 0;
+    while i < count {
+        let kind = kind_at(gates, i);
+        let a = operand_at(gates, i, 1);
+        let b = operand_at(gates, i, 2);
+        let d = operand_at(gates, i, 3);
+        let flushed = decide(planes, n, l, cap, kind, a, b, d);
+        k = add(flushed, k, cost_of(kind));
+        i += 1;
+    }
+    k
+}

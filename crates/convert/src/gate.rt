@@ -1,0 +1,153 @@
+//! The kinds of gates, by what a record's first word names. Every function is O(1).
+
+ghost use mathlib.Core.Path.{_≡_};
+ghost use Rattle.convert.specs.Records.{kindOf};
+ghost use Rattle.convert.specs.Raw.{arityOf, testsOf, isFrame, frameNodes};
+
+/// What a gate record's first word names. The Rust's names; all numbers that document 01 does not list are `Unsupported`.
+pub enum GateKind {
+    H,
+    X,
+    Z,
+    S,
+    Sdg,
+    T,
+    Tdg,
+    Cnot,
+    Cz,
+    Ccx,
+    Ccz,
+    Measure,
+    Y,
+    Sx,
+    Swap,
+    Cy,
+    Unsupported,
+}
+
+impl GateKind {
+    /// The kind that a number names. Promise: `kindOf`.
+    pub fn of(number: u32) -> GateKind
+        ensures { λ r. ⌜ r ≡ kindOf number ⌝ }
+    {
+        match number {
+            0 => GateKind::H,
+            1 => GateKind::X,
+            2 => GateKind::Z,
+            3 => GateKind::S,
+            4 => GateKind::Sdg,
+            5 => GateKind::T,
+            6 => GateKind::Tdg,
+            8 => GateKind::Cnot,
+            9 => GateKind::Cz,
+            10 => GateKind::Ccx,
+            11 => GateKind::Ccz,
+            12 => GateKind::Measure,
+            15 => GateKind::Y,
+            16 => GateKind::Sx,
+            19 => GateKind::Swap,
+            20 => GateKind::Cy,
+            _ => GateKind::Unsupported,
+        }
+    }
+
+    /// 0 for no kind, 1 to 3 for so many qubits, 4 for a measurement. Promise: `arityOf`.
+    pub fn arity(self) -> u32
+        ensures { λ r. ⌜ r ≡ arityOf self ⌝ }
+    {
+        match self {
+            GateKind::H => 1,
+            GateKind::X => 1,
+            GateKind::Z => 1,
+            GateKind::S => 1,
+            GateKind::Sdg => 1,
+            GateKind::T => 1,
+            GateKind::Tdg => 1,
+            GateKind::Cnot => 2,
+            GateKind::Cz => 2,
+            GateKind::Ccx => 3,
+            GateKind::Ccz => 3,
+            GateKind::Measure => 4,
+            GateKind::Y => 1,
+            GateKind::Sx => 1,
+            GateKind::Swap => 2,
+            GateKind::Cy => 2,
+            GateKind::Unsupported => 0,
+        }
+    }
+
+    /// What is tested before a gate: 0 nothing, 1 z of its qubit, 2 the seven products of ccx, 3 those of ccz. Promise: `testsOf`.
+    pub fn tests(self) -> u32
+        ensures { λ r. ⌜ r ≡ testsOf self ⌝ }
+    {
+        match self {
+            GateKind::H => 0,
+            GateKind::X => 0,
+            GateKind::Z => 0,
+            GateKind::S => 0,
+            GateKind::Sdg => 0,
+            GateKind::T => 1,
+            GateKind::Tdg => 1,
+            GateKind::Cnot => 0,
+            GateKind::Cz => 0,
+            GateKind::Ccx => 2,
+            GateKind::Ccz => 3,
+            GateKind::Measure => 1,
+            GateKind::Y => 0,
+            GateKind::Sx => 0,
+            GateKind::Swap => 0,
+            GateKind::Cy => 0,
+            GateKind::Unsupported => 0,
+        }
+    }
+
+    /// Whether it is one of h, x, z, s, sdg, cnot, cz. Promise: `isFrame`.
+    pub fn is_frame(self) -> bool
+        ensures { λ r. ⌜ r ≡ isFrame self ⌝ }
+    {
+        match self {
+            GateKind::H => true,
+            GateKind::X => true,
+            GateKind::Z => true,
+            GateKind::S => true,
+            GateKind::Sdg => true,
+            GateKind::T => false,
+            GateKind::Tdg => false,
+            GateKind::Cnot => true,
+            GateKind::Cz => true,
+            GateKind::Ccx => false,
+            GateKind::Ccz => false,
+            GateKind::Measure => false,
+            GateKind::Y => false,
+            GateKind::Sx => false,
+            GateKind::Swap => false,
+            GateKind::Cy => false,
+            GateKind::Unsupported => false,
+        }
+    }
+
+    /// The nodes that it pushes as a frame gate. Promise: `frameNodes`.
+    pub fn frame_nodes(self) -> u32
+        ensures { λ r. ⌜ r ≡ frameNodes self ⌝ }
+    {
+        match self {
+            GateKind::H => 0,
+            GateKind::X => 0,
+            GateKind::Z => 0,
+            GateKind::S => 1,
+            GateKind::Sdg => 1,
+            GateKind::T => 0,
+            GateKind::Tdg => 0,
+            GateKind::Cnot => 2,
+            GateKind::Cz => 2,
+            GateKind::Ccx => 0,
+            GateKind::Ccz => 0,
+            GateKind::Measure => 0,
+            GateKind::Y => 0,
+            GateKind::Sx => 0,
+            GateKind::Swap => 0,
+            GateKind::Cy => 0,
+            GateKind::Unsupported => 0,
+        }
+    }
+}
