@@ -1,0 +1,107 @@
+//! Refusals.
+
+use std::fmt;
+
+/// Why a call was refused. `index` is a gate's place in the list of a conversion, 0 elsewhere.
+#[derive(Clone, Copy, Debug, PartialEq, Eq)]
+pub enum PbcError {
+    /// Over 256 qubits, or over 65,536 classical bits.
+    TooManyQubits,
+    /// Over 65,536 gates.
+    BrokenGateList,
+    /// The circuit's words are damaged. No call of this crate leaves them so.
+    BadStore,
+    ForeignPauli,
+    UnsupportedGate {
+        index: u64,
+        kind: u64,
+    },
+    NonCliffordFrameGate {
+        kind: u64,
+    },
+    QubitOutOfRange {
+        index: u64,
+        qubit: u64,
+    },
+    RepeatedOperand {
+        index: u64,
+        qubit: u64,
+    },
+    ClassicalBitOutOfRange {
+        index: u64,
+        bit: u64,
+    },
+    UnknownMeasurement,
+    /// A cap of 1 or 2 with a ccx or ccz.
+    CapTooSmall,
+    /// A buffer of this crate is too short. No call leaves it so.
+    NoPlanes,
+    NoFrame,
+    /// Over 65,536 nodes.
+    NoNodes,
+    /// Over 65,536 operations.
+    NoOperations,
+    NoScratch,
+    /// The work is above the limit.
+    ExpansionLimit,
+    /// Over 65,535 factors at once.
+    NoPool,
+    NonHermitianAxis,
+}
+
+impl PbcError {
+    /// The refusal with this number, gate index and operand.
+    pub(crate) fn of(number: u32, answer: [u64; 4]) -> Self {
+        let [index, operand, ..] = answer;
+        match number {
+            1 => Self::TooManyQubits,
+            2 => Self::BrokenGateList,
+            3 => Self::BadStore,
+            4 => Self::ForeignPauli,
+            5 => Self::UnsupportedGate { index, kind: operand },
+            6 => Self::NonCliffordFrameGate { kind: operand },
+            7 => Self::QubitOutOfRange { index, qubit: operand },
+            8 => Self::RepeatedOperand { index, qubit: operand },
+            9 => Self::ClassicalBitOutOfRange { index, bit: operand },
+            10 => Self::UnknownMeasurement,
+            11 => Self::CapTooSmall,
+            12 => Self::NoPlanes,
+            13 => Self::NoFrame,
+            14 => Self::NoNodes,
+            15 => Self::NoOperations,
+            16 => Self::NoScratch,
+            17 => Self::ExpansionLimit,
+            18 => Self::NoPool,
+            19 => Self::NonHermitianAxis,
+            other => unreachable!("the library returned {other}"),
+        }
+    }
+}
+
+impl fmt::Display for PbcError {
+    fn fmt(&self, f: &mut fmt::Formatter<'_>) -> fmt::Result {
+        match self {
+            Self::TooManyQubits => f.write_str("over 256 qubits, or over 65,536 classical bits"),
+            Self::BrokenGateList => f.write_str("over 65,536 gates"),
+            Self::BadStore => f.write_str("the circuit's words are damaged"),
+            Self::ForeignPauli => f.write_str("Pauli reference belongs to another circuit"),
+            Self::UnsupportedGate { index, kind } => write!(f, "gate {index}: unsupported kind {kind}"),
+            Self::NonCliffordFrameGate { kind } => write!(f, "the output frame does not accept gate kind {kind}"),
+            Self::QubitOutOfRange { index, qubit } => write!(f, "gate {index}: qubit {qubit} is out of range"),
+            Self::RepeatedOperand { index, qubit } => write!(f, "gate {index}: qubit {qubit} is repeated"),
+            Self::ClassicalBitOutOfRange { index, bit } => write!(f, "gate {index}: classical bit {bit} is out of range"),
+            Self::UnknownMeasurement => f.write_str("measurement is not defined in this circuit"),
+            Self::CapTooSmall => f.write_str("a ccx or ccz needs a cap of at least 3"),
+            Self::NoPlanes => f.write_str("too few plane words"),
+            Self::NoFrame => f.write_str("too few frame words"),
+            Self::NoNodes => f.write_str("over 65,536 nodes"),
+            Self::NoOperations => f.write_str("over 65,536 operations"),
+            Self::NoScratch => f.write_str("too few scratch words"),
+            Self::ExpansionLimit => f.write_str("the work is above the limit"),
+            Self::NoPool => f.write_str("over 65,535 factors at once"),
+            Self::NonHermitianAxis => f.write_str("rotation and measurement axes must be Hermitian"),
+        }
+    }
+}
+
+impl std::error::Error for PbcError {}

@@ -1,0 +1,69 @@
+-- `pbc_product` meets its contract: accepted, refused, or lent too few words.
+use borrow.Author.Needs.{needs}
+use mathlib.Core.Path.{refl, ap, sym, _∙_}
+use native.Mathlib.Omega.{arith}
+use Rattle.exports.specs.Words.{numberIn, headerLeft, answerLeft}
+use Rattle.exports.specs.Exports.{multipliedReply, productCall}
+use Rattle.exports.proofs.Laws.{header-enough, answer-enough}
+use Rattle.exports.proofs.circuit.pbc_product.Statement.{statement}
+use Rattle.exports.proofs.circuit.pbc_product.Tie as tie
+
+too-short-requires : tie.Need-too-short-requires
+too-short-requires c κs = search needs
+
+returns : tie.Need-returns
+unfolding productCall
+returns c = rw (sym (c .before .too-short .ensures) ∙ c .if1 .taken) (refl, (refl, (refl, refl)))
+
+read-header-requires : tie.Need-read-header-requires
+read-header-requires c κs = omega (arith, header-enough _ _ (sym (c .before .before .too-short .ensures) ∙ c .before .if1 .left))
+
+handle-requires : tie.Need-handle-requires
+handle-requires c κs = search needs
+
+handle-requires-2 : tie.Need-handle-requires-2
+handle-requires-2 c κs = search needs
+
+product-requires : tie.Need-product-requires
+product-requires c κs = search needs
+
+multiplied-requires : tie.Need-multiplied-requires
+multiplied-requires c κs = search needs
+
+write-header-requires : tie.Need-write-header-requires
+write-header-requires c κs = omega (arith, header-enough _ _ (sym (c .before .before .before .before .before .before .before .before .before .before .before .too-short .ensures) ∙ c .before .before .before .before .before .before .before .before .before .before .if1 .left))
+
+write-answer-requires : tie.Need-write-answer-requires
+write-answer-requires c κs = omega (arith, answer-enough _ _ (sym (c .before .before .before .before .before .before .before .before .before .before .before .before .before .before .before .too-short .ensures) ∙ c .before .before .before .before .before .before .before .before .before .before .before .before .before .before .if1 .left))
+
+same-length : tie.Need-same-length
+same-length c = search needs
+
+same-length-2 : tie.Need-same-length-2
+same-length-2 c = search needs
+
+same-length-3 : tie.Need-same-length-3
+same-length-3 c = search needs
+
+returns-2 : tie.Need-returns-2
+unfolding productCall
+returns-2 c = rw (sym (c .before .before .before .before .before .before .before .before .before .before .before .before .before .before .before .before .before .before .too-short .ensures) ∙ c .before .before .before .before .before .before .before .before .before .before .before .before .before .before .before .before .before .if1 .left, ← c .before .before .before .before .before .before .before .before .before .before .before .before .before .before .before .read-header .ensures, ← c .before .before .before .before .before .before .before .before .before .before .before .before .before .before .handle .ensures, ← c .before .before .before .before .before .before .before .before .before .before .before .before .before .handle2 .ensures)
+    (let said = c .before .before .before .before .before .before .before .before .multiplied .ensures ∙ ap multipliedReply (c .before .before .before .before .before .before .before .before .before .before .before .product .ensures .0) in (c .before .before .write-answer .ensures .0 ∙ ap numberIn said, (c .before .before .before .before .before .before .before .before .before .before .before .product .ensures .1, (c .before .before .before .before .before .before .write-header .ensures ∙ ap (λ k. headerLeft k (c .before .before .before .before .before .before .before .before .before .before .before .before .before .before .before .before .before .before .before .before .before .before .args .header .now)) said, c .before .before .write-answer .ensures .1 ∙ ap (λ k. answerLeft k (c .before .before .before .before .before .before .before .before .before .before .before .before .before .before .before .before .before .before .before .before .before .before .args .answer .now)) said))))
+
+pub pbc-product-spec : {M : Type 1} → statement M
+pbc-product-spec =
+    tie.close
+    (tie.spec
+    too-short-requires
+    returns
+    read-header-requires
+    handle-requires
+    handle-requires-2
+    product-requires
+    multiplied-requires
+    write-header-requires
+    write-answer-requires
+    same-length
+    same-length-2
+    same-length-3
+    returns-2)

@@ -1,0 +1,61 @@
+-- `pbc_hermitian_axis` meets its contract: accepted, refused, or lent too few words.
+use borrow.Author.Needs.{needs}
+use mathlib.Core.Path.{refl, ap, sym, _∙_}
+use native.Mathlib.Omega.{arith}
+use Rattle.exports.specs.Words.{numberIn, answerLeft}
+use Rattle.exports.specs.Readers.{hermitianReply, hermitianCall}
+use Rattle.exports.proofs.Laws.{header-enough, answer-enough}
+use Rattle.exports.proofs.readers.pbc_hermitian_axis.Statement.{statement}
+use Rattle.exports.proofs.readers.pbc_hermitian_axis.Tie as tie
+
+too-short-requires : tie.Need-too-short-requires
+too-short-requires c κs = search needs
+
+returns : tie.Need-returns
+unfolding hermitianCall
+returns c = rw (sym (c .before .too-short .ensures) ∙ c .if1 .taken) (refl, (refl, (refl, refl)))
+
+read-header-requires : tie.Need-read-header-requires
+read-header-requires c κs = omega (arith, header-enough _ _ (sym (c .before .too-short .ensures) ∙ c .if1 .left))
+
+handle-requires : tie.Need-handle-requires
+handle-requires c κs = search needs
+
+hermitian-axis-requires : tie.Need-hermitian-axis-requires
+hermitian-axis-requires c κs = search needs
+
+hermitian-requires : tie.Need-hermitian-requires
+hermitian-requires c κs = search needs
+
+write-answer-requires : tie.Need-write-answer-requires
+write-answer-requires c κs = omega (arith, answer-enough _ _ (sym (c .before .before .before .before .before .before .before .before .before .before .before .before .too-short .ensures) ∙ c .before .before .before .before .before .before .before .before .before .before .before .if1 .left))
+
+same-length : tie.Need-same-length
+same-length c = search needs
+
+same-length-2 : tie.Need-same-length-2
+same-length-2 c = search needs
+
+same-length-3 : tie.Need-same-length-3
+same-length-3 c = search needs
+
+returns-2 : tie.Need-returns-2
+unfolding hermitianCall
+returns-2 c = rw (sym (c .before .before .before .before .before .before .before .before .before .before .before .before .before .before .before .too-short .ensures) ∙ c .before .before .before .before .before .before .before .before .before .before .before .before .before .before .if1 .left, ← c .before .before .before .before .before .before .before .before .before .before .before .before .before .read-header .ensures, ← c .before .before .before .before .before .before .before .before .before .before .before .before .handle .ensures)
+    (let said = c .before .before .before .before .hermitian .ensures ∙ ap (hermitianReply (c .before .before .before .before .before .before .before .before .before .before .before .before .before .read-header .result)) (c .before .before .before .before .before .before .before .before .before .hermitian-axis .ensures .0) in (c .before .before .write-answer .ensures .0 ∙ ap numberIn said, (c .before .before .before .before .before .before .before .before .before .hermitian-axis .ensures .1 .0, (c .before .before .before .before .before .before .before .before .before .hermitian-axis .ensures .1 .1, c .before .before .write-answer .ensures .1 ∙ ap (λ k. answerLeft k (c .before .before .before .before .before .before .before .before .before .before .before .before .before .before .before .before .before .before .before .before .before .args .answer .now)) said))))
+
+pub pbc-hermitian-axis-spec : {M : Type 1} → statement M
+pbc-hermitian-axis-spec =
+    tie.close
+    (tie.spec
+    too-short-requires
+    returns
+    read-header-requires
+    handle-requires
+    hermitian-axis-requires
+    hermitian-requires
+    write-answer-requires
+    same-length
+    same-length-2
+    same-length-3
+    returns-2)

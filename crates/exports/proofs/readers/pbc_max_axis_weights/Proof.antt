@@ -1,0 +1,57 @@
+-- `pbc_max_axis_weights` meets its contract: accepted, refused, or lent too few words.
+use borrow.Author.Needs.{needs}
+use mathlib.Core.Path.{refl, ap, sym, _∙_}
+use native.Mathlib.Omega.{arith}
+use Rattle.exports.specs.Words.{numberIn, answerLeft}
+use Rattle.exports.specs.Readers.{weightsReply, weightsCall}
+use Rattle.exports.proofs.Laws.{header-enough, answer-enough}
+use Rattle.exports.proofs.readers.pbc_max_axis_weights.Statement.{statement}
+use Rattle.exports.proofs.readers.pbc_max_axis_weights.Tie as tie
+
+too-short-requires : tie.Need-too-short-requires
+too-short-requires c κs = search needs
+
+returns : tie.Need-returns
+unfolding weightsCall
+returns c = rw (sym (c .before .too-short .ensures) ∙ c .if1 .taken) (refl, (refl, (refl, refl)))
+
+read-header-requires : tie.Need-read-header-requires
+read-header-requires c κs = omega (arith, header-enough _ _ (sym (c .before .too-short .ensures) ∙ c .if1 .left))
+
+max-axis-weights-requires : tie.Need-max-axis-weights-requires
+max-axis-weights-requires c κs = search needs
+
+weights-requires : tie.Need-weights-requires
+weights-requires c κs = search needs
+
+write-answer-requires : tie.Need-write-answer-requires
+write-answer-requires c κs = omega (arith, answer-enough _ _ (sym (c .before .before .before .before .before .before .before .before .before .before .before .too-short .ensures) ∙ c .before .before .before .before .before .before .before .before .before .before .if1 .left))
+
+same-length : tie.Need-same-length
+same-length c = search needs
+
+same-length-2 : tie.Need-same-length-2
+same-length-2 c = search needs
+
+same-length-3 : tie.Need-same-length-3
+same-length-3 c = search needs
+
+returns-2 : tie.Need-returns-2
+unfolding weightsCall
+returns-2 c = rw (sym (c .before .before .before .before .before .before .before .before .before .before .before .before .before .before .too-short .ensures) ∙ c .before .before .before .before .before .before .before .before .before .before .before .before .before .if1 .left, ← c .before .before .before .before .before .before .before .before .before .before .before .before .read-header .ensures)
+    (let said = c .before .before .before .before .weights .ensures ∙ ap (weightsReply (c .before .before .before .before .before .before .before .before .before .before .before .before .read-header .result)) (c .before .before .before .before .before .before .before .before .before .max-axis-weights .ensures .0) in (c .before .before .write-answer .ensures .0 ∙ ap numberIn said, (c .before .before .before .before .before .before .before .before .before .max-axis-weights .ensures .1 .0, (c .before .before .before .before .before .before .before .before .before .max-axis-weights .ensures .1 .1, c .before .before .write-answer .ensures .1 ∙ ap (λ k. answerLeft k (c .before .before .before .before .before .before .before .before .before .before .before .before .before .before .before .before .before .before .before .before .before .args .answer .now)) said))))
+
+pub pbc-max-axis-weights-spec : {M : Type 1} → statement M
+pbc-max-axis-weights-spec =
+    tie.close
+    (tie.spec
+    too-short-requires
+    returns
+    read-header-requires
+    max-axis-weights-requires
+    weights-requires
+    write-answer-requires
+    same-length
+    same-length-2
+    same-length-3
+    returns-2)

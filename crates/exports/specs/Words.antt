@@ -1,0 +1,71 @@
+-- How the words of a caller stand for a header, a handle, a letter, an angle and a target, and how a reply is written to words.
+use mathlib.Core.Bool.{Bool, cond, _||_}
+use mathlib.Core.List.{List, [], _∷_}
+use Prim.Native.Nat.{ℕ, zero, suc, _%_}
+use lib.IntN.{ℤ}
+use lib.Dec.{ltb}
+use lib.ListN.{length, getD}
+use lib.Seq.{sets}
+use Rattle.pauli.specs.Angle.{remainder8}
+use Rattle.pauli.specs.Letters.{pauliOf}
+use Rattle.arena.specs.Errors.{refusalIn}
+use Rattle.exports.specs.Types.{Pauli, PauliAngle, Header, PauliRef, PauliAxis, Target, Bit, NoTarget, PbcError}
+pub use Rattle.exports.specs.declared.Reply.the-variants.{the-data as Reply, Accepted, Refused}
+
+-- ---- what is read
+
+-- a word as a number of 32 bits: one too large counts as the largest
+unfoldable pub field : ℕ → ℕ
+field w = cond (ltb w 4294967296) w 4294967295
+
+-- six words: qubits, cbits, owner, nodes, operations, measurements
+unfoldable pub headerIn : List ℕ → Header
+headerIn ws = record {
+  qubits = field (getD ws 0 0);
+  cbits = field (getD ws 1 0);
+  owner = getD ws 2 0;
+  nodes = field (getD ws 3 0);
+  operations = field (getD ws 4 0);
+  measurements = field (getD ws 5 0);
+}
+
+-- a handle: an owner and a word
+abbrev pub refIn : ℕ → ℕ → PauliRef
+refIn owner word = record { owner = owner; word = word }
+
+abbrev pub axisIn : ℕ → ℕ → PauliAxis
+axisIn owner word = record { 0 = refIn owner word }
+
+-- a letter's number counts modulo 4
+unfoldable pub letterIn : ℕ → Pauli
+letterIn n = pauliOf (n % 4)
+
+-- an angle's counts modulo 8
+unfoldable pub angleIn : ℤ → PauliAngle
+angleIn k = record { 0 = remainder8 k }
+
+-- one more than the classical bit, 0 for none
+unfoldable pub targetIn : ℕ → Target
+targetIn zero = NoTarget
+targetIn (suc bit) = Bit (field bit)
+
+-- ---- what is written
+
+-- the header has fewer than six words, or the answer fewer than four: then a function returns 255 and does nothing
+unfoldable pub tooShort : (header answer : ℕ) → Bool
+tooShort header answer = ltb header 6 || ltb answer 4
+
+-- what a function returns: 0, or the refusal's number
+unfoldable pub numberIn : Reply → ℕ
+numberIn (Accepted h a b c) = 0
+numberIn (Refused e) = refusalIn e .number
+
+-- the new header, where the call is accepted
+unfoldable pub headerLeft : Reply → List ℕ → List ℕ
+headerLeft (Accepted h a b c) ws = sets ws 0 (h .qubits ∷ h .cbits ∷ h .owner ∷ h .nodes ∷ h .operations ∷ h .measurements ∷ [])
+headerLeft (Refused e) ws = ws
+
+-- the values, and 0 for the rest; or the refusal's index and operand
+unfoldable pub answerLeft : Reply → List ℕ → List ℕ
+answerLeft (Accepted h a b c) ws = sets ws 0 (a ∷ b ∷ c ∷ 0 ∷ [])
+answerLeft (Refused e) ws = sets ws 0 (refusalIn e .index ∷ refusalIn e .operand ∷ 0 ∷ 0 ∷ [])

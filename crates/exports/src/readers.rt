@@ -1,0 +1,127 @@
+//! The functions that read a circuit. The header and the nodes are only read. Each costs what the call below costs.
+
+use crate::Reply;
+use crate::handle;
+use crate::read_header;
+use crate::too_short;
+use crate::write_answer;
+use arena::Expansion;
+use arena::Header;
+use arena::HermitianAxis;
+use arena::MaxAxisWeights;
+ghost use mathlib.Core.Path.{_≡_};
+ghost use Rattle.exports.specs.Readers.{expandedReply, hermitianReply, weightsReply, expandCall, hermitianCall, weightsCall};
+
+fn expanded(header: Header, answer: Expansion) -> Reply
+    ensures { λ r. ⌜ r ≡ expandedReply header answer ⌝ }
+{
+    match answer {
+        Expansion::Made(phase, work) => {
+            Reply::Accepted(header, phase.number() as u64, work as u64, 0)
+        }
+        Expansion::Refused(error) => Reply::Refused(error),
+    }
+}
+
+fn hermitian(header: Header, answer: HermitianAxis) -> Reply
+    ensures { λ r. ⌜ r ≡ hermitianReply header answer ⌝ }
+{
+    match answer {
+        HermitianAxis::Made(axis, work) => {
+            Reply::Accepted(header, axis.as_ref().word as u64, work as u64, 0)
+        }
+        HermitianAxis::Refused(error) => Reply::Refused(error),
+    }
+}
+
+fn weights(header: Header, answer: MaxAxisWeights) -> Reply
+    ensures { λ r. ⌜ r ≡ weightsReply header answer ⌝ }
+{
+    match answer {
+        MaxAxisWeights::Made(non_clifford, clifford, work) => {
+            Reply::Accepted(header, non_clifford as u64, clifford as u64, work as u64)
+        }
+        MaxAxisWeights::Refused(error) => Reply::Refused(error),
+    }
+}
+
+/// The letters of a handle, one byte a qubit; the values are its phase and the work. Promise: `expandCall`.
+#[no_mangle]
+pub extern "C" fn pbc_expand(
+    header: &[u64],
+    nodes: &[u32],
+    letters: &mut [u8],
+    scratch: &mut [u32],
+    pool: &mut [u32],
+    owner: u64,
+    word: u32,
+    cells: u64,
+    answer: &mut [u64],
+) -> u32
+    ensures { λ r. ⌜ r ≡ expandCall (now (header .entry)) (now (nodes .entry)) (now (letters .entry)) (now (scratch .entry)) (now (pool .entry)) owner word cells (now (answer .entry)) .number ⌝ }
+    ensures { λ _. ⌜ now (letters .exit) ≡ expandCall (now (header .entry)) (now (nodes .entry)) (now (letters .entry)) (now (scratch .entry)) (now (pool .entry)) owner word cells (now (answer .entry)) .letters ⌝ }
+    ensures { λ _. ⌜ now (scratch .exit) ≡ expandCall (now (header .entry)) (now (nodes .entry)) (now (letters .entry)) (now (scratch .entry)) (now (pool .entry)) owner word cells (now (answer .entry)) .scratch ⌝ }
+    ensures { λ _. ⌜ now (pool .exit) ≡ expandCall (now (header .entry)) (now (nodes .entry)) (now (letters .entry)) (now (scratch .entry)) (now (pool .entry)) owner word cells (now (answer .entry)) .pool ⌝ }
+    ensures { λ _. ⌜ now (answer .exit) ≡ expandCall (now (header .entry)) (now (nodes .entry)) (now (letters .entry)) (now (scratch .entry)) (now (pool .entry)) owner word cells (now (answer .entry)) .answer ⌝ }
+{
+    if too_short(header.len(), answer.len()) {
+        return 255;
+    }
+    let was = read_header(header);
+    let expression = handle(owner, word);
+    let made = was.expand(nodes, letters, scratch, pool, expression, cells as usize);
+    let reply = expanded(was, made);
+    write_answer(answer, reply)
+}
+
+/// Whether a handle has the sign +1 or -1; the values are its word and the work. Promise: `hermitianCall`.
+#[no_mangle]
+pub extern "C" fn pbc_hermitian_axis(
+    header: &[u64],
+    nodes: &[u32],
+    scratch: &mut [u32],
+    pool: &mut [u32],
+    owner: u64,
+    word: u32,
+    limit: u64,
+    answer: &mut [u64],
+) -> u32
+    ensures { λ r. ⌜ r ≡ hermitianCall (now (header .entry)) (now (nodes .entry)) (now (scratch .entry)) (now (pool .entry)) owner word limit (now (answer .entry)) .number ⌝ }
+    ensures { λ _. ⌜ now (scratch .exit) ≡ hermitianCall (now (header .entry)) (now (nodes .entry)) (now (scratch .entry)) (now (pool .entry)) owner word limit (now (answer .entry)) .scratch ⌝ }
+    ensures { λ _. ⌜ now (pool .exit) ≡ hermitianCall (now (header .entry)) (now (nodes .entry)) (now (scratch .entry)) (now (pool .entry)) owner word limit (now (answer .entry)) .pool ⌝ }
+    ensures { λ _. ⌜ now (answer .exit) ≡ hermitianCall (now (header .entry)) (now (nodes .entry)) (now (scratch .entry)) (now (pool .entry)) owner word limit (now (answer .entry)) .answer ⌝ }
+{
+    if too_short(header.len(), answer.len()) {
+        return 255;
+    }
+    let was = read_header(header);
+    let expression = handle(owner, word);
+    let made = was.hermitian_axis(nodes, scratch, pool, expression, limit as usize);
+    let reply = hermitian(was, made);
+    write_answer(answer, reply)
+}
+
+/// The largest weights of axes; the values are the non-Clifford one, the Clifford one and the work. Promise: `weightsCall`.
+#[no_mangle]
+pub extern "C" fn pbc_max_axis_weights(
+    header: &[u64],
+    nodes: &[u32],
+    operations: &[u32],
+    scratch: &mut [u32],
+    pool: &mut [u32],
+    limit: u64,
+    answer: &mut [u64],
+) -> u32
+    ensures { λ r. ⌜ r ≡ weightsCall (now (header .entry)) (now (nodes .entry)) (now (operations .entry)) (now (scratch .entry)) (now (pool .entry)) limit (now (answer .entry)) .number ⌝ }
+    ensures { λ _. ⌜ now (scratch .exit) ≡ weightsCall (now (header .entry)) (now (nodes .entry)) (now (operations .entry)) (now (scratch .entry)) (now (pool .entry)) limit (now (answer .entry)) .scratch ⌝ }
+    ensures { λ _. ⌜ now (pool .exit) ≡ weightsCall (now (header .entry)) (now (nodes .entry)) (now (operations .entry)) (now (scratch .entry)) (now (pool .entry)) limit (now (answer .entry)) .pool ⌝ }
+    ensures { λ _. ⌜ now (answer .exit) ≡ weightsCall (now (header .entry)) (now (nodes .entry)) (now (operations .entry)) (now (scratch .entry)) (now (pool .entry)) limit (now (answer .entry)) .answer ⌝ }
+{
+    if too_short(header.len(), answer.len()) {
+        return 255;
+    }
+    let was = read_header(header);
+    let made = was.max_axis_weights(nodes, operations, scratch, pool, limit as usize);
+    let reply = weights(was, made);
+    write_answer(answer, reply)
+}
