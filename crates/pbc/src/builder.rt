@@ -1,0 +1,159 @@
+//! The commands that add to the current circuit, and those on angles and letters alone.
+
+use crate::buffers::lent;
+use crate::buffers::wide_at;
+use crate::buffers::word;
+use crate::line::Line;
+use crate::state::Answer;
+use crate::state::Reply;
+use crate::state::State;
+use arena::Header;
+use arena::MeasId;
+use arena::Measured;
+use arena::Multiplied;
+use arena::PauliAxis;
+use arena::PauliRef;
+use arena::Pushed;
+use arena::Singled;
+use arena::Target;
+use pauli::Pauli;
+use pauli::PauliAngle;
+
+// The owner's number with F added.
+fn owner_at(h: Header, words: &[u32], at: usize) -> u64 {
+    std::num::wrapping_add_u64(h.owner, wide_at(words, at))
+}
+
+/// The handle `F W`, F at the first of the two places.
+pub(crate) fn handle(h: Header, words: &[u32], f: usize, w: usize) -> PauliRef {
+    PauliRef {
+        owner: owner_at(h, words, f),
+        word: word(words, w),
+    }
+}
+
+fn axis(h: Header, words: &[u32]) -> PauliAxis {
+    PauliAxis::assume_hermitian(handle(h, words, 0, 1))
+}
+
+/// `single QUBIT LETTER`
+pub(crate) fn single(state: State, line: Line, words: &[u32], nodes: &mut [u32]) -> Reply {
+    if !line.has(2) {
+        return state.bad();
+    }
+    let letter = word(words, 1);
+    if 3 < letter {
+        return state.bad();
+    }
+    let header = state.header;
+    let count = state.lends.nodes;
+    let pauli = Pauli::or_identity(letter);
+    match header.single(lent(nodes, count), word(words, 0), pauli) {
+        Singled::Made(made, on) => { state.with_header(made, Answer::One(on.as_ref().word as u64)) }
+        Singled::Refused(error) => state.refused(error),
+    }
+}
+
+/// `product F W F W`
+pub(crate) fn product(state: State, line: Line, words: &[u32], nodes: &mut [u32]) -> Reply {
+    if !line.has(4) {
+        return state.bad();
+    }
+    let header = state.header;
+    let count = state.lends.nodes;
+    let left = handle(header, words, 0, 1);
+    let right = handle(header, words, 2, 3);
+    match header.product(lent(nodes, count), left, right) {
+        Multiplied::Made(made, reference) => {
+            state.with_header(made, Answer::One(reference.word as u64))
+        }
+        Multiplied::Refused(error) => state.refused(error),
+    }
+}
+
+fn pushed(state: State, answer: Pushed) -> Reply {
+    match answer {
+        Pushed::Made(made) => state.with_header(made, Answer::Done),
+        Pushed::Refused(error) => state.refused(error),
+    }
+}
+
+/// `rotate F W ANGLE`
+pub(crate) fn rotate(state: State, line: Line, words: &[u32], operations: &mut [u32]) -> Reply {
+    if !line.has_signed(3, 2) {
+        return state.bad();
+    }
+    let header = state.header;
+    let count = state.lends.operations;
+    let on = axis(header, words);
+    let angle = PauliAngle::new(line.signed_at(words, 2));
+    let answer = header.rotate(lent(operations, count), on, angle);
+    pushed(state, answer)
+}
+
+// One more than the bit, 0 for none.
+fn target(number: u32) -> Target {
+    if number == 0 {
+        return Target::None;
+    }
+    Target::Bit(number - 1)
+}
+
+/// `measure F W BIT+1`
+pub(crate) fn measure(state: State, line: Line, words: &[u32], operations: &mut [u32]) -> Reply {
+    if !line.has(3) {
+        return state.bad();
+    }
+    let header = state.header;
+    let count = state.lends.operations;
+    let on = axis(header, words);
+    let into = target(word(words, 2));
+    match header.measure(lent(operations, count), on, into) {
+        Measured::Made(made, outcome) => {
+            state.with_header(made, Answer::One(outcome.index() as u64))
+        }
+        Measured::Refused(error) => state.refused(error),
+    }
+}
+
+/// `cond F W ANGLE F NUMBER`
+pub(crate) fn conditional(
+    state: State,
+    line: Line,
+    words: &[u32],
+    operations: &mut [u32],
+) -> Reply {
+    if !line.has_signed(5, 2) {
+        return state.bad();
+    }
+    let header = state.header;
+    let count = state.lends.operations;
+    let on = axis(header, words);
+    let angle = PauliAngle::new(line.signed_at(words, 2));
+    let outcome = MeasId::new(owner_at(header, words, 3), word(words, 4));
+    let answer = header.conditional_rotate(lent(operations, count), on, angle, outcome);
+    pushed(state, answer)
+}
+
+/// `angle K`
+pub(crate) fn angle(state: State, line: Line, words: &[u32]) -> Reply {
+    if !line.has_signed(1, 0) {
+        return state.bad();
+    }
+    let kept = PauliAngle::new(line.signed_at(words, 0));
+    state.says(Answer::One(kept.eighths() as u64))
+}
+
+/// `times A B`
+pub(crate) fn times(state: State, line: Line, words: &[u32]) -> Reply {
+    if !line.has(2) {
+        return state.bad();
+    }
+    let left = word(words, 0);
+    let right = word(words, 1);
+    if (3 < left) | (3 < right) {
+        return state.bad();
+    }
+    let product = pauli::times_numbers(left, right);
+    state.says(Answer::Two(product.phase as u64, product.pauli as u64))
+}

@@ -1,0 +1,305 @@
+//! A line of input, read byte by byte: a command's name, then numbers, or a buffer's name and numbers, with spaces between them.
+//! Numbers below 2^32 go to a lent slice. No command has more than one number of another range, so that one is kept in the line.
+
+use crate::buffers::put_word;
+use crate::buffers::wide_at;
+use crate::names::NO_NAME;
+use crate::names::extended;
+use crate::names::is_letter;
+
+/// The longest line that is read, in bytes.
+const LONGEST: u32 = 4500000;
+
+const SPACE: u8 = 32;
+
+const MINUS_SIGN: u8 = 45;
+
+// What is being read: nothing yet, the command's name, a buffer's name, a minus sign with no digit yet, a number.
+const BETWEEN: u32 = 0;
+
+const NAME: u32 = 1;
+
+const BUFFER: u32 = 2;
+
+const MINUS: u32 = 3;
+
+const NUMBER: u32 = 4;
+
+pub struct Line {
+    /// Bytes so far, at most one more than the longest line has.
+    pub length: u32,
+    /// No command, whatever follows.
+    pub bad: bool,
+    /// The command's name, 0 before it begins.
+    pub name: u64,
+    /// The name of a buffer, 0 if there is none.
+    pub buffer: u64,
+    /// Numbers so far.
+    pub numbers: usize,
+    /// There is a number with a sign, or of 2^32 or more.
+    pub has_wide: bool,
+    /// Its place among the numbers.
+    pub wide_place: usize,
+    /// Its magnitude, at most 2^63.
+    pub wide: u64,
+    /// It has a minus sign.
+    pub wide_negative: bool,
+    /// What is being read.
+    pub token: u32,
+    /// The magnitude of the number being read, and whether it has a minus sign.
+    pub magnitude: u64,
+    pub negative: bool,
+}
+
+// One more, unless no number is left.
+fn next(n: usize) -> usize {
+    if n < 18446744073709551615 {
+        return n + 1;
+    }
+    n
+}
+
+// A magnitude with one digit more; one that would pass 2^63 + 1 becomes the greatest number, and stays it.
+fn with_digit(magnitude: u64, digit: u8) -> u64 {
+    if 922337203685477580 < magnitude {
+        return 18446744073709551615;
+    }
+    10 * magnitude + (digit as u64)
+}
+
+// The number with this magnitude, at most 2^63, and this sign.
+fn signed(magnitude: u64, negative: bool) -> i64 {
+    if 9223372036854775807 < magnitude {
+        return -9223372036854775808;
+    }
+    let value = magnitude as i64;
+    if negative {
+        return 0 - value;
+    }
+    value
+}
+
+impl Line {
+    pub(crate) fn new() -> Line {
+        Line {
+            length: 0,
+            bad: false,
+            name: 0,
+            buffer: 0,
+            numbers: 0,
+            has_wide: false,
+            wide_place: 0,
+            wide: 0,
+            wide_negative: false,
+            token: BETWEEN,
+            magnitude: 0,
+            negative: false,
+        }
+    }
+
+    /// The line with one byte more, which is no line feed.
+    pub(crate) fn with_byte(self, byte: u8, words: &mut [u32]) -> Line {
+        if self.bad {
+            return self;
+        }
+        if LONGEST <= self.length {
+            return self.spoilt();
+        }
+        let longer = self.longer();
+        if byte == SPACE {
+            return longer.ended(words);
+        }
+        longer.with_text(byte)
+    }
+
+    fn spoilt(mut self) -> Line {
+        self.bad = true;
+        self
+    }
+
+    fn longer(mut self) -> Line {
+        if self.length < LONGEST {
+            self.length = self.length + 1;
+        }
+        self
+    }
+
+    fn with_text(self, byte: u8) -> Line {
+        let token = self.token;
+        if token == BETWEEN {
+            return self.begun(byte);
+        }
+        if token == NAME {
+            return self.named(byte);
+        }
+        if token == BUFFER {
+            return self.buffer_named(byte);
+        }
+        self.with_digit(byte)
+    }
+
+    // The first byte of a name or a number.
+    fn begun(self, byte: u8) -> Line {
+        if self.name == 0 {
+            return self.named(byte);
+        }
+        if is_letter(byte) {
+            return self.buffer_begun(byte);
+        }
+        let number = self.number_begun();
+        if byte == MINUS_SIGN {
+            return number.minus();
+        }
+        number.with_digit(byte)
+    }
+
+    fn named(mut self, byte: u8) -> Line {
+        let name = extended(self.name, byte);
+        self.token = NAME;
+        self.name = name;
+        self.bad = name == NO_NAME;
+        self
+    }
+
+    // A buffer's name stands before every number, and once.
+    fn buffer_begun(self, byte: u8) -> Line {
+        if self.buffer != 0 {
+            return self.spoilt();
+        }
+        if self.numbers != 0 {
+            return self.spoilt();
+        }
+        if self.has_wide {
+            return self.spoilt();
+        }
+        self.buffer_named(byte)
+    }
+
+    fn buffer_named(mut self, byte: u8) -> Line {
+        let name = extended(self.buffer, byte);
+        self.token = BUFFER;
+        self.buffer = name;
+        self.bad = name == NO_NAME;
+        self
+    }
+
+    fn number_begun(mut self) -> Line {
+        self.magnitude = 0;
+        self.negative = false;
+        self
+    }
+
+    fn minus(mut self) -> Line {
+        self.token = MINUS;
+        self.negative = true;
+        self
+    }
+
+    fn with_digit(mut self, byte: u8) -> Line {
+        if byte < 48 {
+            return self.spoilt();
+        }
+        if 57 < byte {
+            return self.spoilt();
+        }
+        let magnitude = with_digit(self.magnitude, byte - 48);
+        self.token = NUMBER;
+        self.magnitude = magnitude;
+        self
+    }
+
+    /// The line where the name or number being read has ended.
+    pub(crate) fn ended(self, words: &mut [u32]) -> Line {
+        let token = self.token;
+        if token == NUMBER {
+            return self.number_ended(words);
+        }
+        if token == MINUS {
+            return self.spoilt();
+        }
+        self.between()
+    }
+
+    fn between(mut self) -> Line {
+        self.token = BETWEEN;
+        self
+    }
+
+    fn number_ended(self, words: &mut [u32]) -> Line {
+        let magnitude = self.magnitude;
+        if self.negative {
+            return self.wide_ended();
+        }
+        if 4294967295 < magnitude {
+            return self.wide_ended();
+        }
+        let at = self.numbers;
+        put_word(words, at, magnitude as u32);
+        self.counted()
+    }
+
+    fn counted(mut self) -> Line {
+        let numbers = next(self.numbers);
+        self.numbers = numbers;
+        self.token = BETWEEN;
+        self
+    }
+
+    // A number with a sign, or of 2^32 or more, ends: the first of its kind and within 64 bits.
+    fn wide_ended(self) -> Line {
+        if self.has_wide {
+            return self.spoilt();
+        }
+        if 9223372036854775808 < self.magnitude {
+            return self.spoilt();
+        }
+        if (self.magnitude == 9223372036854775808) & !self.negative {
+            return self.spoilt();
+        }
+        self.with_wide().counted()
+    }
+
+    fn with_wide(mut self) -> Line {
+        let magnitude = self.magnitude;
+        let negative = self.negative;
+        let place = self.numbers;
+        self.has_wide = true;
+        self.wide_place = place;
+        self.wide = magnitude;
+        self.wide_negative = negative;
+        self
+    }
+
+    /// The line has so many numbers, each below 2^32, and no buffer's name.
+    pub(crate) fn has(self, count: usize) -> bool {
+        (self.numbers == count) & (self.buffer == 0) & !self.has_wide
+    }
+
+    /// The same, but that the number at a place is any of 64 bits with a sign.
+    pub(crate) fn has_signed(self, count: usize, place: usize) -> bool {
+        (self.numbers == count) & (self.buffer == 0) & (!self.has_wide | (self.wide_place == place))
+    }
+
+    /// At least so many numbers, and the one at a place is any of 64 bits with a sign.
+    pub(crate) fn has_more_signed(self, count: usize, place: usize) -> bool {
+        (count <= self.numbers) & (self.buffer == 0) & (!self.has_wide | (self.wide_place == place))
+    }
+
+    /// At least so many numbers, each below 2^32, and no buffer's name.
+    pub(crate) fn has_more(self, count: usize) -> bool {
+        (count <= self.numbers) & (self.buffer == 0) & !self.has_wide
+    }
+
+    /// A buffer's name and so many numbers, each below 2^32.
+    pub(crate) fn has_buffer(self, count: usize) -> bool {
+        (self.numbers == count) & !(self.buffer == 0) & !self.has_wide
+    }
+
+    /// The number at a place, with its sign.
+    pub(crate) fn signed_at(self, words: &[u32], place: usize) -> i64 {
+        if self.has_wide {
+            return signed(self.wide, self.wide_negative);
+        }
+        signed(wide_at(words, place), false)
+    }
+}

@@ -1,0 +1,93 @@
+//! Answers are gathered in a lent buffer, which is written to standard output when it is full and at the end.
+//! Each function takes how many bytes stand there, and answers how many do afterwards.
+
+use libc::STDOUT_FILENO;
+
+// A full buffer is written, and begins again.
+fn with_room(out: &[u8], at: usize) -> usize {
+    if at < out.len() {
+        return at;
+    }
+    io::write_all(STDOUT_FILENO, out);
+    0
+}
+
+fn put(out: &mut [u8], at: usize, byte: u8) -> usize {
+    let to = with_room(out, at);
+    if to < out.len() {
+        out[to] = byte;
+        return to + 1;
+    }
+    to
+}
+
+pub(crate) fn text(out: &mut [u8], at: usize, bytes: &[u8]) -> usize {
+    let mut to = at;
+    let mut i = 0;
+    while i < bytes.len() {
+        to = put(out, to, bytes[i]);
+        i += 1;
+    }
+    to
+}
+
+pub(crate) fn line_end(out: &mut [u8], at: usize) -> usize {
+    put(out, at, 10)
+}
+
+/// A space and the number.
+pub(crate) fn number(out: &mut [u8], at: usize, n: u64) -> usize {
+    let mut digits = [0u8; 20];
+    let k = io::decimal(n, &mut digits);
+    let to = put(out, at, 32);
+    text(out, to, &digits[..k])
+}
+
+/// A space and the word.
+pub(crate) fn word(out: &mut [u8], at: usize, n: u32) -> usize {
+    number(out, at, n as u64)
+}
+
+/// Every word with a space before it.
+pub(crate) fn words(out: &mut [u8], at: usize, list: &[u32]) -> usize {
+    let mut to = at;
+    let mut i = 0;
+    while i < list.len() {
+        to = word(out, to, list[i]);
+        i += 1;
+    }
+    to
+}
+
+/// The same of 64-bit words.
+pub(crate) fn wide_words(out: &mut [u8], at: usize, list: &[u64]) -> usize {
+    let mut to = at;
+    let mut i = 0;
+    while i < list.len() {
+        to = number(out, to, list[i]);
+        i += 1;
+    }
+    to
+}
+
+fn small(out: &mut [u8], at: usize, n: u8) -> usize {
+    number(out, at, n as u64)
+}
+
+/// The same of bytes.
+pub(crate) fn bytes(out: &mut [u8], at: usize, list: &[u8]) -> usize {
+    let mut to = at;
+    let mut i = 0;
+    while i < list.len() {
+        to = small(out, to, list[i]);
+        i += 1;
+    }
+    to
+}
+
+/// What is left is written.
+pub(crate) fn flush(out: &[u8], at: usize) {
+    if at <= out.len() {
+        io::write_all(STDOUT_FILENO, &out[0..at]);
+    }
+}

@@ -1,0 +1,103 @@
+//! What stays from line to line, and what a command answers.
+
+use crate::buffers::Lends;
+use arena::Header;
+use arena::PbcError;
+use arena::Refusal;
+
+/// The owner's number of every circuit here.
+pub const OWNER: u64 = 1;
+
+/// The current circuit, and what the calls are lent.
+pub struct State {
+    pub header: Header,
+    pub lends: Lends,
+}
+
+pub enum Buffer {
+    Nodes,
+    Operations,
+    Frame,
+    Planes,
+    Scratch,
+    Pool,
+    Letters,
+    Unknown,
+}
+
+/// What is printed.
+pub enum Answer {
+    Nothing,
+    Bad,
+    Refused(Refusal),
+    Done,
+    One(u64),
+    Two(u64, u64),
+    Three(u64, u64, u64),
+    Dump,
+    /// The same, and the plane words that the circuit has.
+    DumpWithPlanes,
+    /// A phase, the work, and the letters of an expansion.
+    Letters(u64, u64),
+    Kinds,
+    /// A part of a buffer: from where on, and how many words.
+    Words(Buffer, usize, usize),
+}
+
+pub struct Reply {
+    pub state: State,
+    pub answer: Answer,
+}
+
+/// The header of a circuit with no qubit.
+pub(crate) fn empty() -> Header {
+    Header {
+        qubits: 0,
+        cbits: 0,
+        owner: OWNER,
+        nodes: 1,
+        operations: 0,
+        measurements: 0,
+    }
+}
+
+impl State {
+    pub(crate) fn new() -> State {
+        State {
+            header: empty(),
+            lends: Lends::all(),
+        }
+    }
+
+    /// The answer, with the state as it was.
+    pub(crate) fn says(self, answer: Answer) -> Reply {
+        Reply {
+            state: self,
+            answer,
+        }
+    }
+
+    pub(crate) fn bad(self) -> Reply {
+        self.says(Answer::Bad)
+    }
+
+    pub(crate) fn refused(self, error: PbcError) -> Reply {
+        self.says(Answer::Refused(error.refusal()))
+    }
+
+    /// The answer, with another circuit current.
+    pub(crate) fn with_header(self, header: Header, answer: Answer) -> Reply {
+        let lends = self.lends;
+        let state = State { header, lends };
+        Reply { state, answer }
+    }
+
+    pub(crate) fn with_lends(self, lends: Lends) -> Reply {
+        let header = self.header;
+        let state = State { header, lends };
+        Reply {
+            state,
+            answer: Answer::Done,
+        }
+    }
+}
