@@ -1,17 +1,15 @@
 //! A circuit that owns its words, and the calls that add to it.
 
 use crate::error::PbcError;
-use crate::ffi;
+use crate::ffi::{self, Answer};
 use crate::letters::{Pauli, PauliAngle};
 use crate::op::{MeasId, PbcOp};
 use crate::reference::{PauliAxis, PauliNode, PauliRef};
-use crate::{MAX_NODES, MAX_OPERATIONS};
+use crate::{MAX_NODES, MAX_OPERATIONS, MAX_QUBITS};
 use std::sync::atomic::{AtomicU64, Ordering};
 
-pub(crate) const NODE_WORDS: usize = 2;
-pub(crate) const OPERATION_WORDS: usize = 4;
-const NO_NODES: u32 = 14;
-const NO_OPERATIONS: u32 = 15;
+const NODE_WORDS: usize = 2;
+const OPERATION_WORDS: usize = 4;
 
 /// An owned circuit. References and measurements belong to the circuit that gave them.
 ///
@@ -56,7 +54,7 @@ pub(crate) fn next_owner() -> u64 {
 }
 
 /// Twice as many words, `most` at the most; false where there were as many already.
-pub(crate) fn grow(words: &mut Vec<u32>, most: usize) -> bool {
+fn grow(words: &mut Vec<u32>, most: usize) -> bool {
     if words.len() >= most {
         return false;
     }
@@ -65,45 +63,36 @@ pub(crate) fn grow(words: &mut Vec<u32>, most: usize) -> bool {
     true
 }
 
-/// Calls until the number is not the refusal that more words cure, or there can be no more.
-/// `call` is given the words and an answer to fill, and returns the number.
-pub(crate) fn growing(
-    words: &mut Vec<u32>, most: usize, cured: u32, mut call: impl FnMut(&mut [u32], &mut [u64; 4]) -> u32,
-) -> Result<[u64; 4], PbcError> {
+/// Calls until the refusal is not the one that more words cure, or there can be no more.
+pub(crate) fn growing(words: &mut Vec<u32>, most: usize, cured: PbcError, mut call: impl FnMut(&mut [u32]) -> Answer) -> Answer {
     loop {
-        let mut answer = [0; 4];
-        match call(words, &mut answer) {
-            0 => return Ok(answer),
-            number if number == cured && grow(words, most) => {}
-            number => return Err(PbcError::of(number, answer)),
+        match call(words) {
+            Err(refusal) if refusal == cured && grow(words, most) => {}
+            answer => return answer,
         }
     }
 }
 
+pub(crate) fn growing_nodes(nodes: &mut Vec<u32>, call: impl FnMut(&mut [u32]) -> Answer) -> Answer {
+    growing(nodes, NODE_WORDS * MAX_NODES, PbcError::NoNodes, call)
+}
+
+pub(crate) fn growing_operations(operations: &mut Vec<u32>, call: impl FnMut(&mut [u32]) -> Answer) -> Answer {
+    growing(operations, OPERATION_WORDS * MAX_OPERATIONS, PbcError::NoOperations, call)
+}
+
 impl PbcCircuit {
+    /// Room for a new circuit of so many qubits, or of the most that there can be.
+    pub(crate) fn room(num_qubits: u32) -> Self {
+        let images = 2 * num_qubits.min(MAX_QUBITS) as usize;
+        Self { header: [0; 6], nodes: vec![0; NODE_WORDS * (1 + images)], operations: Vec::new(), frame: vec![0; images] }
+    }
+
     /// A circuit without operations, with the identity as its output frame.
     pub fn new(num_qubits: u32, num_cbits: u32) -> Result<Self, PbcError> {
-        let small = num_qubits.min(crate::MAX_QUBITS) as usize;
-        let mut circuit =
-            Self { header: [0; 6], nodes: vec![0; NODE_WORDS * (1 + 2 * small)], operations: Vec::new(), frame: vec![0; 2 * small] };
-        let mut answer = [0; 4];
-        let (nodes, frame, header) = (&mut circuit.nodes, &mut circuit.frame, &mut circuit.header);
-        let number = unsafe {
-            ffi::pbc_new(
-                num_qubits,
-                num_cbits,
-                next_owner(),
-                nodes.as_mut_ptr(),
-                nodes.len(),
-                frame.as_mut_ptr(),
-                frame.len(),
-                header.as_mut_ptr(),
-                header.len(),
-                answer.as_mut_ptr(),
-                answer.len(),
-            )
-        };
-        if number == 0 { Ok(circuit) } else { Err(PbcError::of(number, answer)) }
+        let mut circuit = Self::room(num_qubits);
+        ffi::pbc_new(num_qubits, num_cbits, next_owner(), &mut circuit.nodes, &mut circuit.frame, &mut circuit.header)?;
+        Ok(circuit)
     }
 
     pub fn num_qubits(&self) -> usize {
@@ -153,97 +142,38 @@ impl PbcCircuit {
     /// The letter on a qubit, as a new node; I is node 0.
     pub fn single(&mut self, qubit: u32, pauli: Pauli) -> Result<PauliAxis, PbcError> {
         let header = &mut self.header;
-        let answer = growing(&mut self.nodes, NODE_WORDS * MAX_NODES, NO_NODES, |nodes, answer| unsafe {
-            ffi::pbc_single(
-                header.as_mut_ptr(),
-                header.len(),
-                nodes.as_mut_ptr(),
-                nodes.len(),
-                qubit,
-                pauli as u32,
-                answer.as_mut_ptr(),
-                answer.len(),
-            )
-        })?;
+        let answer = growing_nodes(&mut self.nodes, |nodes| ffi::pbc_single(header, nodes, qubit, pauli as u32))?;
         Ok(PauliAxis(self.reference(answer[0] as u32)))
     }
 
     /// One ordered product, without expanding either operand. Amortized O(1).
     pub fn product(&mut self, left: PauliRef, right: PauliRef) -> Result<PauliRef, PbcError> {
         let header = &mut self.header;
-        let answer = growing(&mut self.nodes, NODE_WORDS * MAX_NODES, NO_NODES, |nodes, answer| unsafe {
-            ffi::pbc_product(
-                header.as_mut_ptr(),
-                header.len(),
-                nodes.as_mut_ptr(),
-                nodes.len(),
-                left.owner,
-                left.word,
-                right.owner,
-                right.word,
-                answer.as_mut_ptr(),
-                answer.len(),
-            )
-        })?;
+        let answer =
+            growing_nodes(&mut self.nodes, |nodes| ffi::pbc_product(header, nodes, left.owner, left.word, right.owner, right.word))?;
         Ok(self.reference(answer[0] as u32))
     }
 
     /// The rotation exp(-i k π/8 P).
     pub fn rotate(&mut self, axis: PauliAxis, angle: PauliAngle) -> Result<(), PbcError> {
-        let header = &mut self.header;
-        growing(&mut self.operations, OPERATION_WORDS * MAX_OPERATIONS, NO_OPERATIONS, |operations, answer| unsafe {
-            ffi::pbc_rotate(
-                header.as_mut_ptr(),
-                header.len(),
-                operations.as_mut_ptr(),
-                operations.len(),
-                axis.0.owner,
-                axis.0.word,
-                i64::from(angle.eighths()),
-                answer.as_mut_ptr(),
-                answer.len(),
-            )
-        })?;
+        let (header, eighths) = (&mut self.header, i64::from(angle.eighths()));
+        growing_operations(&mut self.operations, |operations| ffi::pbc_rotate(header, operations, axis.0.owner, axis.0.word, eighths))?;
         Ok(())
     }
 
     /// A measurement, into a classical bit or none.
     pub fn measure(&mut self, axis: PauliAxis, target: Option<u32>) -> Result<MeasId, PbcError> {
-        let header = &mut self.header;
-        let bit = target.map_or(0, |bit| u64::from(bit) + 1);
-        let answer = growing(&mut self.operations, OPERATION_WORDS * MAX_OPERATIONS, NO_OPERATIONS, |operations, answer| unsafe {
-            ffi::pbc_measure(
-                header.as_mut_ptr(),
-                header.len(),
-                operations.as_mut_ptr(),
-                operations.len(),
-                axis.0.owner,
-                axis.0.word,
-                bit,
-                answer.as_mut_ptr(),
-                answer.len(),
-            )
-        })?;
+        let (header, bit) = (&mut self.header, target.map_or(0, |bit| u64::from(bit) + 1));
+        let answer =
+            growing_operations(&mut self.operations, |operations| ffi::pbc_measure(header, operations, axis.0.owner, axis.0.word, bit))?;
         Ok(MeasId { owner: self.owner(), index: answer[0] as u32 })
     }
 
     /// A rotation where a measurement gave 1.
     pub fn conditional_rotate(&mut self, axis: PauliAxis, angle: PauliAngle, if_one: MeasId) -> Result<(), PbcError> {
-        let header = &mut self.header;
-        growing(&mut self.operations, OPERATION_WORDS * MAX_OPERATIONS, NO_OPERATIONS, |operations, answer| unsafe {
-            ffi::pbc_conditional_rotate(
-                header.as_mut_ptr(),
-                header.len(),
-                operations.as_mut_ptr(),
-                operations.len(),
-                axis.0.owner,
-                axis.0.word,
-                i64::from(angle.eighths()),
-                if_one.owner,
-                if_one.index,
-                answer.as_mut_ptr(),
-                answer.len(),
-            )
+        let (header, eighths) = (&mut self.header, i64::from(angle.eighths()));
+        growing_operations(&mut self.operations, |operations| {
+            ffi::pbc_conditional_rotate(header, operations, axis.0.owner, axis.0.word, eighths, if_one.owner, if_one.index)
         })?;
         Ok(())
     }

@@ -1,13 +1,9 @@
 //! Gate lists, their conversion, and gates on a circuit's output.
 
-use crate::circuit::{NODE_WORDS, OPERATION_WORDS, PbcCircuit, grow, growing, next_owner};
+use crate::circuit::{PbcCircuit, growing_nodes, growing_operations, next_owner};
 use crate::error::PbcError;
-use crate::ffi;
-use crate::{MAX_NODES, MAX_OPERATIONS, MAX_QUBITS};
+use crate::{MAX_QUBITS, ffi};
 use std::num::NonZeroU32;
-
-const NO_NODES: u32 = 14;
-const NO_OPERATIONS: u32 = 15;
 
 /// A gate on qubits; `Measure` is of a qubit, into a classical bit.
 #[derive(Clone, Copy, Debug, PartialEq, Eq)]
@@ -58,66 +54,30 @@ impl Gate {
 /// before one would.
 pub fn to_pbc(num_qubits: u32, num_cbits: u32, gates: &[Gate], max_weight: Option<NonZeroU32>) -> Result<PbcCircuit, PbcError> {
     let words: Vec<u32> = gates.iter().flat_map(|gate| gate.words()).collect();
-    let small = num_qubits.min(MAX_QUBITS) as usize;
     let cap = max_weight.map_or(u64::MAX, |cap| u64::from(cap.get()));
-    let mut planes = vec![0u64; if max_weight.is_some() { 4 * small * small.div_ceil(64).max(1) } else { 0 }];
-    let mut circuit =
-        PbcCircuit { header: [0; 6], nodes: vec![0; NODE_WORDS * (1 + 2 * small)], operations: Vec::new(), frame: vec![0; 2 * small] };
+    let mut planes = vec![0; if max_weight.is_some() { plane_words(num_qubits.min(MAX_QUBITS)) } else { 0 }];
+    let mut circuit = PbcCircuit::room(num_qubits);
     let owner = next_owner();
-    loop {
-        let PbcCircuit { header, nodes, operations, frame } = &mut circuit;
-        let mut answer = [0; 4];
-        let number = unsafe {
-            ffi::pbc_convert(
-                num_qubits,
-                num_cbits,
-                owner,
-                cap,
-                words.as_ptr(),
-                words.len(),
-                nodes.as_mut_ptr(),
-                nodes.len(),
-                operations.as_mut_ptr(),
-                operations.len(),
-                frame.as_mut_ptr(),
-                frame.len(),
-                planes.as_mut_ptr(),
-                planes.len(),
-                header.as_mut_ptr(),
-                header.len(),
-                answer.as_mut_ptr(),
-                answer.len(),
-            )
-        };
-        match number {
-            0 => return Ok(circuit),
-            NO_NODES if grow(nodes, NODE_WORDS * MAX_NODES) => {}
-            NO_OPERATIONS if grow(operations, OPERATION_WORDS * MAX_OPERATIONS) => {}
-            _ => return Err(PbcError::of(number, answer)),
-        }
-    }
+    let PbcCircuit { header, nodes, operations, frame } = &mut circuit;
+    growing_nodes(nodes, |nodes| {
+        growing_operations(operations, |operations| {
+            ffi::pbc_convert(num_qubits, num_cbits, owner, cap, &words, nodes, operations, frame, &mut planes, header)
+        })
+    })?;
+    Ok(circuit)
+}
+
+/// The words that a conversion under a cap needs: an x part and a z part for each of two images a qubit, one bit a qubit.
+fn plane_words(num_qubits: u32) -> usize {
+    4 * num_qubits as usize * num_qubits.div_ceil(64).max(1) as usize
 }
 
 impl PbcCircuit {
     /// One more Clifford gate (h, x, z, s, sdg, cnot, cz) on the output frame.
     pub fn push_output_clifford(&mut self, gate: Gate) -> Result<(), PbcError> {
         let [kind, a, b, _] = gate.words();
-        let (header, frame) = (&mut self.header, &mut self.frame);
-        growing(&mut self.nodes, NODE_WORDS * MAX_NODES, NO_NODES, |nodes, answer| unsafe {
-            ffi::pbc_push_output_clifford(
-                header.as_mut_ptr(),
-                header.len(),
-                nodes.as_mut_ptr(),
-                nodes.len(),
-                frame.as_mut_ptr(),
-                frame.len(),
-                kind,
-                a,
-                b,
-                answer.as_mut_ptr(),
-                answer.len(),
-            )
-        })?;
+        let Self { header, nodes, frame, .. } = self;
+        growing_nodes(nodes, |nodes| ffi::pbc_push_output_clifford(header, nodes, frame, kind, a, b))?;
         Ok(())
     }
 }

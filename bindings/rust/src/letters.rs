@@ -53,7 +53,7 @@ impl Pauli {
 
     /// The product `self` times `other`, as a phase and a letter.
     pub fn times(self, other: Self) -> (Phase, Self) {
-        let product = unsafe { ffi::pbc_times(self as u32, other as u32) };
+        let product = ffi::pbc_times(self as u32, other as u32);
         (Phase::power(product / 4), Self::of(product % 4))
     }
 }
@@ -71,7 +71,7 @@ pub struct PauliAngle(u8);
 impl PauliAngle {
     /// The Euclidean remainder by 8.
     pub fn new(eighths: i64) -> Self {
-        Self(unsafe { ffi::pbc_angle(eighths) } as u8)
+        Self(ffi::pbc_angle(eighths) as u8)
     }
 
     /// The angle as `k π/8` with `0 <= k < 8`.
