@@ -3,24 +3,25 @@ use crate::driver::{Driver, circuit, word};
 use crate::pbc::PauliRef;
 use std::io::Write;
 
-struct Random(u64);
+pub struct Random(pub u64);
 
 impl Random {
-    fn next(&mut self) -> u64 {
+    pub fn next(&mut self) -> u64 {
         self.0 ^= self.0 << 13;
         self.0 ^= self.0 >> 7;
         self.0 ^= self.0 << 17;
         self.0
     }
-    fn below(&mut self, n: u32) -> u32 {
+    pub fn below(&mut self, n: u32) -> u32 {
         (self.next() >> 33) as u32 % n.max(1)
     }
-    fn one_in(&mut self, n: u32) -> bool {
+    pub fn one_in(&mut self, n: u32) -> bool {
         self.below(n) == 0
     }
 }
 
-const KINDS: [u32; 16] = [0, 1, 2, 3, 4, 5, 6, 8, 9, 10, 11, 12, 15, 16, 19, 20];
+/// The kinds that both convert; those of the output frame are among the first nine.
+pub const KINDS: [u32; 16] = [0, 1, 2, 3, 4, 5, 6, 8, 9, 10, 11, 12, 15, 16, 19, 20];
 
 fn arity(kind: u32) -> u32 {
     match kind {
@@ -48,7 +49,8 @@ fn operands(random: &mut Random, kind: u32, n: u32) -> Option<[u32; 3]> {
     Some(out)
 }
 
-fn gates(random: &mut Random, n: u32, cbits: u32, count: u32, doubly: bool) -> Vec<u32> {
+/// Sound gates of these kinds; ccx and ccz only where `doubly`.
+pub fn gates(random: &mut Random, n: u32, cbits: u32, count: u32, doubly: bool) -> Vec<u32> {
     let mut words = Vec::new();
     for _ in 0..count {
         let kind = KINDS[random.below(16) as usize];
