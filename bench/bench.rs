@@ -1,6 +1,9 @@
 //! The library and the Rust in one process, on the same inputs, both optimised. Prints for each workload both times, their ratio, and the time per
-//! gate as the work doubles. The library's buffers are made once and not cleared between runs; the Rust makes its own at each call, and
-//! dropping them is not timed.
+//! gate as the work doubles; at the end, for each kind of workload, how many meet the ratio that it is to have, and the worst. The library's
+//! buffers are made before timing and not cleared between runs; the Rust makes its own at each call, and dropping them is not timed.
+//! A report or expansion clears the scratch and the pool that it is lent. It is lent what a caller who keeps buffers would have after growing
+//! them as they are needed: four words of scratch a used node, and the least power of two of records, from 1,024 on, with which all calls are accepted.
+//! usage: bench FOLDER [WORD]   (the adders' folder; only workloads are run whose names, as printed, contain the word)
 #![allow(dead_code, unused_imports, unused_variables)]
 
 mod angle;
@@ -8,6 +11,7 @@ mod angle_stats;
 mod circuit;
 mod decompose;
 mod driver;
+mod generate;
 mod operands;
 mod pass;
 mod pbc;
@@ -15,6 +19,7 @@ mod qasm;
 mod synthesis;
 
 use circuit::Circuit;
+use generate::Random;
 use pbc::{PbcCircuit, to_pbc};
 use std::hint::black_box;
 use std::num::NonZeroUsize;
@@ -57,8 +62,8 @@ impl Buffers {
             operations: vec![0; 262144],
             frame: vec![0; 512],
             planes: vec![0; 4096],
-            scratch: vec![0; 262144],
-            pool: vec![0; 196608],
+            scratch: Vec::new(),
+            pool: Vec::new(),
             letters: vec![0; 256],
             header: [0; 6],
             answer: [0; 4],
@@ -102,9 +107,24 @@ impl Buffers {
         }
         refused
     }
+
+    /// Scratch and pool for the readers of the circuit at hand; the pool's records.
+    fn fit(&mut self, expand: bool) -> usize {
+        self.scratch = vec![0; 4 * self.header[3] as usize];
+        let mut records = 1024;
+        loop {
+            self.pool = vec![0; 3 * records];
+            if self.report() == 0 && (!expand || self.expand_all() == 0) {
+                return records;
+            }
+            records *= 2;
+            assert!(records <= 65_536, "refused with every pool");
+        }
+    }
 }
 
 struct Workload {
+    family: &'static str,
     name: String,
     qubits: u32,
     cbits: u32,
@@ -112,26 +132,37 @@ struct Workload {
     words: Vec<u32>,
 }
 
+impl Workload {
+    fn gates(&self) -> usize {
+        self.words.len() / 4
+    }
+
+    fn named(&self, what: &str) -> String {
+        let cap = self.cap.map_or("none".into(), |c| c.to_string());
+        format!("{what} {} cap {cap}", self.name)
+    }
+
+    /// Its kind, and the ratio that it is to meet; none for expansions.
+    fn bar(&self, what: &str) -> Option<(String, f64)> {
+        match (what, self.cap) {
+            ("convert", None) => Some((format!("conversion without a cap, {}", self.family), 0.5)),
+            ("convert", Some(_)) => Some((format!("conversion with a cap, {}", self.family), 0.7)),
+            ("report", _) => Some(("report".into(), 0.5)),
+            _ => None,
+        }
+    }
+}
+
 /// A line of the command pbc as a workload.
 fn line(name: &str, text: &str, cap: Option<u32>) -> Workload {
     let numbers: Vec<i64> = text.split_whitespace().skip(1).map(|t| t.parse().unwrap()).collect();
     Workload {
+        family: "adders",
         name: name.into(),
         qubits: numbers[0] as u32,
         cbits: numbers[1] as u32,
         cap,
         words: numbers[3..].iter().map(|&w| w as u32).collect(),
-    }
-}
-
-struct Random(u64);
-
-impl Random {
-    fn below(&mut self, n: u32) -> u32 {
-        self.0 ^= self.0 << 13;
-        self.0 ^= self.0 >> 7;
-        self.0 ^= self.0 << 17;
-        (self.0 >> 33) as u32 % n
     }
 }
 
@@ -155,7 +186,7 @@ fn random(qubits: u32, gates: usize, cap: Option<u32>) -> Workload {
             _ => [12, a, 0, 0],
         });
     }
-    Workload { name: format!("random {qubits} qubits {gates} gates"), qubits, cbits: 1, cap, words }
+    Workload { family: "random circuits", name: format!("random {qubits} qubits {gates} gates"), qubits, cbits: 1, cap, words }
 }
 
 /// The least of the times of some runs, after one that is not counted.
@@ -175,18 +206,13 @@ fn timed<T>(f: impl FnOnce() -> T) -> (Duration, T) {
     (begun.elapsed(), x)
 }
 
-fn print(what: &str, w: &Workload, ours: f64, rust: f64, last: &mut Option<(usize, f64)>) {
-    let gates = w.words.len() / 4;
-    let cap = w.cap.map_or("none".into(), |c| c.to_string());
-    let growth = match *last {
-        Some((g, t)) if gates > g => format!("{:.2}", ours / t * (2 * g) as f64 / gates as f64),
-        _ => "-".into(),
-    };
-    *last = Some((gates, ours));
-    println!(
-        "{what:8} {:34} cap {cap:4} ours {:10.1} us  rust {:10.1} us  ratio {:.3}  {:6.1} ns a gate  growth {growth}",
-        w.name, ours * 1e6, rust * 1e6, ours / rust, ours * 1e9 / gates.max(1) as f64
-    );
+/// The workloads of one kind that were run.
+struct Kind {
+    name: String,
+    bar: f64,
+    run: usize,
+    met: usize,
+    worst: (f64, String),
 }
 
 fn rust_circuit(w: &Workload) -> (Circuit, Option<NonZeroUsize>) {
@@ -199,7 +225,7 @@ fn rust_circuit(w: &Workload) -> (Circuit, Option<NonZeroUsize>) {
 fn agree(b: &mut Buffers, w: &Workload) -> bool {
     let number = b.convert(w);
     if number != 0 {
-        println!("skipped  {} cap {:?}: refused with {number}", w.name, w.cap);
+        println!("{:46} skipped: refused with {number}", w.named("convert"));
         return false;
     }
     let (c, cap) = rust_circuit(w);
@@ -216,65 +242,126 @@ fn agree(b: &mut Buffers, w: &Workload) -> bool {
     true
 }
 
-fn conversions(b: &mut Buffers, list: &[Workload]) {
-    let mut last = None;
-    for w in list {
-        if !agree(b, w) {
-            continue;
-        }
-        let ours = best(|| timed(|| black_box(b.convert(black_box(w)))).0);
-        let (c, cap) = rust_circuit(w);
-        let rust = best(|| timed(|| black_box(to_pbc(black_box(&c), cap).unwrap())).0);
-        print("convert", w, ours, rust, &mut last);
-    }
+struct Bench {
+    buffers: Buffers,
+    word: String,
+    run: usize,
+    kinds: Vec<Kind>,
 }
 
-fn readers(b: &mut Buffers, w: &Workload, expand: bool) {
-    if !agree(b, w) {
-        return;
+impl Bench {
+    fn wanted(&self, what: &str, w: &Workload) -> bool {
+        w.named(what).contains(&self.word)
     }
-    let (c, cap) = rust_circuit(w);
-    let circuit = to_pbc(&c, cap).unwrap();
-    assert!(b.report() == 0);
-    let m = circuit.max_axis_weights(usize::MAX).unwrap();
-    assert!(b.answer[0] == m.non_clifford as u64 && b.answer[1] == m.clifford as u64);
-    let ours = best(|| timed(|| black_box(b.report())).0);
-    let rust = best(|| timed(|| black_box(circuit.max_axis_weights(usize::MAX).unwrap())).0);
-    print("report", w, ours, rust, &mut None);
-    if expand {
-        assert!(b.expand_all() == 0);
+
+    /// Prints a workload's line and counts it; `note` comes last.
+    fn print(&mut self, what: &str, w: &Workload, ours: f64, rust: f64, note: &str) {
+        let (name, ratio) = (w.named(what), ours / rust);
+        println!(
+            "{name:46} ours {:10.1} us  rust {:10.1} us  ratio {ratio:6.3}  {:7.1} ns a gate  {note}",
+            ours * 1e6, rust * 1e6, ours * 1e9 / w.gates().max(1) as f64
+        );
+        self.run += 1;
+        let Some((kind, bar)) = w.bar(what) else { return };
+        let place = self.kinds.iter().position(|k| k.name == kind).unwrap_or_else(|| {
+            self.kinds.push(Kind { name: kind, bar, run: 0, met: 0, worst: (0.0, String::new()) });
+            self.kinds.len() - 1
+        });
+        let kind = &mut self.kinds[place];
+        kind.run += 1;
+        kind.met += usize::from(ratio <= bar);
+        if ratio > kind.worst.0 {
+            kind.worst = (ratio, name);
+        }
+    }
+
+    fn conversions(&mut self, list: &[Workload]) {
+        let mut last = None;
+        for w in list {
+            if !self.wanted("convert", w) || !agree(&mut self.buffers, w) {
+                continue;
+            }
+            let b = &mut self.buffers;
+            let ours = best(|| timed(|| black_box(b.convert(black_box(w)))).0);
+            let (c, cap) = rust_circuit(w);
+            let rust = best(|| timed(|| black_box(to_pbc(black_box(&c), cap).unwrap())).0);
+            let growth = match last {
+                Some((g, t)) => format!("growth {:.2}", ours / t * (2 * g) as f64 / w.gates() as f64),
+                None => String::new(),
+            };
+            last = Some((w.gates(), ours));
+            self.print("convert", w, ours, rust, &growth);
+        }
+    }
+
+    /// The report of a workload's circuit, and where `expand` says so its axes one by one.
+    fn readers(&mut self, w: &Workload, expand: bool) {
+        let (report, axes) = (self.wanted("report", w), expand && self.wanted("expand", w));
+        if !(report || axes) || !agree(&mut self.buffers, w) {
+            return;
+        }
+        let (c, cap) = rust_circuit(w);
+        let circuit = to_pbc(&c, cap).unwrap();
+        let pool = format!("pool {} records", self.buffers.fit(expand));
+        if report {
+            self.report(w, &circuit, &pool);
+        }
+        if axes {
+            self.expansions(w, &circuit, &pool);
+        }
+    }
+
+    fn report(&mut self, w: &Workload, circuit: &PbcCircuit, pool: &str) {
+        let b = &mut self.buffers;
+        assert!(b.report() == 0);
+        let m = circuit.max_axis_weights(usize::MAX).unwrap();
+        assert!(b.answer[0] == m.non_clifford as u64 && b.answer[1] == m.clifford as u64);
+        let ours = best(|| timed(|| black_box(b.report())).0);
+        let rust = best(|| timed(|| black_box(circuit.max_axis_weights(usize::MAX).unwrap())).0);
+        self.print("report", w, ours, rust, pool);
+    }
+
+    fn expansions(&mut self, w: &Workload, circuit: &PbcCircuit, pool: &str) {
+        let b = &mut self.buffers;
         let ours = best(|| timed(|| black_box(b.expand_all())).0);
         let axes = circuit.axes();
         let rust = best(|| timed(|| axes.iter().map(|&a| circuit.expand(a, usize::MAX).unwrap().factors.len()).sum::<usize>()).0);
-        print("expand", w, ours, rust, &mut None);
+        self.print("expand", w, ours, rust, pool);
+    }
+
+    fn summary(&self) {
+        assert!(self.run > 0, "no workload's name contains {:?}", self.word);
+        println!();
+        for Kind { name, bar, run, met, worst: (ratio, of) } in &self.kinds {
+            println!("{name}: {met} of {run} have a ratio of at most {bar}, the worst {ratio:.3} ({of})");
+        }
     }
 }
 
+const CAPS: [Option<u32>; 4] = [None, Some(3), Some(8), Some(32)];
+
 fn main() {
-    let folder = std::env::args().nth(1).expect("the folder of the adders");
-    let adder = |form: &str, n: u32, cap| line(&format!("{form} adder {n}"), &std::fs::read_to_string(format!("{folder}/{form}-{n}.pbc")).unwrap(), cap);
-    let mut b = Buffers::new();
-    const CAPS: [Option<u32>; 4] = [None, Some(3), Some(8), Some(32)];
-    for form in ["cuccaro", "ladder"] {
-        for cap in CAPS {
-            conversions(&mut b, &[4, 8, 16, 32, 64, 120].map(|n| adder(form, n, cap)));
-        }
+    let mut words = std::env::args().skip(1);
+    let folder = words.next().expect("the folder of the adders");
+    let adder = |form: &str, n: u32, cap| {
+        let text = std::fs::read_to_string(format!("{folder}/{form}-{n}.pbc")).unwrap();
+        line(&format!("{form} adder {n}"), &text, cap)
+    };
+    let mut bench = Bench { buffers: Buffers::new(), word: words.next().unwrap_or_default(), run: 0, kinds: Vec::new() };
+    println!("a report or expansion is lent the least pool that serves, a power of two of records from 1,024 on, and four words of scratch a used node");
+    for (form, cap) in ["cuccaro", "ladder"].into_iter().flat_map(|form| CAPS.map(|cap| (form, cap))) {
+        bench.conversions(&[4, 8, 16, 32, 64, 120].map(|n| adder(form, n, cap)));
     }
-    for qubits in [16, 64, 256] {
-        for cap in CAPS {
-            conversions(&mut b, &[1000, 2000, 4000, 8000, 16000, 32000, 65536].map(|g| random(qubits, g, cap)));
-        }
+    for (qubits, cap) in [16, 64, 256].into_iter().flat_map(|qubits| CAPS.map(|cap| (qubits, cap))) {
+        bench.conversions(&[1000, 2000, 4000, 8000, 16000, 32000, 65536].map(|g| random(qubits, g, cap)));
     }
-    for form in ["cuccaro", "ladder"] {
-        for n in [8, 32, 120] {
-            readers(&mut b, &adder(form, n, None), true);
-            readers(&mut b, &adder(form, n, Some(8)), true);
-        }
+    for (form, n) in ["cuccaro", "ladder"].into_iter().flat_map(|form| [8, 32, 120].map(|n| (form, n))) {
+        bench.readers(&adder(form, n, None), true);
+        bench.readers(&adder(form, n, Some(8)), true);
     }
-    for qubits in [16, 64, 256] {
-        for cap in CAPS {
-            readers(&mut b, &random(qubits, 4000, cap), false);
-        }
+    for (qubits, cap) in [16, 64, 256].into_iter().flat_map(|qubits| CAPS.map(|cap| (qubits, cap))) {
+        bench.readers(&random(qubits, 4000, cap), false);
     }
-    readers(&mut b, &random(16, 1000, None), true);
+    bench.readers(&random(16, 1000, None), true);
+    bench.summary();
 }
