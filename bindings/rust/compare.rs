@@ -1,5 +1,6 @@
-//! The crate of this folder (`bound`) and the Rust in one process, call by call: random gate lists, some with an operand made wrong, then random
-//! calls on what they become. Stops at the first answer that differs; else prints how many there were, and of the refusals how many of each kind.
+//! The crate of this folder (`bound`) and the Rust in one process, call by call: random gate lists, some with an operand made wrong, and random
+//! calls on what they become and on new circuits. Stops at the first answer that differs; else prints how many there were, and of the refusals
+//! how many of each kind.
 //!
 //! Not made are those inputs for which docs/DIFFERENCES.md lists another answer: sizes past the limits, and ccx and ccz under a cap below 3.
 //! tools/beside/build puts this file among the Rust's.
@@ -155,6 +156,16 @@ fn same_expansion(rust: &pbc::ExpandedPauli, ours: &bound::ExpandedPauli) -> boo
 }
 
 impl Both {
+    fn of(rust: pbc::PbcCircuit, ours: bound::PbcCircuit) -> Self {
+        let mut both = Self { rust, ours, handles: Handles::default() };
+        both.check_words();
+        let (mut axes, mut references) = (both.operation_axes(), both.frame());
+        axes.push((both.rust.identity(), both.ours.identity()));
+        references.extend(axes.iter().map(|&(a, b)| (a.as_ref(), b.as_ref())));
+        both.handles = Handles { references, axes, outcomes: both.measurements() };
+        both
+    }
+
     /// The words agree: counts, nodes, operations and frame.
     fn check_words(&self) {
         let (rust, ours) = (&self.rust, &self.ours);
@@ -210,14 +221,7 @@ impl Comparison {
         let list: Vec<_> = words.chunks(4).map(gate).collect();
         let rust = pbc::to_pbc(&circuit, cap.and_then(|cap| NonZeroUsize::new(cap as usize)));
         let ours = bound::to_pbc(n, cbits, &list, cap.and_then(NonZeroU32::new));
-        let (rust, ours) = self.agree(rust, ours, words)?;
-        let mut both = Both { rust, ours, handles: Handles::default() };
-        both.check_words();
-        let (mut axes, mut references) = (both.operation_axes(), both.frame());
-        axes.push((both.rust.identity(), both.ours.identity()));
-        references.extend(axes.iter().map(|&(a, b)| (a.as_ref(), b.as_ref())));
-        both.handles = Handles { references, axes, outcomes: both.measurements() };
-        Some(both)
+        self.agree(rust, ours, words).map(|(rust, ours)| Both::of(rust, ours))
     }
 
     fn expand(&mut self, both: &Both, (a, b): Reference, max_cells: usize) {
@@ -369,16 +373,24 @@ impl Comparison {
         };
     }
 
-    fn circuit(&mut self) {
+    /// A new circuit, or that of a gate list; None where the list was refused.
+    fn start(&mut self) -> Option<Both> {
         let n = if self.random.one_in(30) { WIDE[self.random.below(WIDE.len() as u32) as usize] } else { self.random.below(9) };
         let (cbits, above) = (self.random.below(4), n + 1 + self.random.below(3));
+        if self.random.one_in(20) {
+            return Some(Both::of(pbc::PbcCircuit::new(n as usize, cbits as usize), bound::PbcCircuit::new(n, cbits).unwrap()));
+        }
         let cap = [None, Some(1), Some(2), Some(3), Some(8), Some(above)][self.random.below(6) as usize];
         let count = self.random.below(if n > 8 { 200 } else { 24 });
         let mut words = gates(&mut self.random, n, cbits, count, cap.is_none_or(|cap| cap > 2));
         if self.random.one_in(6) {
             self.damage(&mut words, n);
         }
-        let Some(mut both) = self.convert(n, cbits, cap, &words) else { return };
+        self.convert(n, cbits, cap, &words)
+    }
+
+    fn circuit(&mut self) {
+        let Some(mut both) = self.start() else { return };
         self.read(&both);
         for _ in 0..self.random.below(24) {
             self.later(&mut both);
@@ -394,7 +406,7 @@ fn main() {
         comparison.circuit();
     }
     let refused: u64 = comparison.refusals.values().sum();
-    println!("{CIRCUITS} gate lists, {} answers compared, {refused} of them refusals, none differs", comparison.answers);
+    println!("{CIRCUITS} circuits, {} answers compared, {refused} of them refusals, none differs", comparison.answers);
     for (kind, count) in &comparison.refusals {
         println!("{kind}: {count}");
     }
