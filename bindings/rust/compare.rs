@@ -18,12 +18,14 @@ mod pbc;
 mod qasm;
 mod synthesis;
 
-use generate::{KINDS, Random, gates};
+use generate::{KINDS, Random, arity, gates};
 use std::collections::BTreeMap;
 use std::num::{NonZeroU32, NonZeroUsize};
 
 const SEED: u64 = 0x9e37_79b9_7f4a_7c15;
 const CIRCUITS: u32 = 6_000;
+/// This kind has a classical bit beside its qubit.
+const MEASURE: u32 = 12;
 const WIDE: [u32; 8] = [62, 63, 64, 65, 127, 128, 129, 130];
 const PHASES: [(pbc::Phase, bound::Phase); 4] = [
     (pbc::Phase::One, bound::Phase::One),
@@ -359,17 +361,18 @@ impl Comparison {
         }
     }
 
-    /// One operand of one gate is made wrong, or in few cases another right one.
+    /// One operand of one gate becomes n, the greatest number, or another operand of the gate, in some cases itself.
     fn damage(&mut self, words: &mut [u32], n: u32) {
         let gates = (words.len() / 4) as u32;
         if gates == 0 {
             return;
         }
         let gate = &mut words[4 * self.random.below(gates) as usize..][..4];
-        gate[1 + self.random.below(3) as usize] = match self.random.below(4) {
+        let operands = arity(gate[0]) + u32::from(gate[0] == MEASURE);
+        gate[1 + self.random.below(operands) as usize] = match self.random.below(4) {
             0 => n,
             1 => u32::MAX,
-            _ => gate[1 + self.random.below(3) as usize],
+            _ => gate[1 + self.random.below(operands) as usize],
         };
     }
 
@@ -381,9 +384,9 @@ impl Comparison {
             return Some(Both::of(pbc::PbcCircuit::new(n as usize, cbits as usize), bound::PbcCircuit::new(n, cbits).unwrap()));
         }
         let cap = [None, Some(1), Some(2), Some(3), Some(8), Some(above)][self.random.below(6) as usize];
-        let count = self.random.below(if n > 8 { 200 } else { 24 });
+        let count = self.random.below(if n > 8 { 600 } else { 60 });
         let mut words = gates(&mut self.random, n, cbits, count, cap.is_none_or(|cap| cap > 2));
-        if self.random.one_in(6) {
+        if self.random.one_in(4) {
             self.damage(&mut words, n);
         }
         self.convert(n, cbits, cap, &words)

@@ -23,7 +23,8 @@ impl Random {
 /// The kinds that both convert; those of the output frame are among the first nine.
 pub const KINDS: [u32; 16] = [0, 1, 2, 3, 4, 5, 6, 8, 9, 10, 11, 12, 15, 16, 19, 20];
 
-fn arity(kind: u32) -> u32 {
+/// Its qubits.
+pub fn arity(kind: u32) -> u32 {
     match kind {
         8 | 9 | 19 | 20 => 2,
         10 | 11 => 3,
