@@ -2,26 +2,25 @@
 use mathlib.Core.Path.{_≡_, refl, sym, ap, _∙_}
 use mathlib.Core.Bool.{Bool, true, false, _||_}
 use mathlib.Core.List.{List, [], _∷_}
-use Prim.Native.Nat.{ℕ, zero, suc, _+_, _*_, _/_, _<_, _≤_}
+use Prim.Native.Nat.{ℕ, suc, _+_, _*_, _/_, _<_, _≤_}
 use native.Mathlib.Omega.{arith}
 use native.Mathlib.Numerals.{add-one}
 use lib.Dec.{ltb}
 use lib.ListN.{length, getD, drop}
 use borrow.Author.Tests.{ltb-false, le-ltb}
 use Rattle.pauli.specs.Rotations.{flush}
-use Rattle.pauli.specs.Rows.{Row}
 use Rattle.arena.specs.Limits.{maxNodes, maxOperations, nodeWords, operationWords}
 use Rattle.arena.specs.Errors.{_⟫_⇒_}
 use Rattle.arena.proofs.Accepted.{passed-before, test-passed, left-false, right-false}
 use Rattle.convert.specs.Types.{PbcError, NoFrame, NoNodes, NoOperations, Checked, Fine, Wrong}
-use Rattle.convert.specs.Records.{Cap, NoCap, AtMost, Elementary, Placed, placedFrom, Record, records, kindOf, lower, lowerAs, lowerFrom, lowerAll}
+use Rattle.convert.specs.Records.{Cap, NoCap, AtMost, placedFrom, Record, records, kindOf, lower, lowerAs, lowerFrom, lowerAll}
 use Rattle.convert.specs.Plain.{Plain, begin, plainRun}
 use Rattle.convert.specs.Needs.{Needs, needRun}
 use Rattle.convert.specs.Raw.{anyExceeds, isCapped, costOf, costs, summed, needed, countFor, needsOf, planesFor, plainLast, needsLast, roomChecked, NeedsChecked}
 use Rattle.convert.specs.declared.frame_gate.planes.count.Needed.{Needed}
 use Rattle.convert.proofs.CountLaws.{never, planes-over}
 use Rattle.convert.proofs.RecordSteps.{run-append, need-append, count-one}
-use Rattle.convert.proofs.RestLaws.{drop-record, no-more, few-cost, costs-few}
+use Rattle.convert.proofs.RestLaws.{drop-record, no-more}
 
 -- ---- the sums
 

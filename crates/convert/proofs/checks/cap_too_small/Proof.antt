@@ -1,4 +1,3 @@
-use mathlib.Core.Path.{_∙_}
 use Rattle.convert.specs.Conversion.{anyDoubly}
 use Rattle.convert.specs.Records.{records}
 use Rattle.convert.proofs.CheckLaws.{cap-above, cap-below}
