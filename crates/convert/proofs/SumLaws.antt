@@ -62,12 +62,15 @@ same-run n i (r ∷ rs) p k =
 abbrev pub most : ℕ → Cap → List ℕ → Needed
 most n cap gs = costs (isCapped cap) (summed (needed (1 + 2 * n) 0 0 0) (records gs)) (needed 0 0 0 0)
 
-pub most-needed : (n : ℕ) (cap : Cap) (gs : List ℕ) → (needsLast n cap gs .nodes ≤ most n cap gs .nodes) × (needsLast n cap gs .operations ≤ most n cap gs .operations)
+uncapped-needs : (n : ℕ) (gs : List ℕ) → (needsLast n NoCap gs .nodes ≡ most n NoCap gs .nodes) × (needsLast n NoCap gs .operations ≡ most n NoCap gs .operations)
 unfolding lowerAll begin
-most-needed n NoCap gs =
+uncapped-needs n gs =
     let e = same-run n 0 (records gs) (begin n) (needsOf (1 + 2 * n) 0) in
     (omega (arith, ap (λ (c : Needed). c .nodes) e), omega (arith, ap (λ (c : Needed). c .operations) e))
-most-needed n (AtMost m) gs =
+
+capped-needs : (n m : ℕ) (gs : List ℕ) → (needsLast n (AtMost m) gs .nodes ≤ most n (AtMost m) gs .nodes) × (needsLast n (AtMost m) gs .operations ≤ most n (AtMost m) gs .operations)
+unfolding lowerAll begin
+capped-needs n m gs =
     let e = even-run n (AtMost m) 0 (records gs) (begin n) (needsOf (1 + 2 * n) 0) (needed (1 + 2 * n) 0 0 0) (record { nodes = refl; operations = refl }) in
     (omega (arith, e .nodes), omega (arith, e .operations))
 
@@ -101,24 +104,31 @@ room-less k m k′ m′ n frame ns os hk hm e =
 not-wrong : (e : PbcError) → Fine ≡ Wrong e → ⊥
 not-wrong e p = let z : _≡_ {A = ℕ} 0 1 = cc in omega arith
 
+-- without a cap the sums are the needs
+pub summed-needs : (n : ℕ) (gs ps : List ℕ) (frame ns os : ℕ) (k : Needed) (r : Checked) → k ≡ most n NoCap gs → r ≡ roomChecked (k .nodes) (k .operations) n frame ns os
+    → NeedsChecked n NoCap gs frame ns os ps r ps
+summed-needs n gs ps frame ns os k r ek er =
+    let h = uncapped-needs n gs in
+    record { same = er ∙ rw (ek, h .0, h .1); planes = λ t. refl; ended = λ w q. refl }
+
 -- the most that can be needed fits
-pub fits-most : (n : ℕ) (cap : Cap) (gs ps : List ℕ) (frame ns os : ℕ) (k : Needed) (r : Checked) → k ≡ most n cap gs → r ≡ roomChecked (k .nodes) (k .operations) n frame ns os → r ≡ Fine
-    → NeedsChecked n cap gs frame ns os ps Fine ps
-fits-most n cap gs ps frame ns os k r ek er e =
-    let h = most-needed n cap gs in
-    let f : roomChecked (most n cap gs .nodes) (most n cap gs .operations) n frame ns os ≡ Fine = rw (← ek) (sym er ∙ e) in
+pub fits-most : (n m : ℕ) (gs ps : List ℕ) (frame ns os : ℕ) (k : Needed) (r : Checked) → k ≡ most n (AtMost m) gs → r ≡ roomChecked (k .nodes) (k .operations) n frame ns os → r ≡ Fine
+    → NeedsChecked n (AtMost m) gs frame ns os ps r ps
+fits-most n m gs ps frame ns os k r ek er e =
+    let h = capped-needs n m gs in
+    let f : roomChecked (most n (AtMost m) gs .nodes) (most n (AtMost m) gs .operations) n frame ns os ≡ Fine = ap (λ (c : Needed). roomChecked (c .nodes) (c .operations) n frame ns os) (sym ek) ∙ sym er ∙ e in
     record {
-      same = room-less _ _ _ _ n frame ns os (h .0) (h .1) f;
+      same = e ∙ room-less _ _ _ _ n frame ns os (h .0) (h .1) f;
       planes = λ t. refl;
-      ended = λ w q. absurd (not-wrong w q);
+      ended = λ w q. absurd (not-wrong w (sym e ∙ q));
     }
 
 -- what is needed was counted
-pub counted : (n : ℕ) (cap : Cap) (gs ps ps′ : List ℕ) (frame ns os : ℕ) (k : Needed) (r : Checked)
-    → k ≡ countFor (plainLast n cap gs) (needsLast n cap gs) → ps′ ≡ planesFor cap n (plainLast n cap gs .table) ps → r ≡ roomChecked (k .nodes) (k .operations) n frame ns os
-    → NeedsChecked n cap gs frame ns os ps r ps′
-counted n cap gs ps ps′ frame ns os k r ek ep er = record {
+pub counted : (n m : ℕ) (gs ps ps′ : List ℕ) (frame ns os : ℕ) (k : Needed) (r : Checked)
+    → k ≡ countFor (plainLast n (AtMost m) gs) (needsLast n (AtMost m) gs) → ps′ ≡ planesFor (AtMost m) n (plainLast n (AtMost m) gs .table) ps → r ≡ roomChecked (k .nodes) (k .operations) n frame ns os
+    → NeedsChecked n (AtMost m) gs frame ns os ps r ps′
+counted n m gs ps ps′ frame ns os k r ek ep er = record {
   same = er ∙ rw ek;
-  planes = λ t. planes-over cap n t (plainLast n cap gs .table) ps ps′ ep;
+  planes = λ t. planes-over (AtMost m) n t (plainLast n (AtMost m) gs .table) ps ps′ ep;
   ended = λ w q. ep;
 }

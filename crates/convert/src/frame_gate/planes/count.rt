@@ -1,4 +1,4 @@
-//! The counting pass: what a conversion needs, and under a cap the planes of its end.
+//! What a conversion needs: the most of it by sums; under a cap counted, with the planes of its end.
 
 pub mod flush;
 
@@ -13,11 +13,9 @@ ghost use Prim.Native.Nat.{_+_, _*_, _/_, _<_, _≤_};
 ghost use lib.ListN.{length, getD};
 ghost use Rattle.pauli.specs.Rotations.{flush};
 ghost use Rattle.pauli.specs.Table.{start};
-ghost use Rattle.convert.specs.Records.{AtMost, lowerAs, lowerAll, AllProper, records, kindOf};
-ghost use Rattle.convert.specs.Plain.{plainRun, begin};
-ghost use Rattle.convert.specs.Needs.{needRun};
+ghost use Rattle.convert.specs.Records.{AtMost, lowerAs, AllProper, records, kindOf};
 ghost use Rattle.convert.specs.Planes.{partWords};
-ghost use Rattle.convert.specs.Raw.{needed, costOf, costs, isCapped, refreshed, summed, planesFor, Decided, Fits, countFor, needsOf};
+ghost use Rattle.convert.specs.Raw.{needed, costOf, costs, isCapped, refreshed, summed, planesFor, Decided, Fits, countFor, plainLast, needsLast};
 
 /// Nodes and operations; and those that a flush of the pending gates writes, its joint nodes and its rotations.
 pub struct Needed {
@@ -195,14 +193,14 @@ fn sum_records(n: usize, cap: Cap, gates: &[u32]) -> Needed
     add(cap.is_capped(), k, of(0, 0, 0, 0))
 }
 
-// What the conversion needs. Under a cap the planes afterwards are those of its end.
-fn count_records(planes: &mut [u64], n: usize, l: usize, cap: Cap, gates: &[u32]) -> Needed
+// What the conversion needs under a cap. The planes afterwards are those of its end.
+fn count_records(planes: &mut [u64], n: usize, l: usize, most: u32, gates: &[u32]) -> Needed
     requires { ⌜ Fits n (now gates) ⌝ }
-    requires { ⌜ (l ≡ partWords n) × (isCapped cap ≡ true → (n + n) * (l + l) ≤ length (now planes)) × (n ≤ 256) × (length (now gates) ≤ 262144) ⌝ }
-    ensures { λ r. ⌜ r ≡ countFor (plainRun flush n cap (lowerAll (records (now (gates .entry)))) (begin n)) (needRun n cap (lowerAll (records (now (gates .entry)))) (begin n) (needsOf (1 + 2 * n) 0)) ⌝ }
-    ensures { λ r. ⌜ now (planes .exit) ≡ planesFor cap n (plainRun flush n cap (lowerAll (records (now (gates .entry)))) (begin n) .table) (now (planes .entry)) ⌝ }
+    requires { ⌜ (l ≡ partWords n) × ((n + n) * (l + l) ≤ length (now planes)) × (n ≤ 256) × (length (now gates) ≤ 262144) ⌝ }
+    ensures { λ r. ⌜ r ≡ countFor (plainLast n (AtMost most) (now (gates .entry))) (needsLast n (AtMost most) (now (gates .entry))) ⌝ }
+    ensures { λ r. ⌜ now (planes .exit) ≡ planesFor (AtMost most) n (plainLast n (AtMost most) (now (gates .entry)) .table) (now (planes .entry)) ⌝ }
 {
-    prepare(planes, n, l, cap);
+    reset(planes, n, l);
     let count = gates.len() / 4;
     let mut k = first(n);
     let mut i: usize = 0;
@@ -211,7 +209,7 @@ fn count_records(planes: &mut [u64], n: usize, l: usize, cap: Cap, gates: &[u32]
         let a = operand_at(gates, i, 1);
         let b = operand_at(gates, i, 2);
         let d = operand_at(gates, i, 3);
-        let flushed = decide(planes, n, l, cap, kind, a, b, d);
+        let flushed = decide_under(planes, n, l, most, kind, a, b, d);
         k = add(flushed, k, cost_of(kind));
         i += 1;
     }

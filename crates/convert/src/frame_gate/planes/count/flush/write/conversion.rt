@@ -40,7 +40,7 @@ fn header_of(
     }
 }
 
-// What is needed: 13, 14, 15. It is counted only where the most that can be needed does not fit. The planes are then those of the end.
+// What is needed: 13, 14, 15. Under a cap it is counted only where the most that can be needed does not fit; the planes are then those of the end.
 fn check_needs(
     planes: &mut [u64],
     qubits: u32,
@@ -55,19 +55,25 @@ fn check_needs(
     ensures { λ r. ⌜ NeedsChecked qubits cap (now (gates .entry)) frame nodes operations (now (planes .entry)) r (now (planes .exit)) ⌝ }
 {
     let n = qubits as usize;
-    let most = sum_records(n, cap, gates);
-    if let Checked::Fine = check_room(
-        most.nodes,
-        most.operations,
+    let sums = sum_records(n, cap, gates);
+    let room = check_room(
+        sums.nodes,
+        sums.operations,
         qubits,
         frame,
         nodes,
         operations,
-    ) {
-        return Checked::Fine;
+    );
+    match cap {
+        Cap::None => room,
+        Cap::AtMost(most) => {
+            if let Checked::Fine = room {
+                return room;
+            }
+            let k = count_records(planes, n, part_words(qubits), most, gates);
+            check_room(k.nodes, k.operations, qubits, frame, nodes, operations)
+        }
     }
-    let k = count_records(planes, n, part_words(qubits), cap, gates);
-    check_room(k.nodes, k.operations, qubits, frame, nodes, operations)
 }
 
 /// The gate list as a Pauli-based circuit. Refuses with 1, 2, 5, 7, 8, 9, 11 to 15. O(gates) without a cap; under a cap each gate works on
