@@ -1,5 +1,5 @@
 -- The checks of gates, by the number of their qubits.
-use mathlib.Core.Path.{_≡_, refl, sym, _∙_}
+use mathlib.Core.Path.{_≡_, refl, sym, ap, _∙_}
 use mathlib.Core.Bool.{Bool, true, false, not, _&&_, _||_}
 use mathlib.Core.List.{List, [], _∷_}
 use Prim.Native.Nat.{ℕ, zero, suc, _+_, _*_, _/_, _<_, _≤_, min}
@@ -8,6 +8,7 @@ use native.Mathlib.Numerals.{add-one}
 use lib.ListN.{length, getD, take, drop}
 use native.Mathlib.Omega.{arith}
 use lib.Dec.{leb, ltb, eqb}
+use borrow.Author.Tests.{ltb-true, le-leb, lt-leb, ne-eqb, not-true}
 use Rattle.arena.specs.Errors.{_⟫_⇒_}
 use Rattle.convert.specs.Types.{PbcError, QubitOutOfRange, RepeatedOperand, UnsupportedGate, ClassicalBitOutOfRange, BadStore, NonCliffordFrameGate, NoFrame, NoNodes, Header, Checked, Fine, Wrong}
 use Rattle.arena.specs.Store.{breaksLimit, exceedsNodes, noNodeRoom}
@@ -292,3 +293,64 @@ measures-by KindSx = ((λ e. absurd (omega arith)), λ e. refl)
 measures-by KindSwap = ((λ e. absurd (omega arith)), λ e. refl)
 measures-by KindCy = ((λ e. absurd (omega arith)), λ e. refl)
 measures-by Unsupported = ((λ e. absurd (omega arith)), λ e. refl)
+
+-- ---- a record that passes its checks
+
+and-both : (a b : Bool) → (a && b) ≡ true → (a ≡ true) × (b ≡ true)
+and-both true b e = (refl, e)
+and-both false b e = (e, (let z : _≡_ {A = ℕ} 0 1 = cc in absurd (omega arith)))
+
+below : (a n : ℕ) → ltb a n ≡ true → leb n a ≡ false
+below a n e = lt-leb n a (ltb-true a n e)
+
+sound-by : (s : Checked) (n cbits i number m a b c : ℕ) (q : List ℕ) → q ≡ byArity m a b c → m ≤ 4 → (not (eqb m 0) && ltb a n) ≡ true
+    → ((ltb b n && not (eqb b a)) || not (eqb m 2 || eqb m 3)) ≡ true → ((ltb c n && (not (eqb c a) && not (eqb c b))) || not (eqb m 3)) ≡ true → (ltb b cbits || not (eqb m 4)) ≡ true
+    → (operandsChecked (s ⟫ eqb m 0 ⇒ UnsupportedGate i number) n i [] q ⟫ eqb m 4 && leb cbits b ⇒ ClassicalBitOutOfRange i b) ≡ s
+unfolding operandsChecked byArity _⟫_⇒_
+sound-by s n cbits i number zero a b c q eq h h₁ h₂ h₃ h₄ = let z : _≡_ {A = ℕ} 0 1 = cc in absurd (omega arith)
+sound-by (Wrong e) n cbits i number (suc zero) a b c q eq h h₁ h₂ h₃ h₄ = rw eq
+sound-by (Wrong e) n cbits i number (suc (suc zero)) a b c q eq h h₁ h₂ h₃ h₄ = rw eq
+sound-by (Wrong e) n cbits i number (suc (suc (suc zero))) a b c q eq h h₁ h₂ h₃ h₄ = rw eq
+sound-by (Wrong e) n cbits i number (suc (suc (suc (suc zero)))) a b c q eq h h₁ h₂ h₃ h₄ = rw eq
+sound-by Fine n cbits i number (suc zero) a b c q eq h h₁ h₂ h₃ h₄ = rw (eq, below a n h₁)
+sound-by Fine n cbits i number (suc (suc zero)) a b c q eq h h₁ h₂ h₃ h₄ =
+    let p = and-both (ltb b n) (not (eqb b a)) (sym (or-false (ltb b n && not (eqb b a))) ∙ h₂) in
+    rw (eq, below a n h₁, below b n (p .0), not-true (eqb b a) (p .1))
+sound-by Fine n cbits i number (suc (suc (suc zero))) a b c q eq h h₁ h₂ h₃ h₄ =
+    let p = and-both (ltb b n) (not (eqb b a)) (sym (or-false (ltb b n && not (eqb b a))) ∙ h₂) in
+    let r = and-both (ltb c n) (not (eqb c a) && not (eqb c b)) (sym (or-false (ltb c n && (not (eqb c a) && not (eqb c b)))) ∙ h₃) in
+    let t = and-both (not (eqb c a)) (not (eqb c b)) (r .1) in
+    rw (eq, below a n h₁, below b n (p .0), not-true (eqb b a) (p .1), below c n (r .0), not-true (eqb c a) (t .0), not-true (eqb c b) (t .1))
+sound-by Fine n cbits i number (suc (suc (suc (suc zero)))) a b c q eq h h₁ h₂ h₃ h₄ = rw (eq, below a n h₁, below b cbits (sym (or-false (ltb b cbits)) ∙ h₄))
+sound-by s n cbits i number (suc (suc (suc (suc (suc m))))) a b c q eq h h₁ h₂ h₃ h₄ = absurd (omega arith)
+
+pub sound-record : (s : Checked) (n cbits i number a b c : ℕ) (k : GateKind) (m : ℕ) → k ≡ kindOf number → m ≡ arityOf k
+    → (((not (eqb m 0) && ltb a n) && ((ltb b n && not (eqb b a)) || not (eqb m 2 || eqb m 3))) && (((ltb c n && (not (eqb c a) && not (eqb c b))) || not (eqb m 3)) && (ltb b cbits || not (eqb m 4)))) ≡ true
+    → recordChecked s n cbits i (recordOf number a b c) ≡ s
+unfolding recordChecked
+sound-record s n cbits i number a b c k m ek em e =
+    let first = not (eqb m 0) && ltb a n in
+    let second = (ltb b n && not (eqb b a)) || not (eqb m 2 || eqb m 3) in
+    let third = (ltb c n && (not (eqb c a) && not (eqb c b))) || not (eqb m 3) in
+    let target = ltb b cbits || not (eqb m 4) in
+    let p = and-both (first && second) (third && target) e in
+    let p₁ = and-both first second (p .0) in
+    let p₂ = and-both third target (p .1) in
+    rw (← ek, unsupported-by k, measure-by k, ← em)
+    (sound-by s n cbits i number m a b c (qubitsOf k a b c) (rw em (qubits-by k a b c)) (rw em (arity-most k)) (p₁ .0) (p₁ .1) (p₂ .0) (p₂ .1))
+
+-- the list so far is sound, as is this record
+pub sound-more : (f g : Bool) (n cbits : ℕ) (gs : List ℕ) (i : ℕ) → i < length gs / 4
+    → (f ≡ true → (s : Checked) → recordsChecked s n cbits 0 (records gs) ≡ recordsChecked s n cbits i (drop i (records gs)))
+    → (g ≡ true → (s : Checked) (j : ℕ) → recordChecked s n cbits j (recordOf (getD gs (4 * i) 0) (getD gs (4 * i + 1) 0) (getD gs (4 * i + 2) 0) (getD gs (4 * i + 3) 0)) ≡ s)
+    → (f && g) ≡ true → (s : Checked) → recordsChecked s n cbits 0 (records gs) ≡ recordsChecked s n cbits (i + 1) (drop (i + 1) (records gs))
+sound-more f g n cbits gs i h hf hg e s =
+    let p = and-both f g e in
+    hf (p .0) s ∙ checks-more s n cbits gs i h ∙ ap (λ (t : Checked). recordsChecked t n cbits (i + 1) (drop (i + 1) (records gs))) (hg (p .1) s i)
+
+-- a cap above 2 is never too small
+pub cap-above : (most : ℕ) (d : Bool) → 2 < most → false ≡ (eqb most 0 || (leb most 2 && d))
+cap-above most d h = rw (ne-eqb most 0 (λ e. omega arith), lt-leb most 2 h)
+
+pub cap-below : (most : ℕ) (d : Bool) → most ≤ 2 → (eqb most 0 || d) ≡ (eqb most 0 || (leb most 2 && d))
+cap-below most d h = rw (le-leb most 2 h)

@@ -12,10 +12,10 @@ use Rattle.pauli.specs.Table.{start, column, run}
 use Rattle.pauli.proofs.Short.{width-single}
 use Rattle.convert.specs.Types.{Pauli, X, Z}
 use Rattle.convert.specs.Records.{GateKind, KindH, KindX, KindZ, KindS, KindSdg, KindT, KindTdg, KindCnot, KindCz, KindCcx, KindCcz, KindMeasure, KindY, KindSx, KindSwap, KindCy, Unsupported, Cap, NoCap, AtMost, Elementary, lowerAs, AllProper}
-use Rattle.convert.specs.Plain.{exceeds}
+use Rattle.convert.specs.Plain.{tested, exceeds}
 use Rattle.convert.specs.Planes.{partWords, packed}
 use Rattle.convert.specs.RawPlanes.{Wide, planeRun}
-use Rattle.convert.specs.Raw.{anyExceeds, isCapped, refreshed, replaned, recordGates, planesFor, Decided}
+use Rattle.convert.specs.Raw.{testsOf, anyExceeds, isCapped, refreshed, recordGates, planesFor, Decided}
 use Rattle.arena.specs.Builder.{overlay}
 use Rattle.convert.proofs.PlaneLaws.{packed-length}
 use Rattle.convert.proofs.Packed.{plane-run, plane-again, plane-reset}
@@ -71,44 +71,78 @@ valid-of n KindSwap a b d w = w
 valid-of n KindCy a b d w = w
 valid-of n Unsupported a b d w = w
 
+-- a record that is not tested is never heavy; one that is has no frame gates
+no-tests : (n most : ℕ) (t : List Row) (k : GateKind) (a b d : ℕ) → testsOf k ≡ 0 → false ≡ anyExceeds n (AtMost most) t (lowerAs k a b d)
+unfolding lowerAs exceeds tested
+no-tests n most t KindH a b d e = refl
+no-tests n most t KindX a b d e = refl
+no-tests n most t KindZ a b d e = refl
+no-tests n most t KindS a b d e = refl
+no-tests n most t KindSdg a b d e = refl
+no-tests n most t KindT a b d e = absurd (omega arith)
+no-tests n most t KindTdg a b d e = absurd (omega arith)
+no-tests n most t KindCnot a b d e = refl
+no-tests n most t KindCz a b d e = refl
+no-tests n most t KindCcx a b d e = absurd (omega arith)
+no-tests n most t KindCcz a b d e = absurd (omega arith)
+no-tests n most t KindMeasure a b d e = absurd (omega arith)
+no-tests n most t KindY a b d e = refl
+no-tests n most t KindSx a b d e = refl
+no-tests n most t KindSwap a b d e = refl
+no-tests n most t KindCy a b d e = refl
+no-tests n most t Unsupported a b d e = refl
+
+no-gates : (k : GateKind) (a b : ℕ) → (testsOf k ≡ 0 → ⊥) → recordGates k a b ≡ []
+unfolding recordGates
+no-gates KindH a b e = absurd (e refl)
+no-gates KindX a b e = absurd (e refl)
+no-gates KindZ a b e = absurd (e refl)
+no-gates KindS a b e = absurd (e refl)
+no-gates KindSdg a b e = absurd (e refl)
+no-gates KindT a b e = refl
+no-gates KindTdg a b e = refl
+no-gates KindCnot a b e = absurd (e refl)
+no-gates KindCz a b e = absurd (e refl)
+no-gates KindCcx a b e = refl
+no-gates KindCcz a b e = refl
+no-gates KindMeasure a b e = refl
+no-gates KindY a b e = absurd (e refl)
+no-gates KindSx a b e = absurd (e refl)
+no-gates KindSwap a b e = absurd (e refl)
+no-gates KindCy a b e = absurd (e refl)
+no-gates Unsupported a b e = absurd (e refl)
+
 plane-one : (n : ℕ) (f : Bool) (gs : List Gate) (t : List Row) (rest : List ℕ) → Wide n t → AllValid n gs
     → planeRun (partWords n) gs (refreshed f n (partWords n) (packed n t ++ rest)) ≡ packed n (run n gs (cond f (start n) t)) ++ rest
 plane-one n true gs t rest w v = rw (plane-again n t rest) (plane-run n gs (start n) rest (wide-start n) v)
 plane-one n false gs t rest w v = plane-run n gs t rest w v
 
-pub open-planes : (cap : Cap) (f : Bool) (n l : ℕ) (gs : List Gate) (ps : List ℕ) → isCapped cap ≡ true → replaned cap f n l gs ps ≡ planeRun l gs (refreshed f n l ps)
-open-planes NoCap f n l gs ps on = let z : _≡_ {A = Bool} false true = on in absurd (no z)
-  where
-    no : _≡_ {A = Bool} false true → ⊥
-    no e = let z : _≡_ {A = ℕ} 0 1 = cc in omega arith
-open-planes (AtMost most) f n l gs ps on = refl
-
-pub closed-planes : (cap : Cap) (f : Bool) (n l : ℕ) (gs : List Gate) (ps : List ℕ) → isCapped cap ≡ false → ps ≡ replaned cap f n l gs ps
-closed-planes NoCap f n l gs ps off = refl
-closed-planes (AtMost most) f n l gs ps off = absurd (no off)
-  where
-    no : _≡_ {A = Bool} true false → ⊥
-    no e = let z : _≡_ {A = ℕ} 0 1 = cc in omega arith
-
 same-rest : (n : ℕ) (t u : List Row) (ps : List ℕ) → packed n u ++ drop (length (packed n t)) ps ≡ overlay (packed n u) ps
 same-rest n t u ps = rw (packed-length n t, packed-length n u)
 
-pub decided-by : (n l : ℕ) (cap : Cap) (k : GateKind) (a b d : ℕ) (ps : List ℕ) (f : Bool) (ps′ : List ℕ) → l ≡ partWords n → AllProper n (b + 1) (lowerAs k a b d)
-    → ((t : List Row) (rest : List ℕ) → Wide n t → (isCapped cap ≡ true → ps ≡ packed n t ++ rest) → f ≡ anyExceeds n cap t (lowerAs k a b d))
-    → ps′ ≡ replaned cap f n l (recordGates k a b) ps
-    → Decided n cap k a b d ps f ps′
-decided-by n l NoCap k a b d ps f ps′ el w flag planes = record {
-  same = λ t ps₀ wd at. (flag t [] wd (λ on. absurd (no on)), planes ∙ at);
-}
-  where
-    no : _≡_ {A = Bool} false true → ⊥
-    no e = let z : _≡_ {A = ℕ} 0 1 = cc in omega arith
-decided-by n l (AtMost most) k a b d ps f ps′ el w flag planes = record {
+decided-by : (n l most : ℕ) (k : GateKind) (a b d : ℕ) (ps : List ℕ) (f : Bool) (ps′ : List ℕ) → l ≡ partWords n → AllProper n (b + 1) (lowerAs k a b d)
+    → ((t : List Row) (rest : List ℕ) → Wide n t → ps ≡ packed n t ++ rest → f ≡ anyExceeds n (AtMost most) t (lowerAs k a b d))
+    → ps′ ≡ planeRun l (recordGates k a b) (refreshed f n l ps)
+    → Decided n (AtMost most) k a b d ps f ps′
+decided-by n l most k a b d ps f ps′ el w flag planes = record {
   same = λ t ps₀ wd at. (
-    flag t (drop (length (packed n t)) ps₀) wd (λ on. at),
+    flag t (drop (length (packed n t)) ps₀) wd at,
     planes ∙ rw (at, el) (plane-one n f (recordGates k a b) t (drop (length (packed n t)) ps₀) wd (valid-of n k a b d w) ∙ same-rest n t (run n (recordGates k a b) (cond f (start n) t)) ps₀),
   );
 }
+
+pub decided-untested : (n l most : ℕ) (k : GateKind) (a b d : ℕ) (ps ps′ : List ℕ) → l ≡ partWords n → AllProper n (b + 1) (lowerAs k a b d) → testsOf k ≡ 0
+    → ps′ ≡ planeRun l (recordGates k a b) ps → Decided n (AtMost most) k a b d ps false ps′
+decided-untested n l most k a b d ps ps′ el w e planes = decided-by n l most k a b d ps false ps′ el w (λ t rest wd at. no-tests n most t k a b d e) planes
+
+pub decided-tested : (n l most : ℕ) (k : GateKind) (a b d : ℕ) (ps : List ℕ) (f : Bool) (ps′ : List ℕ) → l ≡ partWords n → AllProper n (b + 1) (lowerAs k a b d) → (testsOf k ≡ 0 → ⊥)
+    → ((t : List Row) (rest : List ℕ) → Wide n t → ps ≡ packed n t ++ rest → f ≡ anyExceeds n (AtMost most) t (lowerAs k a b d)) → ps′ ≡ refreshed f n l ps
+    → Decided n (AtMost most) k a b d ps f ps′
+unfolding planeRun
+decided-tested n l most k a b d ps f ps′ el w e flag planes = decided-by n l most k a b d ps f ps′ el w flag (planes ∙ rw (no-gates k a b e))
+
+pub decided-uncapped : (n : ℕ) (k : GateKind) (a b d : ℕ) (ps : List ℕ) → Decided n NoCap k a b d ps false ps
+decided-uncapped n k a b d ps = record { same = λ t ps₀ wd at. (never n t (lowerAs k a b d), at) }
 
 pub prepared : (n l : ℕ) (cap : Cap) (ps ps′ : List ℕ) → l ≡ partWords n → (isCapped cap ≡ true → (n + n) * (l + l) ≤ length ps) → ps′ ≡ refreshed (isCapped cap) n l ps
     → ps′ ≡ planesFor cap n (start n) ps

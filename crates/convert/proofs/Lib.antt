@@ -19,6 +19,7 @@ pub mod ConvertLaws
 pub mod Nodes
 pub mod FrameRows
 pub mod StartRows
+pub mod SumLaws
 pub mod Meaning
 pub mod PaperAxes
 pub mod Signs

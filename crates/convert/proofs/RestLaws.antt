@@ -127,7 +127,7 @@ cost-few Unsupported = (omega arith, omega arith)
 pub few-cost : (kind : GateKind) (c : Needed) → c ≡ costOf kind → (c .nodes + c .joints ≤ 16) × (c .operations + c .rotations ≤ 16)
 few-cost kind c e = rw e (cost-few kind)
 
-costs-few : (f : Bool) (k c : Needed) → (c .nodes + c .joints ≤ 16) × (c .operations + c .rotations ≤ 16)
+pub costs-few : (f : Bool) (k c : Needed) → (c .nodes + c .joints ≤ 16) × (c .operations + c .rotations ≤ 16)
     → (costs f k c .nodes + costs f k c .joints ≤ k .nodes + k .joints + 16) × (costs f k c .operations + costs f k c .rotations ≤ k .operations + k .rotations + 16)
 costs-few true k c h = (omega arith, omega arith)
 costs-few false k c h = (omega arith, omega arith)

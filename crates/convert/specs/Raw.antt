@@ -14,7 +14,7 @@ use Rattle.arena.specs.Errors.{_⟫_⇒_}
 use Rattle.convert.specs.Conversion.{recordsChecked, capTooSmall, planesTooFew, maxGateWords}
 use Rattle.arena.specs.Operations.{rotateWords, measureWords}
 use Rattle.convert.specs.Words.{Words, startWords, wordRun, idX, idZ}
-use Rattle.convert.specs.Types.{MinusOne, Bit, TooManyQubits, BrokenGateList, CapTooSmall, NoPlanes, NoFrame, NoNodes, NoOperations, Checked, Fine, Header}
+use Rattle.convert.specs.Types.{MinusOne, Bit, TooManyQubits, BrokenGateList, CapTooSmall, NoPlanes, NoFrame, NoNodes, NoOperations, PbcError, Checked, Fine, Wrong, Header}
 use Rattle.convert.specs.Records.{GateKind, KindH, KindX, KindZ, KindS, KindSdg, KindT, KindTdg, KindCnot, KindCz, KindCcx, KindCcz, KindMeasure, KindY, KindSx, KindSwap, KindCy, Unsupported, Cap, NoCap, AtMost, Elementary, Placed, bare, lowerAs, lowerFrom, Record, records, kindOf, AllProper, lowerAll}
 use Rattle.pauli.specs.Rows.{Row, tally}
 use Rattle.pauli.specs.Doubly.{Term, term, sevenRows}
@@ -23,7 +23,7 @@ use Rattle.pauli.specs.Rotations.{flush}
 use Rattle.convert.specs.Plain.{Plain, begin, exceeds, plainRun}
 use Rattle.convert.specs.Needs.{Needs, writtenNodes, writtenOps, needRun}
 use Rattle.convert.specs.Planes.{packed}
-use Rattle.convert.specs.RawPlanes.{Wide, planeRun, planeReset}
+use Rattle.convert.specs.RawPlanes.{Wide, planeReset}
 use Rattle.convert.specs.declared.frame_gate.planes.count.Needed.{Needed}
 use Rattle.convert.specs.Frame.{Arena, stored, word, gateNodes, total}
 
@@ -211,10 +211,6 @@ abbrev pub refreshed : Bool → ℕ → ℕ → List ℕ → List ℕ
 refreshed true n l p = planeReset n l p
 refreshed false n l p = p
 
-abbrev pub replaned : Cap → Bool → ℕ → ℕ → List Gate → List ℕ → List ℕ
-replaned NoCap flushed n l gs p = p
-replaned (AtMost most) flushed n l gs p = planeRun l gs (refreshed flushed n l p)
-
 -- the planes under a cap are those of a table, over what was there
 abbrev pub planesFor : Cap → ℕ → List Row → List ℕ → List ℕ
 planesFor NoCap n t ps = ps
@@ -294,6 +290,11 @@ measuresOf Unsupported = 0
 abbrev pub costs : Bool → Needed → Needed → Needed
 costs true k c = needed (k .nodes + k .joints + c .nodes) (k .operations + k .rotations + c .operations) (c .joints) (c .rotations)
 costs false k c = needed (k .nodes + c .nodes) (k .operations + c .operations) (k .joints + c .joints) (k .rotations + c .rotations)
+
+-- these records more, without a flush
+unfoldable pub summed : Needed → List Record → Needed
+summed k [] = k
+summed k (r ∷ rs) = summed (costs false k (costOf (kindOf (r .kind)))) rs
 
 -- the count that stands beside a plain state
 abbrev pub countFor : Plain → Needs → Needed
@@ -464,6 +465,12 @@ roomChecked k m n frame ns os =
     ⟫ ltb frame (2 * n) ⇒ NoFrame
     ⟫ ltb maxNodes k || ltb (ns / nodeWords) k ⇒ NoNodes
     ⟫ ltb maxOperations m || ltb (os / operationWords) m ⇒ NoOperations
+
+-- the checks of what a conversion needs; the planes are those of its end, or not begun where the most that it can need fits
+pub record NeedsChecked (n : ℕ) (cap : Cap) (gs : List ℕ) (frame node-words operation-words : ℕ) (ps : List ℕ) (r : Checked) (ps′ : List ℕ) : Type 0 where
+  pub same : r ≡ roomChecked (needsLast n cap gs .nodes) (needsLast n cap gs .operations) n frame node-words operation-words
+  pub planes : (t : List Row) → planesFor cap n t ps′ ≡ planesFor cap n t ps
+  pub ended : (e : PbcError) → r ≡ Wrong e → ps′ ≡ planesFor cap n (plainLast n cap gs .table) ps
 
 -- ---- what is lent to a conversion, and the header that it makes
 

@@ -17,6 +17,12 @@ Inv-loop n cbits gates count checked₀ i₀ checked i = (i ≤ count) × (recor
 abbrev μ-loop : tie.MeasureT-loop
 μ-loop n cbits gates count checked₀ i₀ checked i = count - i
 
+all-sound-requires : tie.Need-all-sound-requires Inv-loop μ-loop
+all-sound-requires c κs = search needs
+
+returns : tie.Need-returns Inv-loop μ-loop
+returns c = sym (c .before .all-sound .ensures (c .if1 .taken) (c .before .before .before .args .before))
+
 loop-holds : tie.Need-loop-holds Inv-loop μ-loop
 loop-holds c = (omega arith, refl)
 
@@ -75,10 +81,10 @@ loop-less : tie.Need-loop-less Inv-loop μ-loop
 loop-less c = omega (arith, c .before .before .before .before .before .loop-test .taken)
 
 loop-again : tie.Need-loop-again Inv-loop μ-loop
-loop-again c = (omega (arith, c .before .before .before .before .before .loop-test .taken), rw (c .check-record .ensures) (sym (checks-more (c .before .before .before .before .before .before .loop .checked) (c .before .before .before .before .before .before .before .before .args .n) (c .before .before .before .before .before .before .before .before .args .cbits) (c .before .before .before .before .before .before .before .before .args .gates .now) (c .before .before .before .before .before .before .loop .i) (c .before .before .before .before .before .loop-test .taken)) ∙ c .before .before .before .before .before .before .loop .inv .1))
+loop-again c = (omega (arith, c .before .before .before .before .before .loop-test .taken), rw (c .check-record .ensures) (sym (checks-more (c .before .before .before .before .before .before .loop .checked) (c .before .before .before .before .before .before .before .before .before .before .args .n) (c .before .before .before .before .before .before .before .before .before .before .args .cbits) (c .before .before .before .before .before .before .before .before .before .before .args .gates .now) (c .before .before .before .before .before .before .loop .i) (c .before .before .before .before .before .loop-test .taken)) ∙ c .before .before .before .before .before .before .loop .inv .1))
 
-returns : tie.Need-returns Inv-loop μ-loop
-returns c = sym (checks-end (c .before .loop .checked) (c .before .before .before .args .n) (c .before .before .before .args .cbits) (c .before .before .before .args .gates .now) (c .before .loop .i) (c .loop-test .left)) ∙ c .before .loop .inv .1
+returns-2 : tie.Need-returns-2 Inv-loop μ-loop
+returns-2 c = sym (checks-end (c .before .loop .checked) (c .before .before .before .before .before .args .n) (c .before .before .before .before .before .args .cbits) (c .before .before .before .before .before .args .gates .now) (c .before .loop .i) (c .loop-test .left)) ∙ c .before .loop .inv .1
 
 pub check-records-spec : {M : Type 1} → statement M
 check-records-spec =
@@ -86,6 +92,8 @@ check-records-spec =
     (tie.spec
     Inv-loop
     μ-loop
+    all-sound-requires
+    returns
     loop-holds
     mul-check-record
     mul-check-record-2
@@ -106,4 +114,4 @@ check-records-spec =
     add-i
     loop-less
     loop-again
-    returns)
+    returns-2)

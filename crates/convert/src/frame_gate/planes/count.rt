@@ -1,4 +1,4 @@
-//! The counting pass: what a conversion needs, and under a cap the planes of its end.
+//! What a conversion needs: the most of it by sums; under a cap counted, with the planes of its end.
 
 pub mod flush;
 
@@ -9,19 +9,13 @@ use crate::cap::Cap;
 use crate::gate::GateKind;
 ghost use mathlib.Core.Path.{_≡_};
 ghost use mathlib.Core.Bool.{true};
-ghost use mathlib.Core.List.{List, _++_};
-ghost use Prim.Native.Nat.{ℕ, _+_, _*_, _/_, _<_, _≤_};
+ghost use Prim.Native.Nat.{_+_, _*_, _/_, _<_, _≤_};
 ghost use lib.ListN.{length, getD};
-ghost use Rattle.pauli.specs.Rows.{Row};
-ghost use Rattle.pauli.specs.Gates.{AllValid};
 ghost use Rattle.pauli.specs.Rotations.{flush};
 ghost use Rattle.pauli.specs.Table.{start};
-ghost use Rattle.convert.specs.Records.{lowerAs, lowerAll, AllProper, records, kindOf};
-ghost use Rattle.convert.specs.Plain.{plainRun, begin};
-ghost use Rattle.convert.specs.Needs.{needRun};
-ghost use Rattle.convert.specs.Planes.{partWords, packed};
-ghost use Rattle.convert.specs.RawPlanes.{Wide};
-ghost use Rattle.convert.specs.Raw.{needed, costOf, costs, recordGates, anyExceeds, isCapped, refreshed, replaned, planesFor, Decided, Fits, countFor, needsOf};
+ghost use Rattle.convert.specs.Records.{AtMost, lowerAs, AllProper, records, kindOf};
+ghost use Rattle.convert.specs.Planes.{partWords};
+ghost use Rattle.convert.specs.Raw.{needed, costOf, costs, isCapped, refreshed, summed, planesFor, Decided, Fits, countFor, plainLast, needsLast};
 
 /// Nodes and operations; and those that a flush of the pending gates writes, its joint nodes and its rotations.
 pub struct Needed {
@@ -89,27 +83,6 @@ fn add(flushed: bool, k: Needed, c: Needed) -> Needed
     )
 }
 
-// Whether a flush comes before this record.
-fn flushes(
-    planes: &[u64],
-    n: usize,
-    l: usize,
-    cap: Cap,
-    kind: GateKind,
-    a: usize,
-    b: usize,
-    d: usize,
-) -> bool
-    requires { ⌜ AllProper n (b + 1) (lowerAs kind a b d) ⌝ }
-    requires { ⌜ (l ≡ partWords n) × (isCapped cap ≡ true → (n + n) * (l + l) ≤ length (now planes)) × (n ≤ 256) ⌝ }
-    ensures { λ r. ⌜ ((t : List Row) (rest : List ℕ) → Wide n t → (isCapped cap ≡ true → now (planes .entry) ≡ packed n t ++ rest) → r ≡ anyExceeds n cap t (lowerAs kind a b d)) ⌝ }
-{
-    match cap {
-        Cap::None => false,
-        Cap::AtMost(most) => heavy(planes, n, l, most, kind, a, b, d),
-    }
-}
-
 fn refresh(planes: &mut [u64], n: usize, l: usize, flushed: bool)
     requires { ⌜ (l ≡ partWords n) × ((n + n) * (l + l) ≤ length (now planes)) × (n ≤ 256) ⌝ }
     ensures { λ _. ⌜ now (planes .exit) ≡ refreshed flushed n l (now (planes .entry)) ⌝ }
@@ -120,29 +93,31 @@ fn refresh(planes: &mut [u64], n: usize, l: usize, flushed: bool)
     reset(planes, n, l);
 }
 
-// The planes after a flush and the record's gates.
-fn replane(
+// Whether a flush comes before this record; the planes go past it. A record is tested or has frame gates, never both.
+fn decide_under(
     planes: &mut [u64],
     n: usize,
     l: usize,
-    cap: Cap,
-    flushed: bool,
+    most: u32,
     kind: GateKind,
     a: usize,
     b: usize,
-)
-    requires { ⌜ AllValid n (recordGates kind a b) ⌝ }
-    requires { ⌜ (l ≡ partWords n) × (isCapped cap ≡ true → (n + n) * (l + l) ≤ length (now planes)) × (n ≤ 256) ⌝ }
-    ensures { λ _. ⌜ now (planes .exit) ≡ replaned cap flushed n l (recordGates kind a b) (now (planes .entry)) ⌝ }
+    d: usize,
+) -> bool
+    requires { ⌜ AllProper n (b + 1) (lowerAs kind a b d) ⌝ }
+    requires { ⌜ (l ≡ partWords n) × ((n + n) * (l + l) ≤ length (now planes)) × (n ≤ 256) ⌝ }
+    ensures { λ r. ⌜ Decided n (AtMost most) kind a b d (now (planes .entry)) r (now (planes .exit)) ⌝ }
 {
-    if !cap.is_capped() {
-        return;
+    if kind.tests() == 0 {
+        plane_record(planes, n, l, kind, a, b);
+        return false;
     }
+    let flushed = heavy(planes, n, l, most, kind, a, b, d);
     refresh(planes, n, l, flushed);
-    plane_record(planes, n, l, kind, a, b);
+    flushed
 }
 
-// Whether a flush comes before this record; the planes go past it.
+// The same with a cap or none.
 fn decide(
     planes: &mut [u64],
     n: usize,
@@ -157,9 +132,10 @@ fn decide(
     requires { ⌜ (l ≡ partWords n) × (isCapped cap ≡ true → (n + n) * (l + l) ≤ length (now planes)) × (n ≤ 256) ⌝ }
     ensures { λ r. ⌜ Decided n cap kind a b d (now (planes .entry)) r (now (planes .exit)) ⌝ }
 {
-    let flushed = flushes(planes, n, l, cap, kind, a, b, d);
-    replane(planes, n, l, cap, flushed, kind, a, b);
-    flushed
+    match cap {
+        Cap::None => false,
+        Cap::AtMost(most) => decide_under(planes, n, l, most, kind, a, b, d),
+    }
 }
 
 // Under a cap, the planes as at the start.
@@ -202,14 +178,29 @@ fn operand_at(gates: &[u32], i: usize, j: usize) -> usize
     wide(gates[4 * i + j])
 }
 
-// What the conversion needs. Under a cap the planes afterwards are those of its end.
-fn count_records(planes: &mut [u64], n: usize, l: usize, cap: Cap, gates: &[u32]) -> Needed
-    requires { ⌜ Fits n (now gates) ⌝ }
-    requires { ⌜ (l ≡ partWords n) × (isCapped cap ≡ true → (n + n) * (l + l) ≤ length (now planes)) × (n ≤ 256) × (length (now gates) ≤ 262144) ⌝ }
-    ensures { λ r. ⌜ r ≡ countFor (plainRun flush n cap (lowerAll (records (now (gates .entry)))) (begin n)) (needRun n cap (lowerAll (records (now (gates .entry)))) (begin n) (needsOf (1 + 2 * n) 0)) ⌝ }
-    ensures { λ r. ⌜ now (planes .exit) ≡ planesFor cap n (plainRun flush n cap (lowerAll (records (now (gates .entry)))) (begin n) .table) (now (planes .entry)) ⌝ }
+// The most that the conversion can need: under a cap, as if all gates were pending at the end and then flushed. Without one it is what it needs.
+fn sum_records(n: usize, cap: Cap, gates: &[u32]) -> Needed
+    requires { ⌜ (n ≤ 256) × (length (now gates) ≤ 262144) ⌝ }
+    ensures { λ r. ⌜ r ≡ costs (isCapped cap) (summed (needed (1 + 2 * n) 0 0 0) (records (now (gates .entry)))) (needed 0 0 0 0) ⌝ }
 {
-    prepare(planes, n, l, cap);
+    let count = gates.len() / 4;
+    let mut k = first(n);
+    let mut i: usize = 0;
+    while i < count {
+        k = add(false, k, cost_of(kind_at(gates, i)));
+        i += 1;
+    }
+    add(cap.is_capped(), k, of(0, 0, 0, 0))
+}
+
+// What the conversion needs under a cap. The planes afterwards are those of its end.
+fn count_records(planes: &mut [u64], n: usize, l: usize, most: u32, gates: &[u32]) -> Needed
+    requires { ⌜ Fits n (now gates) ⌝ }
+    requires { ⌜ (l ≡ partWords n) × ((n + n) * (l + l) ≤ length (now planes)) × (n ≤ 256) × (length (now gates) ≤ 262144) ⌝ }
+    ensures { λ r. ⌜ r ≡ countFor (plainLast n (AtMost most) (now (gates .entry))) (needsLast n (AtMost most) (now (gates .entry))) ⌝ }
+    ensures { λ r. ⌜ now (planes .exit) ≡ planesFor (AtMost most) n (plainLast n (AtMost most) (now (gates .entry)) .table) (now (planes .entry)) ⌝ }
+{
+    reset(planes, n, l);
     let count = gates.len() / 4;
     let mut k = first(n);
     let mut i: usize = 0;
@@ -218,7 +209,7 @@ fn count_records(planes: &mut [u64], n: usize, l: usize, cap: Cap, gates: &[u32]
         let a = operand_at(gates, i, 1);
         let b = operand_at(gates, i, 2);
         let d = operand_at(gates, i, 3);
-        let flushed = decide(planes, n, l, cap, kind, a, b, d);
+        let flushed = decide_under(planes, n, l, most, kind, a, b, d);
         k = add(flushed, k, cost_of(kind));
         i += 1;
     }

@@ -3,7 +3,8 @@ use Prim.Native.Nat.{_≤_, _-_}
 use mathlib.Core.Path.{_≡_, refl, _∙_, sym}
 use lib.ListN.{length}
 use Rattle.pauli.specs.Table.{start}
-use Rattle.convert.proofs.CountLaws.{planes-over}
+use Rattle.convert.specs.Records.{AtMost}
+use Rattle.convert.proofs.CountLaws.{prepared, planes-over}
 use Rattle.convert.proofs.RestLaws.{CountAt, count-start, count-more, count-end, few-cost}
 use borrow.Author.Needs.{needs}
 use Rattle.convert.proofs.frame_gate.planes.count.count_records.Statement.{statement}
@@ -12,22 +13,22 @@ use Rattle.convert.proofs.frame_gate.planes.count.count_records.Reads a
 use Rattle.convert.proofs.frame_gate.planes.count.count_records.Lts as lts
 use Rattle.convert.proofs.frame_gate.planes.count.add.Reads as add-reads
 use Rattle.convert.proofs.frame_gate.planes.count.cost_of.Reads as cost-of-reads
-use Rattle.convert.proofs.frame_gate.planes.count.decide.Reads as decide-reads
+use Rattle.convert.proofs.frame_gate.planes.count.decide_under.Reads as decide-under-reads
 use Rattle.convert.proofs.frame_gate.planes.count.first.Reads as first-reads
 use Rattle.convert.proofs.frame_gate.planes.count.kind_at.Reads as kind-at-reads
 use Rattle.convert.proofs.frame_gate.planes.count.operand_at.Reads as operand-at-reads
-use Rattle.convert.proofs.frame_gate.planes.count.prepare.Reads as prepare-reads
+use Rattle.convert.proofs.frame_gate.planes.reset.Reads as reset-reads
 
 abbrev Inv-loop : tie.InvT-loop
-Inv-loop planes₀ n l cap gates count k₀ i₀ planes k i = (i ≤ count) × (length planes ≡ length planes₀) × CountAt n cap gates planes₀ planes k i
+Inv-loop planes₀ n l most gates count k₀ i₀ planes k i = (i ≤ count) × (length planes ≡ length planes₀) × CountAt n (AtMost most) gates planes₀ planes k i
 
 abbrev μ-loop : tie.MeasureT-loop
-μ-loop planes₀ n l cap gates count k₀ i₀ planes k i = count - i
+μ-loop planes₀ n l most gates count k₀ i₀ planes k i = count - i
 
-prepare-requires : tie.Need-prepare-requires Inv-loop μ-loop
-prepare-requires c κs =
+reset-requires : tie.Need-reset-requires Inv-loop μ-loop
+reset-requires c κs =
     let p = c .before .before .before .pre .1 in
-    (p .0, p .1, p .2)
+    omega (arith, p .0, p .1, p .2)
 
 first-requires : tie.Need-first-requires Inv-loop μ-loop
 first-requires c κs = c .before .before .before .before .before .before .pre .1 .2
@@ -36,7 +37,8 @@ loop-holds : tie.Need-loop-holds Inv-loop μ-loop
 loop-holds c =
     let p = c .before .before .before .before .before .before .before .pre .1 in
     let a = c .before .before .before .before .before .before .before .args in
-    (omega arith, refl, count-start (a .n) (a .cap) (a .gates .now) _ _ _ (p .2) (c .first .ensures) (c .before .before .before .prepare .ensures ∙ sym (planes-over (a .cap) (a .n) (start (a .n)) (start (a .n)) (a .planes .now) _ (c .before .before .before .prepare .ensures))))
+    let at = prepared (a .n) (a .l) (AtMost (a .most)) (a .planes .now) _ (p .0) (λ on. p .1) (c .before .before .before .reset .ensures) in
+    (omega arith, refl, count-start (a .n) (AtMost (a .most)) (a .gates .now) _ _ _ (p .2) (c .first .ensures) (at ∙ sym (planes-over (AtMost (a .most)) (a .n) (start (a .n)) (start (a .n)) (a .planes .now) _ at)))
 
 kind-at-requires : tie.Need-kind-at-requires Inv-loop μ-loop
 kind-at-requires c κs = c .loop-test .taken
@@ -50,13 +52,13 @@ operand-at-requires-2 c κs = (c .before .before .loop-test .taken, omega arith)
 operand-at-requires-3 : tie.Need-operand-at-requires-3 Inv-loop μ-loop
 operand-at-requires-3 c κs = (c .before .before .before .loop-test .taken, omega arith)
 
-decide-requires : tie.Need-decide-requires Inv-loop μ-loop
-decide-requires c κs =
+decide-under-requires : tie.Need-decide-under-requires Inv-loop μ-loop
+decide-under-requires c κs =
     let a = c .before .before .before .before .before .before .before .before .before .before .before .before .before .before .args in
     let p = c .before .before .before .before .before .before .before .before .before .before .before .before .before .before .pre .1 in
     let f = c .before .before .before .before .before .before .before .before .before .before .before .before .before .before .pre .0 .each (c .before .before .before .before .before .before .loop .i) (c .before .before .before .before .before .loop-test .taken) in (
       rw (c .before .before .before .before .kind-at .ensures, c .before .before .before .operand-at .ensures, c .before .before .operand-at2 .ensures, c .before .operand-at3 .ensures) f,
-      (p .0, (λ on. let r = p .1 on in omega (arith, c .before .before .before .before .before .before .before .before .before .before .prepare .kept, c .before .before .before .before .before .before .loop .inv .1)), p .2),
+      (p .0, omega (arith, p .1, c .before .before .before .before .before .before .before .before .before .before .reset .kept, c .before .before .before .before .before .before .loop .inv .1), p .2),
     )
 
 cost-of-requires : tie.Need-cost-of-requires Inv-loop μ-loop
@@ -77,18 +79,20 @@ loop-again : tie.Need-loop-again Inv-loop μ-loop
 loop-again c =
     let a = c .before .before .before .before .before .before .before .before .before .before .before .before .before .before .before .before .before .before .before .args in (
       omega (arith, c .before .before .before .before .before .before .before .before .before .before .loop-test .taken),
-      omega (arith, c .before .before .before .before .decide .kept, c .before .before .before .before .before .before .before .before .before .before .before .loop .inv .1),
-      count-more (a .n) (a .cap) (a .gates .now) _ _ _ (c .before .before .before .before .before .before .before .before .before .before .before .loop .i) (c .before .before .before .before .before .before .before .before .before .kind-at .result) _ _ _ (c .before .before .before .before .decide .result) _ _ _ (c .before .before .before .before .before .before .before .before .before .before .before .loop .inv .2) (c .before .before .before .before .before .before .before .before .before .before .loop-test .taken) (c .before .before .before .before .decide .ensures) (c .before .cost-of .ensures) (c .add .ensures) (c .before .before .before .before .before .before .before .before .before .kind-at .ensures) (c .before .before .before .before .before .before .before .before .operand-at .ensures) (c .before .before .before .before .before .before .before .operand-at2 .ensures) (c .before .before .before .before .before .before .operand-at3 .ensures),
+      omega (arith, c .before .before .before .before .decide-under .kept, c .before .before .before .before .before .before .before .before .before .before .before .loop .inv .1),
+      count-more (a .n) (AtMost (a .most)) (a .gates .now) _ _ _ (c .before .before .before .before .before .before .before .before .before .before .before .loop .i) (c .before .before .before .before .before .before .before .before .before .kind-at .result) _ _ _ (c .before .before .before .before .decide-under .result) _ _ _ (c .before .before .before .before .before .before .before .before .before .before .before .loop .inv .2) (c .before .before .before .before .before .before .before .before .before .before .loop-test .taken) (c .before .before .before .before .decide-under .ensures) (c .before .cost-of .ensures) (c .add .ensures) (c .before .before .before .before .before .before .before .before .before .kind-at .ensures) (c .before .before .before .before .before .before .before .before .operand-at .ensures) (c .before .before .before .before .before .before .before .operand-at2 .ensures) (c .before .before .before .before .before .before .operand-at3 .ensures),
     )
 
 same-length : tie.Need-same-length Inv-loop μ-loop
-same-length c = omega (arith, c .before .before .before .before .before .prepare .kept, c .before .loop .inv .1)
+same-length c = omega (arith, c .before .before .before .before .before .reset .kept, c .before .loop .inv .1)
 
 returns : tie.Need-returns Inv-loop μ-loop
 returns c =
+    let p = c .before .before .before .before .before .before .before .before .before .pre .1 in
     let a = c .before .before .before .before .before .before .before .before .before .args in
-    let e = count-end (a .n) (a .cap) (a .gates .now) _ _ _ (c .before .loop .i) (c .before .loop .inv .2) (c .loop-test .left) in
-    (e .0, e .1 ∙ planes-over (a .cap) (a .n) _ (start (a .n)) (a .planes .now) _ (c .before .before .before .before .before .prepare .ensures))
+    let e = count-end (a .n) (AtMost (a .most)) (a .gates .now) _ _ _ (c .before .loop .i) (c .before .loop .inv .2) (c .loop-test .left) in
+    let at = prepared (a .n) (a .l) (AtMost (a .most)) (a .planes .now) _ (p .0) (λ on. p .1) (c .before .before .before .before .before .reset .ensures) in
+    (e .0, e .1 ∙ planes-over (AtMost (a .most)) (a .n) _ (start (a .n)) (a .planes .now) _ at)
 
 pub count-records-spec : {M : Type 1} → statement M
 count-records-spec =
@@ -96,14 +100,14 @@ count-records-spec =
     (tie.spec
     Inv-loop
     μ-loop
-    prepare-requires
+    reset-requires
     first-requires
     loop-holds
     kind-at-requires
     operand-at-requires
     operand-at-requires-2
     operand-at-requires-3
-    decide-requires
+    decide-under-requires
     cost-of-requires
     add-requires
     add-i
