@@ -14,7 +14,7 @@ use Rattle.arena.proofs.Accepted.{passed-before, test-passed, left-false, right
 use Rattle.convert.specs.Types.{Header, Checked, Fine}
 use Rattle.convert.specs.Records.{GateKind, KindH, KindX, KindZ, KindS, KindSdg, KindT, KindTdg, KindCnot, KindCz, KindCcx, KindCcz, KindMeasure, KindY, KindSx, KindSwap, KindCy, Unsupported, Record, records, kindOf, Elementary, lowerAs, lower, placedFrom, lowerFrom, lowerAll, bare, AllProper}
 use Rattle.convert.specs.Frame.{qubitsOf, member, operandsChecked, gateNodes, total, frameGates, namesUnused, cliffordCheck}
-use Rattle.convert.specs.Conversion.{Limits, Input, isMeasure, recordChecked, recordsChecked, gatesIn, capTooSmall, wordEnd, gatesCheck, convertCheck}
+use Rattle.convert.specs.Conversion.{Limits, Input, isMeasure, recordChecked, recordsChecked, gatesIn, capTooSmall, wordEnd, gatesCheck, convertCheck, gatesChecked, roomChecked}
 use Rattle.convert.proofs.Meaning.{map-append}
 
 -- ---- operands
@@ -113,7 +113,7 @@ pub record Accepted (l : Limits) (x : Input) : Type 0 where
   pub operations-lent : length (wordEnd x .ops) ≤ length (x .operations) / operationWords
 
 pub accepted : (l : Limits) (x : Input) → convertCheck l x ≡ Fine → Accepted l x
-unfolding convertCheck gatesCheck gatesIn lowerAll
+unfolding convertCheck roomChecked gatesCheck gatesChecked gatesIn lowerAll
 accepted l x e₁₅ =
     let e₁₄ = passed-before _ _ _ e₁₅ in
     let e₁₃ = passed-before _ _ _ e₁₄ in

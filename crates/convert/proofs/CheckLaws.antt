@@ -8,16 +8,16 @@ use native.Mathlib.Numerals.{add-one}
 use lib.ListN.{length, getD, take, drop}
 use native.Mathlib.Omega.{arith}
 use lib.Dec.{leb, ltb, eqb}
-use borrow.Author.Tests.{ltb-true, le-leb, lt-leb, ne-eqb, not-true}
+use borrow.Author.Tests.{ltb-true, le-leb, lt-leb, eq-eqb, ne-eqb, not-true}
 use Rattle.arena.specs.Errors.{_⟫_⇒_}
 use Rattle.convert.specs.Types.{PbcError, QubitOutOfRange, RepeatedOperand, UnsupportedGate, ClassicalBitOutOfRange, BadStore, NonCliffordFrameGate, NoFrame, NoNodes, Header, Checked, Fine, Wrong}
 use Rattle.arena.specs.Store.{breaksLimit, exceedsNodes, noNodeRoom}
 use Rattle.convert.specs.Planes.{partWords}
 use Rattle.convert.proofs.RestLaws.{drop-record, no-more}
-use Rattle.convert.specs.Records.{GateKind, KindH, KindX, KindZ, KindS, KindSdg, KindT, KindTdg, KindCnot, KindCz, KindCcx, KindCcz, KindMeasure, KindY, KindSx, KindSwap, KindCy, Unsupported, records, kindOf}
-use Rattle.convert.specs.Frame.{qubitsOf, operandsChecked, namesUnused, frameGates, gateNodes, total, cliffordCheck}
-use Rattle.convert.specs.Conversion.{isMeasure, isDoubly, isUnsupported, recordChecked, recordsChecked, anyDoubly}
-use Rattle.convert.specs.Raw.{arityOf, testsOf, isFrame, frameNodes, measuresOf, recordOf}
+use Rattle.convert.specs.Records.{GateKind, KindH, KindX, KindZ, KindS, KindSdg, KindT, KindTdg, KindCnot, KindCz, KindCcx, KindCcz, KindMeasure, KindY, KindSx, KindSwap, KindCy, Unsupported, arityOf, records, kindOf}
+use Rattle.convert.specs.Frame.{qubitsBy, qubitsOf, operandsChecked, namesUnused, frameGates, gateNodes, total, cliffordCheck}
+use Rattle.convert.specs.Conversion.{isDoubly, recordChecked, recordsChecked, anyDoubly}
+use Rattle.convert.specs.Raw.{isFrame, frameNodes, measuresOf, recordOf}
 
 no-test : (k : Checked) (e : PbcError) → (k ⟫ false ⇒ e) ≡ k
 unfolding _⟫_⇒_
@@ -27,91 +27,6 @@ no-test (Wrong f) e = refl
 or-false : (b : Bool) → b || false ≡ b
 or-false true = refl
 or-false false = refl
-
--- the operands of a gate with so many qubits; 4 is a measurement
-byArity : ℕ → ℕ → ℕ → ℕ → List ℕ
-byArity zero a b c = []
-byArity (suc zero) a b c = a ∷ []
-byArity (suc (suc zero)) a b c = a ∷ b ∷ []
-byArity (suc (suc (suc zero))) a b c = a ∷ b ∷ c ∷ []
-byArity (suc (suc (suc (suc k)))) a b c = a ∷ []
-
-qubits-by : (k : GateKind) (a b c : ℕ) → qubitsOf k a b c ≡ byArity (arityOf k) a b c
-unfolding qubitsOf byArity
-qubits-by KindH a b c = refl
-qubits-by KindX a b c = refl
-qubits-by KindZ a b c = refl
-qubits-by KindS a b c = refl
-qubits-by KindSdg a b c = refl
-qubits-by KindT a b c = refl
-qubits-by KindTdg a b c = refl
-qubits-by KindCnot a b c = refl
-qubits-by KindCz a b c = refl
-qubits-by KindCcx a b c = refl
-qubits-by KindCcz a b c = refl
-qubits-by KindMeasure a b c = refl
-qubits-by KindY a b c = refl
-qubits-by KindSx a b c = refl
-qubits-by KindSwap a b c = refl
-qubits-by KindCy a b c = refl
-qubits-by Unsupported a b c = refl
-
-unsupported-by : (k : GateKind) → isUnsupported k ≡ eqb (arityOf k) 0
-unsupported-by KindH = refl
-unsupported-by KindX = refl
-unsupported-by KindZ = refl
-unsupported-by KindS = refl
-unsupported-by KindSdg = refl
-unsupported-by KindT = refl
-unsupported-by KindTdg = refl
-unsupported-by KindCnot = refl
-unsupported-by KindCz = refl
-unsupported-by KindCcx = refl
-unsupported-by KindCcz = refl
-unsupported-by KindMeasure = refl
-unsupported-by KindY = refl
-unsupported-by KindSx = refl
-unsupported-by KindSwap = refl
-unsupported-by KindCy = refl
-unsupported-by Unsupported = refl
-
-measure-by : (k : GateKind) → isMeasure k ≡ eqb (arityOf k) 4
-measure-by KindH = refl
-measure-by KindX = refl
-measure-by KindZ = refl
-measure-by KindS = refl
-measure-by KindSdg = refl
-measure-by KindT = refl
-measure-by KindTdg = refl
-measure-by KindCnot = refl
-measure-by KindCz = refl
-measure-by KindCcx = refl
-measure-by KindCcz = refl
-measure-by KindMeasure = refl
-measure-by KindY = refl
-measure-by KindSx = refl
-measure-by KindSwap = refl
-measure-by KindCy = refl
-measure-by Unsupported = refl
-
-pub doubly-by : (k : GateKind) → isDoubly k ≡ leb 2 (testsOf k)
-doubly-by KindH = refl
-doubly-by KindX = refl
-doubly-by KindZ = refl
-doubly-by KindS = refl
-doubly-by KindSdg = refl
-doubly-by KindT = refl
-doubly-by KindTdg = refl
-doubly-by KindCnot = refl
-doubly-by KindCz = refl
-doubly-by KindCcx = refl
-doubly-by KindCcz = refl
-doubly-by KindMeasure = refl
-doubly-by KindY = refl
-doubly-by KindSx = refl
-doubly-by KindSwap = refl
-doubly-by KindCy = refl
-doubly-by Unsupported = refl
 
 arity-most : (k : GateKind) → arityOf k ≤ 4
 arity-most KindH = omega arith
@@ -134,14 +49,14 @@ arity-most Unsupported = omega arith
 
 module _ (s : Checked) (n i : ℕ) (k : GateKind) (a b c : ℕ) where
   pub none-checked : arityOf k ≡ 0 → s ≡ operandsChecked s n i [] (qubitsOf k a b c)
-  unfolding operandsChecked byArity
-  none-checked e = rw (qubits-by k a b c, e)
+  unfolding operandsChecked qubitsOf
+  none-checked e = rw (e)
 
   pub one-checked : (f : Checked) → f ≡ (s ⟫ leb n a ⇒ QubitOutOfRange i a) → (eqb (arityOf k) 1 || eqb (arityOf k) 4) ≡ true → f ≡ operandsChecked s n i [] (qubitsOf k a b c)
-  unfolding operandsChecked byArity
-  one-checked f ef e = ef ∙ go (arityOf k) (qubits-by k a b c) e
+  unfolding operandsChecked qubitsOf
+  one-checked f ef e = ef ∙ go (arityOf k) refl e
     where
-      go : (m : ℕ) → qubitsOf k a b c ≡ byArity m a b c → (eqb m 1 || eqb m 4) ≡ true → (s ⟫ leb n a ⇒ QubitOutOfRange i a) ≡ operandsChecked s n i [] (qubitsOf k a b c)
+      go : (m : ℕ) → qubitsBy (arityOf k) a b c ≡ qubitsBy m a b c → (eqb m 1 || eqb m 4) ≡ true → (s ⟫ leb n a ⇒ QubitOutOfRange i a) ≡ operandsChecked s n i [] (qubitsOf k a b c)
       go zero q t = let z : _≡_ {A = ℕ} 0 1 = cc in absurd (omega arith)
       go (suc zero) q t = rw q (sym (no-test (s ⟫ leb n a ⇒ QubitOutOfRange i a) (RepeatedOperand i a)))
       go (suc (suc zero)) q t = let z : _≡_ {A = ℕ} 0 1 = cc in absurd (omega arith)
@@ -150,15 +65,15 @@ module _ (s : Checked) (n i : ℕ) (k : GateKind) (a b c : ℕ) where
 
   pub two-checked : (f g h : Checked) → f ≡ (s ⟫ leb n a ⇒ QubitOutOfRange i a) → g ≡ (f ⟫ leb n b ⇒ QubitOutOfRange i b) → h ≡ (g ⟫ eqb b a ⇒ RepeatedOperand i b) → arityOf k ≡ 2
       → h ≡ operandsChecked s n i [] (qubitsOf k a b c)
-  unfolding operandsChecked byArity
-  two-checked f g h ef eg eh e = rw (eh, eg, ef, qubits-by k a b c, e, no-test (s ⟫ leb n a ⇒ QubitOutOfRange i a) (RepeatedOperand i a), or-false (eqb b a))
+  unfolding operandsChecked qubitsOf
+  two-checked f g h ef eg eh e = rw (eh, eg, ef, e, no-test (s ⟫ leb n a ⇒ QubitOutOfRange i a) (RepeatedOperand i a), or-false (eqb b a))
 
   pub three-checked : (f g h j m : Checked) → f ≡ (s ⟫ leb n a ⇒ QubitOutOfRange i a) → g ≡ (f ⟫ leb n b ⇒ QubitOutOfRange i b) → h ≡ (g ⟫ eqb b a ⇒ RepeatedOperand i b)
       → j ≡ (h ⟫ leb n c ⇒ QubitOutOfRange i c) → m ≡ (j ⟫ eqb c b || eqb c a ⇒ RepeatedOperand i c)
       → (arityOf k ≡ 0 → ⊥) → (eqb (arityOf k) 1 || eqb (arityOf k) 4) ≡ false → (arityOf k ≡ 2 → ⊥) → m ≡ operandsChecked s n i [] (qubitsOf k a b c)
-  unfolding operandsChecked byArity
+  unfolding operandsChecked qubitsOf
   three-checked f g h j m ef eg eh ej em n0 n14 n2 =
-      rw (em, ej, eh, eg, ef, qubits-by k a b c, three (arityOf k) (arity-most k) n0 n14 n2, no-test (s ⟫ leb n a ⇒ QubitOutOfRange i a) (RepeatedOperand i a), or-false (eqb b a), or-false (eqb c a))
+      rw (em, ej, eh, eg, ef, three (arityOf k) (arity-most k) n0 n14 n2, no-test (s ⟫ leb n a ⇒ QubitOutOfRange i a) (RepeatedOperand i a), or-false (eqb b a), or-false (eqb c a))
     where
       three : (m : ℕ) → m ≤ 4 → (m ≡ 0 → ⊥) → (eqb m 1 || eqb m 4) ≡ false → (m ≡ 2 → ⊥) → m ≡ 3
       three zero h a b c = absurd (a refl)
@@ -172,7 +87,7 @@ pub record-checked : (s : Checked) (n cbits i number a b c : ℕ) (u q r : Check
     → q ≡ operandsChecked u n i [] (qubitsOf (kindOf number) a b c) → r ≡ (q ⟫ eqb (arityOf (kindOf number)) 4 && leb cbits b ⇒ ClassicalBitOutOfRange i b)
     → r ≡ recordChecked s n cbits i (recordOf number a b c)
 unfolding recordChecked
-record-checked s n cbits i number a b c u q r eu eq er = rw (er, eq, eu, unsupported-by (kindOf number), measure-by (kindOf number))
+record-checked s n cbits i number a b c u q r eu eq er = rw (er, eq, eu)
 
 -- ---- the list
 
@@ -191,8 +106,8 @@ or-assoc true b c = refl
 or-assoc false b c = refl
 
 pub doubly-more : (gs : List ℕ) (i : ℕ) (f : Bool) → i < length gs / 4
-    → (f || anyDoubly (drop i (records gs))) ≡ ((f || leb 2 (testsOf (kindOf (getD gs (4 * i) 0)))) || anyDoubly (drop (i + 1) (records gs)))
-doubly-more gs i f h = rw (drop-record gs i h, add-one i, ← doubly-by (kindOf (getD gs (4 * i) 0))) (or-assoc f (isDoubly (kindOf (getD gs (4 * i) 0))) (anyDoubly (drop (suc i) (records gs))))
+    → (f || anyDoubly (drop i (records gs))) ≡ ((f || isDoubly (kindOf (getD gs (4 * i) 0))) || anyDoubly (drop (i + 1) (records gs)))
+doubly-more gs i f h = rw (drop-record gs i h, add-one i) (or-assoc f (isDoubly (kindOf (getD gs (4 * i) 0))) (anyDoubly (drop (suc i) (records gs))))
 
 pub doubly-end : (gs : List ℕ) (i : ℕ) (f : Bool) → length gs / 4 ≤ i → (f || anyDoubly (drop i (records gs))) ≡ f
 doubly-end gs i f h = rw (no-more gs i h) (or-false f)
@@ -276,23 +191,7 @@ clifford-checked h nodes fs kind a b x y z r₁ r₂ r₃ r₄ r₅ ex ey ez e�
     rw (e₅, e₄, e₃, e₂, e₁, ex, ey, ez, frame-by (kindOf kind) a b, nodes-by (kindOf kind) a b)
 
 pub measures-by : (k : GateKind) → (arityOf k ≡ 4 → 1 ≡ measuresOf k) × ((arityOf k ≡ 4 → ⊥) → 0 ≡ measuresOf k)
-measures-by KindH = ((λ e. absurd (omega arith)), λ e. refl)
-measures-by KindX = ((λ e. absurd (omega arith)), λ e. refl)
-measures-by KindZ = ((λ e. absurd (omega arith)), λ e. refl)
-measures-by KindS = ((λ e. absurd (omega arith)), λ e. refl)
-measures-by KindSdg = ((λ e. absurd (omega arith)), λ e. refl)
-measures-by KindT = ((λ e. absurd (omega arith)), λ e. refl)
-measures-by KindTdg = ((λ e. absurd (omega arith)), λ e. refl)
-measures-by KindCnot = ((λ e. absurd (omega arith)), λ e. refl)
-measures-by KindCz = ((λ e. absurd (omega arith)), λ e. refl)
-measures-by KindCcx = ((λ e. absurd (omega arith)), λ e. refl)
-measures-by KindCcz = ((λ e. absurd (omega arith)), λ e. refl)
-measures-by KindMeasure = ((λ e. refl), λ e. absurd (e refl))
-measures-by KindY = ((λ e. absurd (omega arith)), λ e. refl)
-measures-by KindSx = ((λ e. absurd (omega arith)), λ e. refl)
-measures-by KindSwap = ((λ e. absurd (omega arith)), λ e. refl)
-measures-by KindCy = ((λ e. absurd (omega arith)), λ e. refl)
-measures-by Unsupported = ((λ e. absurd (omega arith)), λ e. refl)
+measures-by k = ((λ e. rw (eq-eqb (arityOf k) 4 e)), λ h. rw (ne-eqb (arityOf k) 4 h))
 
 -- ---- a record that passes its checks
 
@@ -303,31 +202,31 @@ and-both false b e = (e, (let z : _≡_ {A = ℕ} 0 1 = cc in absurd (omega arit
 below : (a n : ℕ) → ltb a n ≡ true → leb n a ≡ false
 below a n e = lt-leb n a (ltb-true a n e)
 
-sound-by : (s : Checked) (n cbits i number m a b c : ℕ) (q : List ℕ) → q ≡ byArity m a b c → m ≤ 4 → (not (eqb m 0) && ltb a n) ≡ true
+sound-by : (s : Checked) (n cbits i number m a b c : ℕ) → m ≤ 4 → (not (eqb m 0) && ltb a n) ≡ true
     → ((ltb b n && not (eqb b a)) || not (eqb m 2 || eqb m 3)) ≡ true → ((ltb c n && (not (eqb c a) && not (eqb c b))) || not (eqb m 3)) ≡ true → (ltb b cbits || not (eqb m 4)) ≡ true
-    → (operandsChecked (s ⟫ eqb m 0 ⇒ UnsupportedGate i number) n i [] q ⟫ eqb m 4 && leb cbits b ⇒ ClassicalBitOutOfRange i b) ≡ s
-unfolding operandsChecked byArity _⟫_⇒_
-sound-by s n cbits i number zero a b c q eq h h₁ h₂ h₃ h₄ = let z : _≡_ {A = ℕ} 0 1 = cc in absurd (omega arith)
-sound-by (Wrong e) n cbits i number (suc zero) a b c q eq h h₁ h₂ h₃ h₄ = rw eq
-sound-by (Wrong e) n cbits i number (suc (suc zero)) a b c q eq h h₁ h₂ h₃ h₄ = rw eq
-sound-by (Wrong e) n cbits i number (suc (suc (suc zero))) a b c q eq h h₁ h₂ h₃ h₄ = rw eq
-sound-by (Wrong e) n cbits i number (suc (suc (suc (suc zero)))) a b c q eq h h₁ h₂ h₃ h₄ = rw eq
-sound-by Fine n cbits i number (suc zero) a b c q eq h h₁ h₂ h₃ h₄ = rw (eq, below a n h₁)
-sound-by Fine n cbits i number (suc (suc zero)) a b c q eq h h₁ h₂ h₃ h₄ =
+    → (operandsChecked (s ⟫ eqb m 0 ⇒ UnsupportedGate i number) n i [] (qubitsBy m a b c) ⟫ eqb m 4 && leb cbits b ⇒ ClassicalBitOutOfRange i b) ≡ s
+unfolding operandsChecked _⟫_⇒_
+sound-by s n cbits i number zero a b c h h₁ h₂ h₃ h₄ = let z : _≡_ {A = ℕ} 0 1 = cc in absurd (omega arith)
+sound-by (Wrong e) n cbits i number (suc zero) a b c h h₁ h₂ h₃ h₄ = refl
+sound-by (Wrong e) n cbits i number (suc (suc zero)) a b c h h₁ h₂ h₃ h₄ = refl
+sound-by (Wrong e) n cbits i number (suc (suc (suc zero))) a b c h h₁ h₂ h₃ h₄ = refl
+sound-by (Wrong e) n cbits i number (suc (suc (suc (suc zero)))) a b c h h₁ h₂ h₃ h₄ = refl
+sound-by Fine n cbits i number (suc zero) a b c h h₁ h₂ h₃ h₄ = rw (below a n h₁)
+sound-by Fine n cbits i number (suc (suc zero)) a b c h h₁ h₂ h₃ h₄ =
     let p = and-both (ltb b n) (not (eqb b a)) (sym (or-false (ltb b n && not (eqb b a))) ∙ h₂) in
-    rw (eq, below a n h₁, below b n (p .0), not-true (eqb b a) (p .1))
-sound-by Fine n cbits i number (suc (suc (suc zero))) a b c q eq h h₁ h₂ h₃ h₄ =
+    rw (below a n h₁, below b n (p .0), not-true (eqb b a) (p .1))
+sound-by Fine n cbits i number (suc (suc (suc zero))) a b c h h₁ h₂ h₃ h₄ =
     let p = and-both (ltb b n) (not (eqb b a)) (sym (or-false (ltb b n && not (eqb b a))) ∙ h₂) in
     let r = and-both (ltb c n) (not (eqb c a) && not (eqb c b)) (sym (or-false (ltb c n && (not (eqb c a) && not (eqb c b)))) ∙ h₃) in
     let t = and-both (not (eqb c a)) (not (eqb c b)) (r .1) in
-    rw (eq, below a n h₁, below b n (p .0), not-true (eqb b a) (p .1), below c n (r .0), not-true (eqb c a) (t .0), not-true (eqb c b) (t .1))
-sound-by Fine n cbits i number (suc (suc (suc (suc zero)))) a b c q eq h h₁ h₂ h₃ h₄ = rw (eq, below a n h₁, below b cbits (sym (or-false (ltb b cbits)) ∙ h₄))
-sound-by s n cbits i number (suc (suc (suc (suc (suc m))))) a b c q eq h h₁ h₂ h₃ h₄ = absurd (omega arith)
+    rw (below a n h₁, below b n (p .0), not-true (eqb b a) (p .1), below c n (r .0), not-true (eqb c a) (t .0), not-true (eqb c b) (t .1))
+sound-by Fine n cbits i number (suc (suc (suc (suc zero)))) a b c h h₁ h₂ h₃ h₄ = rw (below a n h₁, below b cbits (sym (or-false (ltb b cbits)) ∙ h₄))
+sound-by s n cbits i number (suc (suc (suc (suc (suc m))))) a b c h h₁ h₂ h₃ h₄ = absurd (omega arith)
 
 pub sound-record : (s : Checked) (n cbits i number a b c : ℕ) (k : GateKind) (m : ℕ) → k ≡ kindOf number → m ≡ arityOf k
     → (((not (eqb m 0) && ltb a n) && ((ltb b n && not (eqb b a)) || not (eqb m 2 || eqb m 3))) && (((ltb c n && (not (eqb c a) && not (eqb c b))) || not (eqb m 3)) && (ltb b cbits || not (eqb m 4)))) ≡ true
     → recordChecked s n cbits i (recordOf number a b c) ≡ s
-unfolding recordChecked
+unfolding recordChecked qubitsOf
 sound-record s n cbits i number a b c k m ek em e =
     let first = not (eqb m 0) && ltb a n in
     let second = (ltb b n && not (eqb b a)) || not (eqb m 2 || eqb m 3) in
@@ -336,8 +235,8 @@ sound-record s n cbits i number a b c k m ek em e =
     let p = and-both (first && second) (third && target) e in
     let p₁ = and-both first second (p .0) in
     let p₂ = and-both third target (p .1) in
-    rw (← ek, unsupported-by k, measure-by k, ← em)
-    (sound-by s n cbits i number m a b c (qubitsOf k a b c) (rw em (qubits-by k a b c)) (rw em (arity-most k)) (p₁ .0) (p₁ .1) (p₂ .0) (p₂ .1))
+    rw (← ek, ← em)
+    (sound-by s n cbits i number m a b c (rw em (arity-most k)) (p₁ .0) (p₁ .1) (p₂ .0) (p₂ .1))
 
 -- the list so far is sound, as is this record
 pub sound-more : (f g : Bool) (n cbits : ℕ) (gs : List ℕ) (i : ℕ) → i < length gs / 4

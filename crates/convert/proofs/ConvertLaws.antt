@@ -25,8 +25,8 @@ use Rattle.convert.specs.Frame.{startArena}
 use Rattle.convert.specs.Words.{flat, startWords}
 use Rattle.convert.specs.Needs.{Needs}
 use Rattle.convert.specs.Planes.{partWords, packed}
-use Rattle.convert.specs.Conversion.{Input, recordsChecked, capTooSmall, planesTooFew, maxGateWords, limits, gatesCheck, convertCheck, gatesIn, plainEnd, tableEnd, wordEnd, planesAs, planesAfter, convertWithin, convertStep, ConvertedMade, ConvertedRefused, inputOf}
-use Rattle.convert.specs.Raw.{restOf, isCapped, planesFor, Fits, Room, gatesChecked, roomChecked, plainLast, wordsLast, needsLast, needsOf, headerOf}
+use Rattle.convert.specs.Conversion.{Input, recordsChecked, capTooSmall, planesTooFew, maxGateWords, limits, gatesCheck, convertCheck, gatesIn, plainEnd, tableEnd, wordEnd, planesAs, planesAfter, convertWithin, convertStep, ConvertedMade, ConvertedRefused, inputOf, gatesChecked, roomChecked}
+use Rattle.convert.specs.Raw.{restOf, isCapped, planesFor, Fits, Room, plainLast, wordsLast, needsLast, needsOf, headerOf}
 use Rattle.convert.proofs.Accepting.{bare-placed, proper-records, passed-records}
 use Rattle.convert.proofs.Counting.{needed}
 use Rattle.convert.proofs.RestLaws.{rest-more}
@@ -127,7 +127,7 @@ planes-fit : (cap : Cap) (n m : ℕ) → planesTooFew cap n m ≡ false → isCa
 planes-fit NoCap n m e on = let z : _≡_ {A = ℕ} 0 1 = cc in absurd (omega arith)
 planes-fit (AtMost most) n m e on = rw (four-times n (partWords n)) (ltb-false _ _ e)
 
-pub gates-fit : (n cbits : ℕ) (cap : Cap) (gs : List ℕ) (m : ℕ) → gatesChecked n cbits cap gs m ≡ Fine → GatesFit n cbits cap gs m
+pub gates-fit : (n cbits : ℕ) (cap : Cap) (gs : List ℕ) (m : ℕ) → gatesChecked limits n cbits cap gs m ≡ Fine → GatesFit n cbits cap gs m
 unfolding gatesChecked lowerAll
 gates-fit n cbits cap gs m e₁₂ =
     let e₁₁ = passed-before _ _ _ e₁₂ in
@@ -166,7 +166,7 @@ module _ (q c o : ℕ) (cap : Cap) (gs ns os fs ps : List ℕ) where
   abbrev x : Input
   x = inputOf q c o cap gs ns os fs ps
 
-  gates-check : gatesCheck limits x ≡ gatesChecked q c cap gs (length ps)
+  gates-check : gatesCheck limits x ≡ gatesChecked limits q c cap gs (length ps)
   unfolding gatesCheck gatesChecked
   gates-check = refl
 
@@ -180,25 +180,25 @@ module _ (q c o : ℕ) (cap : Cap) (gs ns os fs ps : List ℕ) where
       go (AtMost most) e = ap (λ (t : List Row). overlay (packed q t) ps) e
 
   -- refused before anything is counted
-  pub refused-first : (e : PbcError) → gatesChecked q c cap gs (length ps) ≡ Wrong e
+  pub refused-first : (e : PbcError) → gatesChecked limits q c cap gs (length ps) ≡ Wrong e
       → (ConvertedRefused e ≡ convertStep x .answer) × ((ns ≡ convertStep x .nodes) × ((os ≡ convertStep x .operations) × ((fs ≡ convertStep x .frame) × (ps ≡ convertStep x .planes))))
-  unfolding convertStep convertWithin convertCheck _⟫_⇒_
+  unfolding convertStep convertWithin convertCheck roomChecked _⟫_⇒_
   refused-first e h = rw (gates-check, h) (refl, (refl, (refl, (refl, refl))))
 
-  module _ (passed : gatesChecked q c cap gs (length ps) ≡ Fine) (k m : ℕ) (ek : k ≡ wordsLast q cap gs .arena .count) (em : m ≡ length (wordsLast q cap gs .ops)) where
-    room-check : convertCheck limits x ≡ roomChecked k m q (length fs) (length ns) (length os)
+  module _ (passed : gatesChecked limits q c cap gs (length ps) ≡ Fine) (k m : ℕ) (ek : k ≡ wordsLast q cap gs .arena .count) (em : m ≡ length (wordsLast q cap gs .ops)) where
+    room-check : convertCheck limits x ≡ roomChecked limits Fine k m q (length fs) (length ns) (length os)
     unfolding convertCheck roomChecked wordEnd gatesIn
     room-check = rw (gates-check, passed, ek, em)
 
     planes-after : planesAfter (gatesCheck limits x) x ≡ planesFor cap q (plainLast q cap gs .table) ps
     planes-after = rw (gates-check, passed) (sym planes-as)
 
-    pub refused-second : (e : PbcError) (ps′ : List ℕ) → roomChecked k m q (length fs) (length ns) (length os) ≡ Wrong e → ps′ ≡ planesFor cap q (plainLast q cap gs .table) ps
+    pub refused-second : (e : PbcError) (ps′ : List ℕ) → roomChecked limits Fine k m q (length fs) (length ns) (length os) ≡ Wrong e → ps′ ≡ planesFor cap q (plainLast q cap gs .table) ps
         → (ConvertedRefused e ≡ convertStep x .answer) × ((ns ≡ convertStep x .nodes) × ((os ≡ convertStep x .operations) × ((fs ≡ convertStep x .frame) × (ps′ ≡ convertStep x .planes))))
     unfolding convertStep convertWithin
     refused-second e ps′ h ep = rw (room-check, h) (refl, (refl, (refl, (refl, ep ∙ sym planes-after))))
 
-    pub made : roomChecked k m q (length fs) (length ns) (length os) ≡ Fine → (r₁ r₂ r₃ : ℕ) (ns′ os′ fs′ ps′ : List ℕ)
+    pub made : roomChecked limits Fine k m q (length fs) (length ns) (length os) ≡ Fine → (r₁ r₂ r₃ : ℕ) (ns′ os′ fs′ ps′ : List ℕ)
         → r₁ ≡ wordsLast q cap gs .arena .count → r₂ ≡ length (wordsLast q cap gs .ops) → r₃ ≡ plainLast q cap gs .given
         → ns′ ≡ overlay (wordsLast q cap gs .arena .nodes) ns → os′ ≡ overlay (flat (wordsLast q cap gs .ops)) os → fs′ ≡ overlay (wordsLast q cap gs .arena .frame) fs
         → ps′ ≡ planesFor cap q (plainLast q cap gs .table) ps
@@ -206,7 +206,7 @@ module _ (q c o : ℕ) (cap : Cap) (gs ns os fs ps : List ℕ) where
     unfolding convertStep convertWithin wordEnd plainEnd gatesIn
     made h r₁ r₂ r₃ ns′ os′ fs′ ps′ e₁ e₂ e₃ en eo ef ep = rw (room-check, h) (rw (e₁, e₂, e₃), (en, (eo, (ef, ep ∙ sym planes-after))))
 
-room-parts : (k m q frame ns os : ℕ) → roomChecked k m q frame ns os ≡ Fine → (2 * q ≤ frame) × (k ≤ ns / nodeWords)
+room-parts : (k m q frame ns os : ℕ) → roomChecked limits Fine k m q frame ns os ≡ Fine → (2 * q ≤ frame) × (k ≤ ns / nodeWords)
 unfolding roomChecked
 room-parts k m q frame ns os e =
     let e₁₄ = passed-before _ _ _ e in
@@ -214,14 +214,14 @@ room-parts k m q frame ns os e =
     (ltb-false _ _ (test-passed _ _ _ e₁₃), ltb-false _ _ (right-false (ltb maxNodes k) _ (test-passed _ _ _ e₁₄)))
 
 -- a fresh circuit fits where the conversion does
-pub new-fine : (q c : ℕ) (gs : List ℕ) (cap : Cap) (ns os fs ps : List ℕ) (k m : ℕ) → GatesFit q c cap gs (length ps) → roomChecked k m q (length fs) (length ns) (length os) ≡ Fine → 1 + 2 * q ≤ k
+pub new-fine : (q c : ℕ) (gs : List ℕ) (cap : Cap) (ns os fs ps : List ℕ) (k m : ℕ) → GatesFit q c cap gs (length ps) → roomChecked limits Fine k m q (length fs) (length ns) (length os) ≡ Fine → 1 + 2 * q ≤ k
     → newCheck q c (length ns) (length fs) ≡ Fine
 unfolding newCheck _⟫_⇒_
 new-fine q c gs cap ns os fs ps k m g e h =
     let r = room-parts k m q (length fs) (length ns) (length os) e in
     rw (le-ltb 256 q (g .qubits), le-ltb 65536 c (g .cbits-fit), le-ltb (length fs) (2 * q) (r .0), le-ltb (length ns / nodeWords) (1 + 2 * q) (omega (arith, r .1, h)))
 
-pub room-from : (q : ℕ) (cap : Cap) (gs ns os fs : List ℕ) (k m : ℕ) → roomChecked k m q (length fs) (length ns) (length os) ≡ Fine → k ≡ needsLast q cap gs .nodes → m ≡ needsLast q cap gs .operations
+pub room-from : (q : ℕ) (cap : Cap) (gs ns os fs : List ℕ) (k m : ℕ) → roomChecked limits Fine k m q (length fs) (length ns) (length os) ≡ Fine → k ≡ needsLast q cap gs .nodes → m ≡ needsLast q cap gs .operations
     → Room q cap gs ns os × (2 * q ≤ length fs)
 unfolding roomChecked
 room-from q cap gs ns os fs k m e ek em =
@@ -268,11 +268,11 @@ over-frame q cap gs fs fs′ fs″ e₁ e₂ len =
 
 pub gates-checked : (n cbits : ℕ) (cap : Cap) (gs : List ℕ) (m : ℕ) (r₁ r₂ r₃ r₄ r₅ : Checked) (x y : Bool) → r₁ ≡ (Fine ⟫ ltb maxQubits n || ltb maxCbits cbits ⇒ TooManyQubits)
     → r₂ ≡ (r₁ ⟫ not (eqb (length gs % 4) 0) || ltb maxGateWords (length gs) ⇒ BrokenGateList) → r₃ ≡ recordsChecked r₂ n cbits 0 (records gs)
-    → x ≡ capTooSmall cap (records gs) → r₄ ≡ (r₃ ⟫ x ⇒ CapTooSmall) → y ≡ planesTooFew cap n m → r₅ ≡ (r₄ ⟫ y ⇒ NoPlanes) → r₅ ≡ gatesChecked n cbits cap gs m
+    → x ≡ capTooSmall cap (records gs) → r₄ ≡ (r₃ ⟫ x ⇒ CapTooSmall) → y ≡ planesTooFew cap n m → r₅ ≡ (r₄ ⟫ y ⇒ NoPlanes) → r₅ ≡ gatesChecked limits n cbits cap gs m
 unfolding gatesChecked
 gates-checked n cbits cap gs m r₁ r₂ r₃ r₄ r₅ x y e₁ e₂ e₃ ex e₄ ey e₅ = rw (e₅, e₄, e₃, e₂, e₁, ex, ey)
 
 pub room-checked : (k m n frame ns os : ℕ) (r₁ r₂ r₃ : Checked) → r₁ ≡ (Fine ⟫ ltb frame (2 * n) ⇒ NoFrame) → r₂ ≡ (r₁ ⟫ ltb maxNodes k || ltb (ns / nodeWords) k ⇒ NoNodes)
-    → r₃ ≡ (r₂ ⟫ ltb maxOperations m || ltb (os / operationWords) m ⇒ NoOperations) → r₃ ≡ roomChecked k m n frame ns os
+    → r₃ ≡ (r₂ ⟫ ltb maxOperations m || ltb (os / operationWords) m ⇒ NoOperations) → r₃ ≡ roomChecked limits Fine k m n frame ns os
 unfolding roomChecked
 room-checked k m n frame ns os r₁ r₂ r₃ e₁ e₂ e₃ = rw (e₃, e₂, e₁)

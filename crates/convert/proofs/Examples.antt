@@ -24,13 +24,13 @@ use Rattle.convert.specs.Plain.{begin, tested, exceeds, flushed, perform
 use Rattle.convert.specs.Frame.{startArena, pushed, multiplied, frameStep, qubitsOf, operandsChecked, frameGates, frameRun, cliffordCheck, cliffordStep}
 use Rattle.convert.specs.Words.{startWords, flushGate, flushGates, flushWords, writeSeven, write, wordStep, wordRun}
 use Rattle.convert.specs.Planes.{mask, digits, rowWords, rowsWords, images, packed}
-use Rattle.convert.specs.Conversion.{limits, Input, gatesIn, plainEnd, tableEnd, wordEnd, recordChecked, recordsChecked, gatesCheck, convertCheck, convertWithin, convertStep}
+use Rattle.convert.specs.Conversion.{limits, Input, gatesIn, plainEnd, tableEnd, wordEnd, recordChecked, recordsChecked, gatesCheck, convertCheck, convertWithin, convertStep, gatesChecked, roomChecked}
 use Rattle.convert.specs.Later.{converted, Call, callFrame, callSingle, callProduct, callRotate, callMeasure, callConditional, callExpand, accepts, later, laters, flags}
 use Rattle.convert.specs.Circuits.{gate, reference}
 
 -- n qubits, 2 classical bits, owner 7, room for so many nodes and operations
 input : ℕ → Cap → ℕ → ℕ → List ℕ → Input
-unfolding power flush start step _⟫_⇒_ decode nodeAt dense walk breaksLimit exceedsNodes exceedsOperations foreign unknown noNodeRoom noOperationRoom singleCheck singleStep productCheck productStep rotateCheck rotateStep measureCheck measureStep conditionalCheck conditionalStep expandWalk expandCheck expandStep records kindOf lowerAs lower lowerFrom lowerAll begin tested exceeds flushed performAs plainStep plainRun rowsAfter tableRun startArena pushed multiplied frameStep qubitsOf operandsChecked frameGates frameRun cliffordCheck cliffordStep startWords flushGate flushGates flushWords writeSeven write wordStep wordRun mask digits rowWords rowsWords images packed gatesIn plainEnd tableEnd wordEnd recordChecked recordsChecked gatesCheck convertCheck convertWithin convertStep converted accepts later laters flags
+unfolding power flush start step _⟫_⇒_ decode nodeAt dense walk breaksLimit exceedsNodes exceedsOperations foreign unknown noNodeRoom noOperationRoom singleCheck singleStep productCheck productStep rotateCheck rotateStep measureCheck measureStep conditionalCheck conditionalStep expandWalk expandCheck expandStep records kindOf lowerAs lower lowerFrom lowerAll begin tested exceeds flushed performAs plainStep plainRun rowsAfter tableRun startArena pushed multiplied frameStep qubitsOf operandsChecked frameGates frameRun cliffordCheck cliffordStep startWords flushGate flushGates flushWords writeSeven write wordStep wordRun mask digits rowWords rowsWords images packed gatesIn plainEnd tableEnd wordEnd recordChecked recordsChecked gatesCheck gatesChecked convertCheck roomChecked convertWithin convertStep converted accepts later laters flags
 input n cap nodes ops gs = record {
   qubits = n;
   cbits = 2;

@@ -14,14 +14,14 @@ use Rattle.convert.specs.Records.{NoCap, records, kindOf, lowerAs, lower
 use Rattle.convert.specs.Plain.{begin, tested, exceeds, flushed, performAs, plainStep, plainRun, rowsAfter, tableRun}
 use Rattle.convert.specs.Frame.{startArena, pushed, multiplied, frameStep, qubitsOf, operandsChecked, frameGates, frameRun, cliffordCheck, cliffordStep}
 use Rattle.convert.specs.Words.{startWords, write, wordStep, wordRun}
-use Rattle.convert.specs.Conversion.{Input, gatesIn, plainEnd, tableEnd, wordEnd, recordChecked, recordsChecked, gatesCheck, convertCheck, convertWithin, convertStep, ConvertedMade, inputOf}
+use Rattle.convert.specs.Conversion.{Input, gatesIn, plainEnd, tableEnd, wordEnd, recordChecked, recordsChecked, gatesCheck, convertCheck, convertWithin, convertStep, ConvertedMade, inputOf, gatesChecked, roomChecked}
 use Rattle.convert.specs.Later.{converted, accepts, later, laters, flags}
 use Rattle.convert.specs.LaterCalls.{callIn, wordsAt, operationsAfter, called, ranTo, callsTo, ran, callsOf, convertedCircuit, runStep}
 use Rattle.convert.specs.Circuits.{gate}
 
 -- n = 2, 2 classical bits, owner 7; h 0, measure 0 into 1; room for 8 nodes and 5 operations
 lent : Input
-unfolding power flush start step _⟫_⇒_ breaksLimit exceedsNodes exceedsOperations foreign unknown noNodeRoom noOperationRoom singleCheck singleStep productCheck productStep rotateCheck rotateStep measureCheck measureStep conditionalCheck conditionalStep records kindOf lowerAs lower lowerFrom lowerAll begin tested exceeds flushed performAs plainStep plainRun rowsAfter tableRun startArena pushed multiplied frameStep qubitsOf operandsChecked frameGates frameRun cliffordCheck cliffordStep startWords write wordStep wordRun gatesIn plainEnd tableEnd wordEnd recordChecked recordsChecked gatesCheck convertCheck convertWithin convertStep converted accepts later laters flags callIn wordsAt operationsAfter called ranTo callsTo ran callsOf convertedCircuit runStep
+unfolding power flush start step _⟫_⇒_ breaksLimit exceedsNodes exceedsOperations foreign unknown noNodeRoom noOperationRoom singleCheck singleStep productCheck productStep rotateCheck rotateStep measureCheck measureStep conditionalCheck conditionalStep records kindOf lowerAs lower lowerFrom lowerAll begin tested exceeds flushed performAs plainStep plainRun rowsAfter tableRun startArena pushed multiplied frameStep qubitsOf operandsChecked frameGates frameRun cliffordCheck cliffordStep startWords write wordStep wordRun gatesIn plainEnd tableEnd wordEnd recordChecked recordsChecked gatesCheck gatesChecked convertCheck roomChecked convertWithin convertStep converted accepts later laters flags callIn wordsAt operationsAfter called ranTo callsTo ran callsOf convertedCircuit runStep
 lent = inputOf 2 2 7 NoCap (gate 0 0 0 0 ++ gate 12 0 1 0) (replicate 16 9) (replicate 20 9) (replicate 5 9) []
 
 words : List ℕ

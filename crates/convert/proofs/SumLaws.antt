@@ -16,7 +16,8 @@ use Rattle.convert.specs.Types.{PbcError, NoFrame, NoNodes, NoOperations
 use Rattle.convert.specs.Records.{Cap, NoCap, AtMost, placedFrom, Record, records, kindOf, lower, lowerAs, lowerFrom, lowerAll}
 use Rattle.convert.specs.Plain.{Plain, begin, plainRun}
 use Rattle.convert.specs.Needs.{Needs, needRun}
-use Rattle.convert.specs.Raw.{anyExceeds, isCapped, costOf, costs, summed, needed, countFor, needsOf, planesFor, plainLast, needsLast, roomChecked, NeedsChecked}
+use Rattle.convert.specs.Conversion.{roomChecked, limits}
+use Rattle.convert.specs.Raw.{anyExceeds, isCapped, costOf, costs, summed, needed, countFor, needsOf, planesFor, plainLast, needsLast, NeedsChecked}
 use Rattle.convert.specs.declared.frame_gate.planes.count.Needed.{Needed}
 use Rattle.convert.proofs.CountLaws.{never, planes-over}
 use Rattle.convert.proofs.RecordSteps.{run-append, need-append, count-one}
@@ -87,7 +88,7 @@ sum-end gs i k h = rw (no-more gs i h)
 
 -- ---- the room
 
-room-less : (k m k′ m′ n frame ns os : ℕ) → k ≤ k′ → m ≤ m′ → roomChecked k′ m′ n frame ns os ≡ Fine → Fine ≡ roomChecked k m n frame ns os
+room-less : (k m k′ m′ n frame ns os : ℕ) → k ≤ k′ → m ≤ m′ → roomChecked limits Fine k′ m′ n frame ns os ≡ Fine → Fine ≡ roomChecked limits Fine k m n frame ns os
 unfolding roomChecked _⟫_⇒_
 room-less k m k′ m′ n frame ns os hk hm e =
     let e₁₄ = passed-before (Fine ⟫ ltb frame (2 * n) ⇒ NoFrame ⟫ ltb maxNodes k′ || ltb (ns / nodeWords) k′ ⇒ NoNodes) (ltb maxOperations m′ || ltb (os / operationWords) m′) NoOperations e in
@@ -105,18 +106,18 @@ not-wrong : (e : PbcError) → Fine ≡ Wrong e → ⊥
 not-wrong e p = let z : _≡_ {A = ℕ} 0 1 = cc in omega arith
 
 -- without a cap the sums are the needs
-pub summed-needs : (n : ℕ) (gs ps : List ℕ) (frame ns os : ℕ) (k : Needed) (r : Checked) → k ≡ most n NoCap gs → r ≡ roomChecked (k .nodes) (k .operations) n frame ns os
+pub summed-needs : (n : ℕ) (gs ps : List ℕ) (frame ns os : ℕ) (k : Needed) (r : Checked) → k ≡ most n NoCap gs → r ≡ roomChecked limits Fine (k .nodes) (k .operations) n frame ns os
     → NeedsChecked n NoCap gs frame ns os ps r ps
 summed-needs n gs ps frame ns os k r ek er =
     let h = uncapped-needs n gs in
     record { same = er ∙ rw (ek, h .0, h .1); planes = λ t. refl; ended = λ w q. refl }
 
 -- the most that can be needed fits
-pub fits-most : (n m : ℕ) (gs ps : List ℕ) (frame ns os : ℕ) (k : Needed) (r : Checked) → k ≡ most n (AtMost m) gs → r ≡ roomChecked (k .nodes) (k .operations) n frame ns os → r ≡ Fine
+pub fits-most : (n m : ℕ) (gs ps : List ℕ) (frame ns os : ℕ) (k : Needed) (r : Checked) → k ≡ most n (AtMost m) gs → r ≡ roomChecked limits Fine (k .nodes) (k .operations) n frame ns os → r ≡ Fine
     → NeedsChecked n (AtMost m) gs frame ns os ps r ps
 fits-most n m gs ps frame ns os k r ek er e =
     let h = capped-needs n m gs in
-    let f : roomChecked (most n (AtMost m) gs .nodes) (most n (AtMost m) gs .operations) n frame ns os ≡ Fine = ap (λ (c : Needed). roomChecked (c .nodes) (c .operations) n frame ns os) (sym ek) ∙ sym er ∙ e in
+    let f : roomChecked limits Fine (most n (AtMost m) gs .nodes) (most n (AtMost m) gs .operations) n frame ns os ≡ Fine = ap (λ (c : Needed). roomChecked limits Fine (c .nodes) (c .operations) n frame ns os) (sym ek) ∙ sym er ∙ e in
     record {
       same = e ∙ room-less _ _ _ _ n frame ns os (h .0) (h .1) f;
       planes = λ t. refl;
@@ -125,7 +126,7 @@ fits-most n m gs ps frame ns os k r ek er e =
 
 -- what is needed was counted
 pub counted : (n m : ℕ) (gs ps ps′ : List ℕ) (frame ns os : ℕ) (k : Needed) (r : Checked)
-    → k ≡ countFor (plainLast n (AtMost m) gs) (needsLast n (AtMost m) gs) → ps′ ≡ planesFor (AtMost m) n (plainLast n (AtMost m) gs .table) ps → r ≡ roomChecked (k .nodes) (k .operations) n frame ns os
+    → k ≡ countFor (plainLast n (AtMost m) gs) (needsLast n (AtMost m) gs) → ps′ ≡ planesFor (AtMost m) n (plainLast n (AtMost m) gs .table) ps → r ≡ roomChecked limits Fine (k .nodes) (k .operations) n frame ns os
     → NeedsChecked n (AtMost m) gs frame ns os ps r ps′
 counted n m gs ps ps′ frame ns os k r ek ep er = record {
   same = er ∙ rw ek;

@@ -1,5 +1,5 @@
 -- What a conversion answers, and what it leaves in the slices lent: for acceptance and every refusal.
-use mathlib.Core.Bool.{Bool, true, false, not, _&&_, _||_}
+use mathlib.Core.Bool.{Bool, false, not, _&&_, _||_}
 use mathlib.Core.List.{List, [], _∷_}
 use Prim.Native.Nat.{ℕ, suc, _*_, _/_, _%_}
 use lib.Dec.{ltb, leb, eqb}
@@ -11,7 +11,7 @@ use Rattle.arena.specs.Limits.{maxQubits, maxCbits, maxNodes, maxOperations, no
 use Rattle.arena.specs.Errors.{_⟫_⇒_}
 use Rattle.arena.specs.Builder.{overlay}
 use Rattle.convert.specs.Types.{Header, TooManyQubits, BrokenGateList, UnsupportedGate, ClassicalBitOutOfRange, CapTooSmall, NoPlanes, NoFrame, NoNodes, NoOperations, Checked, Fine, Wrong}
-use Rattle.convert.specs.Records.{GateKind, KindH, KindX, KindZ, KindS, KindSdg, KindT, KindTdg, KindCnot, KindCz, KindCcx, KindCcz, KindMeasure, KindY, KindSx, KindSwap, KindCy, Unsupported, Cap, NoCap, AtMost, Record, records, kindOf, Elementary, Placed, lowerAll, bare}
+use Rattle.convert.specs.Records.{GateKind, arityOf, Cap, NoCap, AtMost, Record, records, kindOf, Elementary, Placed, lowerAll, bare}
 use Rattle.convert.specs.Plain.{Plain, begin, plainRun, tableRun}
 use Rattle.convert.specs.Paper.{Paper, paperRun, paperBegin}
 use Rattle.convert.specs.Frame.{qubitsOf, operandsChecked}
@@ -63,62 +63,15 @@ wordEnd x = wordRun (x .qubits) (x .cap) (gatesIn x) (begin (x .qubits)) (startW
 
 -- ---- checks of the gate list
 
-abbrev pub isMeasure : GateKind → Bool
-isMeasure KindMeasure = true
-isMeasure KindH = false
-isMeasure KindX = false
-isMeasure KindZ = false
-isMeasure KindS = false
-isMeasure KindSdg = false
-isMeasure KindT = false
-isMeasure KindTdg = false
-isMeasure KindCnot = false
-isMeasure KindCz = false
-isMeasure KindCcx = false
-isMeasure KindCcz = false
-isMeasure KindY = false
-isMeasure KindSx = false
-isMeasure KindSwap = false
-isMeasure KindCy = false
-isMeasure Unsupported = false
-
-abbrev pub isDoubly : GateKind → Bool
-isDoubly KindCcx = true
-isDoubly KindCcz = true
-isDoubly KindH = false
-isDoubly KindX = false
-isDoubly KindZ = false
-isDoubly KindS = false
-isDoubly KindSdg = false
-isDoubly KindT = false
-isDoubly KindTdg = false
-isDoubly KindCnot = false
-isDoubly KindCz = false
-isDoubly KindMeasure = false
-isDoubly KindY = false
-isDoubly KindSx = false
-isDoubly KindSwap = false
-isDoubly KindCy = false
-isDoubly Unsupported = false
-
 abbrev pub isUnsupported : GateKind → Bool
-isUnsupported Unsupported = true
-isUnsupported KindH = false
-isUnsupported KindX = false
-isUnsupported KindZ = false
-isUnsupported KindS = false
-isUnsupported KindSdg = false
-isUnsupported KindT = false
-isUnsupported KindTdg = false
-isUnsupported KindCnot = false
-isUnsupported KindCz = false
-isUnsupported KindCcx = false
-isUnsupported KindCcz = false
-isUnsupported KindMeasure = false
-isUnsupported KindY = false
-isUnsupported KindSx = false
-isUnsupported KindSwap = false
-isUnsupported KindCy = false
+isUnsupported k = eqb (arityOf k) 0
+
+-- ccx and ccz
+abbrev pub isDoubly : GateKind → Bool
+isDoubly k = eqb (arityOf k) 3
+
+abbrev pub isMeasure : GateKind → Bool
+isMeasure k = eqb (arityOf k) 4
 
 -- the checks so far, then those of gate i: 5, then 7 and 8 operand by operand, then 9
 unfoldable pub recordChecked : Checked → ℕ → ℕ → ℕ → Record → Checked
@@ -166,24 +119,32 @@ pub record Limits : Type 0 where
 abbrev pub limits : Limits
 limits = record { qubits = maxQubits; cbits = maxCbits; gateWords = maxGateWords; nodes = maxNodes; operations = maxOperations }
 
--- 1, 2, then 5, 7, 8, 9 gate by gate, then 11, 12
-unfoldable pub gatesCheck : Limits → Input → Checked
-gatesCheck l x =
+-- 1, 2, then 5, 7, 8, 9 gate by gate, then 11, 12, where so many plane words are lent
+unfoldable pub gatesChecked : Limits → (n cbits : ℕ) → Cap → List ℕ → (planes : ℕ) → Checked
+gatesChecked l n cbits cap gs planes =
     recordsChecked
     (Fine
-    ⟫ ltb (l .qubits) (x .qubits) || ltb (l .cbits) (x .cbits) ⇒ TooManyQubits
-    ⟫ not (eqb (length (x .gates) % 4) 0) || ltb (l .gateWords) (length (x .gates)) ⇒ BrokenGateList)
-    (x .qubits) (x .cbits) 0 (records (x .gates))
-    ⟫ capTooSmall (x .cap) (records (x .gates)) ⇒ CapTooSmall
-    ⟫ planesTooFew (x .cap) (x .qubits) (length (x .planes)) ⇒ NoPlanes
+    ⟫ ltb (l .qubits) n || ltb (l .cbits) cbits ⇒ TooManyQubits
+    ⟫ not (eqb (length gs % 4) 0) || ltb (l .gateWords) (length gs) ⇒ BrokenGateList)
+    n cbits 0 (records gs)
+    ⟫ capTooSmall cap (records gs) ⇒ CapTooSmall
+    ⟫ planesTooFew cap n planes ⇒ NoPlanes
 
--- then 13, 14, 15, where the needs are those of the whole conversion
+-- then 13, 14, 15, where so many nodes and operations are needed and so many words are lent
+unfoldable pub roomChecked : Limits → Checked → (nodes operations n frame node-words operation-words : ℕ) → Checked
+roomChecked l k nodes operations n frame node-words operation-words =
+    k
+    ⟫ ltb frame (2 * n) ⇒ NoFrame
+    ⟫ ltb (l .nodes) nodes || ltb (node-words / nodeWords) nodes ⇒ NoNodes
+    ⟫ ltb (l .operations) operations || ltb (operation-words / operationWords) operations ⇒ NoOperations
+
+unfoldable pub gatesCheck : Limits → Input → Checked
+gatesCheck l x = gatesChecked l (x .qubits) (x .cbits) (x .cap) (x .gates) (length (x .planes))
+
+-- the needs are those of the whole conversion
 unfoldable pub convertCheck : Limits → Input → Checked
 convertCheck l x =
-    gatesCheck l x
-    ⟫ ltb (length (x .frame)) (2 * x .qubits) ⇒ NoFrame
-    ⟫ ltb (l .nodes) (wordEnd x .arena .count) || ltb (length (x .nodes) / nodeWords) (wordEnd x .arena .count) ⇒ NoNodes
-    ⟫ ltb (l .operations) (length (wordEnd x .ops)) || ltb (length (x .operations) / operationWords) (length (wordEnd x .ops)) ⇒ NoOperations
+    roomChecked l (gatesCheck l x) (wordEnd x .arena .count) (length (wordEnd x .ops)) (x .qubits) (length (x .frame)) (length (x .nodes)) (length (x .operations))
 
 -- ---- the answer and the slices
 

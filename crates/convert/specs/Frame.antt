@@ -1,7 +1,7 @@
 -- The frame in words (document 01, "Frame"), and what push_output_clifford answers and leaves: for acceptance and every refusal.
 use mathlib.Core.Bool.{Bool, false, _||_}
 use mathlib.Core.List.{List, [], _∷_, _++_}
-use Prim.Native.Nat.{ℕ, suc, _+_, _*_}
+use Prim.Native.Nat.{ℕ, zero, suc, _+_, _*_}
 use lib.Dec.{leb, ltb, eqb}
 use lib.ListN.{length, getD, set, take}
 use Rattle.pauli.specs.Letters.{phaseNumber}
@@ -13,7 +13,7 @@ use Rattle.arena.specs.Nodes.{productWord}
 use Rattle.arena.specs.Store.{breaksLimit, exceedsNodes, noNodeRoom}
 use Rattle.arena.specs.Builder.{Step, decided, Lent, overlay, withNodes, startNodes, startFrame}
 use Rattle.convert.specs.Types.{Phase, One, PlusI, MinusOne, MinusI, Header, BadStore, NonCliffordFrameGate, QubitOutOfRange, RepeatedOperand, NoFrame, NoNodes, Checked, Fine}
-use Rattle.convert.specs.Records.{GateKind, KindH, KindX, KindZ, KindS, KindSdg, KindT, KindTdg, KindCnot, KindCz, KindCcx, KindCcz, KindMeasure, KindY, KindSx, KindSwap, KindCy, Unsupported, kindOf}
+use Rattle.convert.specs.Records.{GateKind, KindH, KindX, KindZ, KindS, KindSdg, KindT, KindTdg, KindCnot, KindCz, KindCcx, KindCcz, KindMeasure, KindY, KindSx, KindSwap, KindCy, Unsupported, arityOf, kindOf}
 pub use Rattle.convert.specs.declared.frame_gate.FramePushed.the-variants.{the-data as FramePushed, Made as FramePushedMade, Refused as FramePushedRefused}
 
 -- ---- a gate's work on used nodes and frame words
@@ -67,24 +67,15 @@ gateNodes (gateCz c t) = 2
 -- ---- operands: 7, then 8, operand by operand
 
 -- the qubits of a kind, in declared order
+abbrev pub qubitsBy : ℕ → ℕ → ℕ → ℕ → List ℕ
+qubitsBy zero a b c = []
+qubitsBy (suc zero) a b c = a ∷ []
+qubitsBy (suc (suc zero)) a b c = a ∷ b ∷ []
+qubitsBy (suc (suc (suc zero))) a b c = a ∷ b ∷ c ∷ []
+qubitsBy (suc (suc (suc (suc k)))) a b c = a ∷ []
+
 unfoldable pub qubitsOf : GateKind → ℕ → ℕ → ℕ → List ℕ
-qubitsOf KindH a b c = a ∷ []
-qubitsOf KindX a b c = a ∷ []
-qubitsOf KindZ a b c = a ∷ []
-qubitsOf KindS a b c = a ∷ []
-qubitsOf KindSdg a b c = a ∷ []
-qubitsOf KindT a b c = a ∷ []
-qubitsOf KindTdg a b c = a ∷ []
-qubitsOf KindCnot a b c = a ∷ b ∷ []
-qubitsOf KindCz a b c = a ∷ b ∷ []
-qubitsOf KindCcx a b c = a ∷ b ∷ c ∷ []
-qubitsOf KindCcz a b c = a ∷ b ∷ c ∷ []
-qubitsOf KindMeasure a b c = a ∷ []
-qubitsOf KindY a b c = a ∷ []
-qubitsOf KindSx a b c = a ∷ []
-qubitsOf KindSwap a b c = a ∷ b ∷ []
-qubitsOf KindCy a b c = a ∷ b ∷ []
-qubitsOf Unsupported a b c = []
+qubitsOf k a b c = qubitsBy (arityOf k) a b c
 
 abbrev pub member : ℕ → List ℕ → Bool
 member q [] = false

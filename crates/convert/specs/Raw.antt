@@ -2,19 +2,17 @@
 use mathlib.Core.Path.{_≡_}
 use mathlib.Core.Bool.{Bool, true, false, not, cond, _||_}
 use mathlib.Core.List.{List, [], _∷_, _++_}
-use Prim.Native.Nat.{ℕ, zero, suc, _+_, _*_, _/_, _%_, _<_, _≤_}
+use Prim.Native.Nat.{ℕ, zero, suc, _+_, _*_, _/_, _<_, _≤_}
 use lib.Seq.{sets}
 use lib.ListN.{length, getD, set, drop}
 use Rattle.pauli.specs.Gates.{Gate, gateH, gateX, gateZ, gateS, gateSdg, gateCnot, gateCz, AllValid}
 use Rattle.arena.specs.References.{scaledWord}
 use Rattle.arena.specs.Builder.{overlay, startFrame}
-use lib.Dec.{ltb, eqb}
-use Rattle.arena.specs.Limits.{nodeWords, operationWords, maxQubits, maxCbits, maxNodes, maxOperations}
-use Rattle.arena.specs.Errors.{_⟫_⇒_}
-use Rattle.convert.specs.Conversion.{recordsChecked, capTooSmall, planesTooFew, maxGateWords}
+use Rattle.arena.specs.Limits.{operationWords, maxCbits}
+use Rattle.convert.specs.Conversion.{isMeasure, isDoubly, roomChecked, limits}
 use Rattle.arena.specs.Operations.{rotateWords, measureWords}
 use Rattle.convert.specs.Words.{Words, startWords, wordRun, idX, idZ}
-use Rattle.convert.specs.Types.{MinusOne, Bit, TooManyQubits, BrokenGateList, CapTooSmall, NoPlanes, NoFrame, NoNodes, NoOperations, PbcError, Checked, Fine, Wrong, Header}
+use Rattle.convert.specs.Types.{MinusOne, Bit, PbcError, Checked, Fine, Wrong, Header}
 use Rattle.convert.specs.Records.{GateKind, KindH, KindX, KindZ, KindS, KindSdg, KindT, KindTdg, KindCnot, KindCz, KindCcx, KindCcz, KindMeasure, KindY, KindSx, KindSwap, KindCy, Unsupported, Cap, NoCap, AtMost, Elementary, Placed, bare, lowerAs, lowerFrom, Record, records, kindOf, AllProper, lowerAll}
 use Rattle.pauli.specs.Rows.{Row, tally}
 use Rattle.pauli.specs.Doubly.{Term, term, sevenRows}
@@ -28,26 +26,6 @@ use Rattle.convert.specs.declared.frame_gate.planes.count.Needed.{Needed
 use Rattle.convert.specs.Frame.{Arena, stored, word, gateNodes, total}
 
 -- ---- kinds
-
--- 0 for no kind, 1 to 3 for so many qubits, 4 for a measurement
-abbrev pub arityOf : GateKind → ℕ
-arityOf KindH = 1
-arityOf KindX = 1
-arityOf KindZ = 1
-arityOf KindS = 1
-arityOf KindSdg = 1
-arityOf KindT = 1
-arityOf KindTdg = 1
-arityOf KindCnot = 2
-arityOf KindCz = 2
-arityOf KindCcx = 3
-arityOf KindCcz = 3
-arityOf KindMeasure = 4
-arityOf KindY = 1
-arityOf KindSx = 1
-arityOf KindSwap = 2
-arityOf KindCy = 2
-arityOf Unsupported = 0
 
 -- what is tested before a gate: 0 nothing, 1 z of a, 2 the seven products of ccx, 3 those of ccz
 abbrev pub testsOf : GateKind → ℕ
@@ -248,43 +226,11 @@ costOf Unsupported = needed 0 0 0 0
 
 -- the nodes that it pushes where it is no frame gate
 abbrev pub loneNodes : GateKind → ℕ
-loneNodes KindH = 0
-loneNodes KindX = 0
-loneNodes KindZ = 0
-loneNodes KindS = 0
-loneNodes KindSdg = 0
-loneNodes KindT = 0
-loneNodes KindTdg = 0
-loneNodes KindCnot = 0
-loneNodes KindCz = 0
-loneNodes KindCcx = 4
-loneNodes KindCcz = 4
-loneNodes KindMeasure = 0
-loneNodes KindY = 0
-loneNodes KindSx = 0
-loneNodes KindSwap = 0
-loneNodes KindCy = 0
-loneNodes Unsupported = 0
+loneNodes k = cond (isDoubly k) 4 0
 
 -- the measurements that a record gives
 abbrev pub measuresOf : GateKind → ℕ
-measuresOf KindH = 0
-measuresOf KindX = 0
-measuresOf KindZ = 0
-measuresOf KindS = 0
-measuresOf KindSdg = 0
-measuresOf KindT = 0
-measuresOf KindTdg = 0
-measuresOf KindCnot = 0
-measuresOf KindCz = 0
-measuresOf KindCcx = 0
-measuresOf KindCcz = 0
-measuresOf KindMeasure = 1
-measuresOf KindY = 0
-measuresOf KindSx = 0
-measuresOf KindSwap = 0
-measuresOf KindCy = 0
-measuresOf Unsupported = 0
+measuresOf k = tally (isMeasure k) 0
 
 -- one record more, after a flush or not
 abbrev pub costs : Bool → Needed → Needed → Needed
@@ -447,28 +393,11 @@ pub record Room (n : ℕ) (cap : Cap) (gs ns os : List ℕ) : Type 0 where
   pub operations : needsLast n cap gs .operations ≤ 65536
   pub operations-lent : 4 * needsLast n cap gs .operations ≤ length os
 
--- ---- the checks by what they look at
-
-unfoldable pub gatesChecked : ℕ → ℕ → Cap → List ℕ → ℕ → Checked
-gatesChecked n cbits cap gs planes =
-    recordsChecked
-    (Fine
-    ⟫ ltb maxQubits n || ltb maxCbits cbits ⇒ TooManyQubits
-    ⟫ not (eqb (length gs % 4) 0) || ltb maxGateWords (length gs) ⇒ BrokenGateList)
-    n cbits 0 (records gs)
-    ⟫ capTooSmall cap (records gs) ⇒ CapTooSmall
-    ⟫ planesTooFew cap n planes ⇒ NoPlanes
-
-unfoldable pub roomChecked : (nodes operations n frame node-words operation-words : ℕ) → Checked
-roomChecked k m n frame ns os =
-    Fine
-    ⟫ ltb frame (2 * n) ⇒ NoFrame
-    ⟫ ltb maxNodes k || ltb (ns / nodeWords) k ⇒ NoNodes
-    ⟫ ltb maxOperations m || ltb (os / operationWords) m ⇒ NoOperations
+-- ---- the checks of what is needed
 
 -- the checks of what a conversion needs; the planes are those of its end, or not begun where the most that it can need fits
 pub record NeedsChecked (n : ℕ) (cap : Cap) (gs : List ℕ) (frame node-words operation-words : ℕ) (ps : List ℕ) (r : Checked) (ps′ : List ℕ) : Type 0 where
-  pub same : r ≡ roomChecked (needsLast n cap gs .nodes) (needsLast n cap gs .operations) n frame node-words operation-words
+  pub same : r ≡ roomChecked limits Fine (needsLast n cap gs .nodes) (needsLast n cap gs .operations) n frame node-words operation-words
   pub planes : (t : List Row) → planesFor cap n t ps′ ≡ planesFor cap n t ps
   pub ended : (e : PbcError) → r ≡ Wrong e → ps′ ≡ planesFor cap n (plainLast n cap gs .table) ps
 

@@ -32,6 +32,26 @@ kinds =
 unfoldable pub kindOf : ℕ → GateKind
 kindOf k = getD kinds k Unsupported
 
+-- how many qubits a kind has; 4 stands for measure, which has one and a classical bit
+abbrev pub arityOf : GateKind → ℕ
+arityOf KindH = 1
+arityOf KindX = 1
+arityOf KindZ = 1
+arityOf KindS = 1
+arityOf KindSdg = 1
+arityOf KindT = 1
+arityOf KindTdg = 1
+arityOf KindCnot = 2
+arityOf KindCz = 2
+arityOf KindCcx = 3
+arityOf KindCcz = 3
+arityOf KindMeasure = 4
+arityOf KindY = 1
+arityOf KindSx = 1
+arityOf KindSwap = 2
+arityOf KindCy = 2
+arityOf Unsupported = 0
+
 -- ---- lowering
 
 -- a frame gate, or what writes operations

@@ -10,8 +10,8 @@ pub enum Cap {
 }
 
 impl Cap {
-    /// Whether there is a bound. O(1). Promise: `isCapped`.
-    pub fn is_capped(self) -> bool
+    // Whether there is a bound.
+    pub(crate) fn is_capped(self) -> bool
         ensures { λ r. ⌜ r ≡ isCapped self ⌝ }
     {
         match self {

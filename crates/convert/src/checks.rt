@@ -18,12 +18,12 @@ ghost use Prim.Native.Nat.{ℕ, min};
 ghost use lib.Dec.{leb};
 ghost use lib.ListN.{take};
 ghost use Rattle.arena.specs.Errors.{_⟫_⇒_};
-ghost use Rattle.convert.specs.Types.{QubitOutOfRange};
+ghost use Rattle.convert.specs.Types.{QubitOutOfRange, Fine};
 ghost use Rattle.convert.specs.Records.{records};
 ghost use Rattle.convert.specs.Frame.{qubitsOf, operandsChecked, namesUnused, cliffordCheck};
-ghost use Rattle.convert.specs.Conversion.{recordChecked, recordsChecked, anyDoubly, capTooSmall, planesTooFew};
+ghost use Rattle.convert.specs.Conversion.{recordChecked, recordsChecked, anyDoubly, capTooSmall, planesTooFew, gatesChecked, roomChecked, limits};
 ghost use Rattle.convert.specs.Planes.{partWords};
-ghost use Rattle.convert.specs.Raw.{recordOf, gatesChecked, roomChecked};
+ghost use Rattle.convert.specs.Raw.{recordOf};
 
 /// The most words of a gate list.
 pub const MAX_GATE_WORDS: usize = 262144;
@@ -152,7 +152,7 @@ fn any_doubly(gates: &[u32]) -> bool
     let mut found = false;
     let mut i: usize = 0;
     while i < count {
-        found = found | (2 <= GateKind::of(gates[4 * i]).tests());
+        found = found | (GateKind::of(gates[4 * i]).arity() == 3);
         i += 1;
     }
     found
@@ -211,7 +211,7 @@ pub(crate) fn check_gates(
     gates: &[u32],
     planes: usize,
 ) -> Checked
-    ensures { λ r. ⌜ r ≡ gatesChecked qubits cbits cap (now (gates .entry)) planes ⌝ }
+    ensures { λ r. ⌜ r ≡ gatesChecked limits qubits cbits cap (now (gates .entry)) planes ⌝ }
 {
     let sized = Checked::Fine
         .refuse_if(
@@ -236,7 +236,7 @@ pub(crate) fn check_room(
     nodes: usize,
     operations: usize,
 ) -> Checked
-    ensures { λ r. ⌜ r ≡ roomChecked needed written qubits frame nodes operations ⌝ }
+    ensures { λ r. ⌜ r ≡ roomChecked limits Fine needed written qubits frame nodes operations ⌝ }
 {
     Checked::Fine
         .refuse_if(frame < 2 * (qubits as usize), PbcError::NoFrame)

@@ -1,8 +1,8 @@
 //! The kinds of gates, by what a record's first word names. Every function is O(1).
 
 ghost use mathlib.Core.Path.{_≡_};
-ghost use Rattle.convert.specs.Records.{kindOf};
-ghost use Rattle.convert.specs.Raw.{arityOf, testsOf, isFrame, frameNodes};
+ghost use Rattle.convert.specs.Records.{kindOf, arityOf};
+ghost use Rattle.convert.specs.Raw.{testsOf, isFrame, frameNodes};
 
 /// What a gate record's first word names. The Rust's names; all numbers that document 01 does not list are `Unsupported`.
 pub enum GateKind {
@@ -51,8 +51,8 @@ impl GateKind {
         }
     }
 
-    /// 0 for no kind, 1 to 3 for so many qubits, 4 for a measurement. Promise: `arityOf`.
-    pub fn arity(self) -> u32
+    // How many qubits it has; 4 stands for measure.
+    pub(crate) fn arity(self) -> u32
         ensures { λ r. ⌜ r ≡ arityOf self ⌝ }
     {
         match self {
@@ -76,8 +76,8 @@ impl GateKind {
         }
     }
 
-    /// What is tested before a gate: 0 nothing, 1 z of its qubit, 2 the seven products of ccx, 3 those of ccz. Promise: `testsOf`.
-    pub fn tests(self) -> u32
+    // What is tested before a gate: 0 nothing, 1 z of its qubit, 2 the seven products of ccx, 3 those of ccz.
+    pub(crate) fn tests(self) -> u32
         ensures { λ r. ⌜ r ≡ testsOf self ⌝ }
     {
         match self {
@@ -101,8 +101,8 @@ impl GateKind {
         }
     }
 
-    /// Whether it is one of h, x, z, s, sdg, cnot, cz. Promise: `isFrame`.
-    pub fn is_frame(self) -> bool
+    // Whether it is one of h, x, z, s, sdg, cnot, cz.
+    pub(crate) fn is_frame(self) -> bool
         ensures { λ r. ⌜ r ≡ isFrame self ⌝ }
     {
         match self {
@@ -126,8 +126,8 @@ impl GateKind {
         }
     }
 
-    /// The nodes that it pushes as a frame gate. Promise: `frameNodes`.
-    pub fn frame_nodes(self) -> u32
+    // The nodes that it pushes as a frame gate.
+    pub(crate) fn frame_nodes(self) -> u32
         ensures { λ r. ⌜ r ≡ frameNodes self ⌝ }
     {
         match self {

@@ -33,8 +33,8 @@ shared-slice-read-of c = omega (arith, c .before .loop-test .taken)
 of-requires : tie.Need-of-requires Inv-loop μ-loop
 of-requires c κs = search needs
 
-tests-requires : tie.Need-tests-requires Inv-loop μ-loop
-tests-requires c κs = search needs
+arity-requires : tie.Need-arity-requires Inv-loop μ-loop
+arity-requires c κs = search needs
 
 add-i : tie.Need-add-i Inv-loop μ-loop
 add-i c = omega (arith, c .before .before .before .loop-test .taken)
@@ -43,7 +43,7 @@ loop-less : tie.Need-loop-less Inv-loop μ-loop
 loop-less c = omega (arith, c .before .before .before .loop-test .taken)
 
 loop-again : tie.Need-loop-again Inv-loop μ-loop
-loop-again c = (omega (arith, c .before .before .before .loop-test .taken), rw (c .tests .ensures, c .before .of .ensures) (sym (doubly-more (c .before .before .before .before .before .before .args .gates .now) (c .before .before .before .before .loop .i) (c .before .before .before .before .loop .found) (c .before .before .before .loop-test .taken)) ∙ c .before .before .before .before .loop .inv .1))
+loop-again c = (omega (arith, c .before .before .before .loop-test .taken), rw (c .arity .ensures, c .before .of .ensures) (sym (doubly-more (c .before .before .before .before .before .before .args .gates .now) (c .before .before .before .before .loop .i) (c .before .before .before .before .loop .found) (c .before .before .before .loop-test .taken)) ∙ c .before .before .before .before .loop .inv .1))
 
 returns : tie.Need-returns Inv-loop μ-loop
 returns c = sym (doubly-end (c .before .before .before .args .gates .now) (c .before .loop .i) (c .before .loop .found) (c .loop-test .left)) ∙ c .before .loop .inv .1
@@ -59,7 +59,7 @@ any-doubly-spec =
     mul-of-2
     shared-slice-read-of
     of-requires
-    tests-requires
+    arity-requires
     add-i
     loop-less
     loop-again

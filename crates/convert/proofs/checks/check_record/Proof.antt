@@ -1,5 +1,5 @@
 use mathlib.Core.Path.{_∙_, ap}
-use Rattle.convert.specs.Raw.{arityOf}
+use Rattle.convert.specs.Records.{arityOf}
 use Rattle.convert.proofs.CheckLaws.{record-checked}
 use borrow.Author.Needs.{needs}
 use Rattle.convert.proofs.checks.check_record.Statement.{statement}
