@@ -14,7 +14,7 @@ use Rattle.arena.specs.Store.{breaksLimit, exceedsNodes}
 use Rattle.arena.specs.Builder.{overlay}
 use Rattle.arena.proofs.Accepted.{passed-before, test-passed, left-false, right-false, sound}
 use Rattle.convert.specs.Types.{Header, BadStore, NonCliffordFrameGate, Fine}
-use Rattle.convert.specs.Records.{GateKind, KindH, KindX, KindZ, KindS, KindSdg, KindT, KindTdg, KindCnot, KindCz, KindCcx, KindCcz, KindMeasure, KindY, KindSx, KindSwap, KindCy, Unsupported, kindOf}
+use Rattle.convert.specs.Records.{GateKind, KindH, KindX, KindZ, KindS, KindSdg, KindT, KindTdg, KindCnot, KindCz, KindCcx, KindCcz, KindMeasure, KindY, KindSx, KindSwap, KindCy, Unsupported, kindOf, lowerAs}
 use Rattle.convert.specs.Frame.{qubitsOf, operandsChecked, namesUnused, frameGates, frameRun, cliffordCheck, opened}
 use Rattle.convert.specs.Raw.{arena, putRun, recordGates, Small, Ready, Ran}
 use Rattle.convert.proofs.Accepting.{passed-operands, FitsGate, fits-gate}
@@ -24,7 +24,7 @@ no : _≡_ {A = Bool} true false → ⊥
 no e = let z : _≡_ {A = ℕ} 0 1 = cc in omega arith
 
 frame-kind : (k : GateKind) (a b : ℕ) → eqb (length (frameGates k a b)) 0 ≡ false → recordGates k a b ≡ frameGates k a b
-unfolding frameGates recordGates
+unfolding frameGates recordGates lowerAs
 frame-kind KindH a b e = refl
 frame-kind KindX a b e = refl
 frame-kind KindZ a b e = refl

@@ -93,7 +93,7 @@ no-tests n most t KindCy a b d e = refl
 no-tests n most t Unsupported a b d e = refl
 
 no-gates : (k : GateKind) (a b : ℕ) → (testsOf k ≡ 0 → ⊥) → recordGates k a b ≡ []
-unfolding recordGates
+unfolding recordGates lowerAs
 no-gates KindH a b e = absurd (e refl)
 no-gates KindX a b e = absurd (e refl)
 no-gates KindZ a b e = absurd (e refl)

@@ -230,7 +230,7 @@ one-record n cap i Unsupported a b d p k w = of-frames n cap i ([]) (costOf Unsu
 
 -- what its frame gates add to a flush
 pub adds : (kind : GateKind) (a b : ℕ) → (total writtenNodes (recordGates kind a b) ≡ costOf kind .joints) × (total writtenOps (recordGates kind a b) ≡ costOf kind .rotations)
-unfolding recordGates
+unfolding recordGates lowerAs
 adds KindH a b = (omega arith, omega arith)
 adds KindX a b = (omega arith, omega arith)
 adds KindZ a b = (omega arith, omega arith)
@@ -250,7 +250,7 @@ adds KindCy a b = (omega arith, omega arith)
 adds Unsupported a b = (omega arith, omega arith)
 
 pub gate-nodes : (kind : GateKind) (a b : ℕ) → testsOf kind ≡ 0 → total gateNodes (recordGates kind a b) ≡ costOf kind .nodes
-unfolding recordGates
+unfolding recordGates lowerAs
 gate-nodes KindH a b e = omega arith
 gate-nodes KindX a b e = omega arith
 gate-nodes KindZ a b e = omega arith

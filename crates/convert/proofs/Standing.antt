@@ -166,7 +166,7 @@ writeLone n given KindCy a b d w = w
 writeLone n given Unsupported a b d w = w
 
 pub lone-after : (n given : ℕ) (kind : GateKind) (a b d : ℕ) (w : Words) → writeRecord n given kind a b d w ≡ writeLone n given kind a b d (framed n (recordGates kind a b) w)
-unfolding writeRecord writeLone recordGates frameRun
+unfolding writeRecord writeLone recordGates frameRun lowerAs
 lone-after n given KindH a b d w = refl
 lone-after n given KindX a b d w = refl
 lone-after n given KindZ a b d w = refl

@@ -92,7 +92,7 @@ counted-if true n gs d = (d .is refl .counted, d .is refl .turned)
 counted-if false n gs d = let k = d .not refl in (omega (arith, k .0), omega (arith, k .3))
 
 node-parts : (kind : GateKind) (a b : ℕ) → total gateNodes (recordGates kind a b) + loneNodes kind ≡ costOf kind .nodes
-unfolding recordGates
+unfolding recordGates lowerAs
 node-parts KindH a b = omega arith
 node-parts KindX a b = omega arith
 node-parts KindZ a b = omega arith

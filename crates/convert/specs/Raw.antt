@@ -13,7 +13,7 @@ use Rattle.convert.specs.Conversion.{isMeasure, isDoubly, roomChecked, l
 use Rattle.arena.specs.Operations.{rotateWords, measureWords}
 use Rattle.convert.specs.Words.{Words, startWords, wordRun, idX, idZ}
 use Rattle.convert.specs.Types.{MinusOne, Bit, PbcError, Checked, Fine, Wrong, Header}
-use Rattle.convert.specs.Records.{GateKind, KindH, KindX, KindZ, KindS, KindSdg, KindT, KindTdg, KindCnot, KindCz, KindCcx, KindCcz, KindMeasure, KindY, KindSx, KindSwap, KindCy, Unsupported, Cap, NoCap, AtMost, Elementary, Placed, bare, lowerAs, lowerFrom, Record, records, kindOf, AllProper, lowerAll}
+use Rattle.convert.specs.Records.{GateKind, KindH, KindX, KindZ, KindS, KindSdg, KindT, KindTdg, KindCnot, KindCz, KindCcx, KindCcz, KindMeasure, KindY, KindSx, KindSwap, KindCy, Unsupported, Cap, NoCap, AtMost, Elementary, clifford, elT, elTdg, elCcx, elCcz, elMeasure, Placed, bare, lowerAs, lowerFrom, Record, records, kindOf, AllProper, lowerAll}
 use Rattle.pauli.specs.Rows.{Row, tally}
 use Rattle.pauli.specs.Doubly.{Term, term, sevenRows}
 use Rattle.pauli.specs.Table.{start, run}
@@ -87,25 +87,18 @@ frameNodes KindSwap = 0
 frameNodes KindCy = 0
 frameNodes Unsupported = 0
 
+abbrev pub cliffordsOf : List Elementary → List Gate
+cliffordsOf [] = []
+cliffordsOf (clifford g ∷ es) = g ∷ cliffordsOf es
+cliffordsOf (elT q ∷ es) = cliffordsOf es
+cliffordsOf (elTdg q ∷ es) = cliffordsOf es
+cliffordsOf (elCcx a b d ∷ es) = cliffordsOf es
+cliffordsOf (elCcz a b d ∷ es) = cliffordsOf es
+cliffordsOf (elMeasure q k ∷ es) = cliffordsOf es
+
 -- the frame gates that a record stands for
 unfoldable pub recordGates : GateKind → ℕ → ℕ → List Gate
-recordGates KindH a b = gateH a ∷ []
-recordGates KindX a b = gateX a ∷ []
-recordGates KindZ a b = gateZ a ∷ []
-recordGates KindS a b = gateS a ∷ []
-recordGates KindSdg a b = gateSdg a ∷ []
-recordGates KindT a b = []
-recordGates KindTdg a b = []
-recordGates KindCnot a b = gateCnot a b ∷ []
-recordGates KindCz a b = gateCz a b ∷ []
-recordGates KindCcx a b = []
-recordGates KindCcz a b = []
-recordGates KindMeasure a b = []
-recordGates KindY a b = gateZ a ∷ gateX a ∷ []
-recordGates KindSx a b = gateH a ∷ gateS a ∷ gateH a ∷ []
-recordGates KindSwap a b = gateCnot a b ∷ gateCnot b a ∷ gateCnot a b ∷ []
-recordGates KindCy a b = gateSdg b ∷ gateCnot a b ∷ gateS b ∷ []
-recordGates Unsupported a b = []
+recordGates kind a b = cliffordsOf (lowerAs kind a b 0)
 
 -- a flush comes before these gates
 abbrev pub anyExceeds : ℕ → Cap → List Row → List Elementary → Bool

@@ -1,4 +1,5 @@
 use native.Mathlib.Omega.{arith}
+use Rattle.convert.specs.Records.{lowerAs}
 use Rattle.convert.specs.Raw.{recordGates}
 use Rattle.convert.proofs.FlushLaws.{flush-head, flush-tail, none-flushed, more-flushed}
 use borrow.Author.Needs.{needs}
@@ -18,7 +19,7 @@ enum-told : tie.Need-enum-told
 enum-told c = search needs
 
 flush-h-requires : tie.Need-flush-h-requires
-unfolding recordGates
+unfolding recordGates lowerAs
 flush-h-requires c κs =
     let r0 = rw (c .before .before .enum-told .given .1) at (c .before .before .before .before .before .before .pre) in
     flush-head r0
@@ -27,7 +28,7 @@ enum-told-2 : tie.Need-enum-told-2
 enum-told-2 c = search needs
 
 flush-x-requires : tie.Need-flush-x-requires
-unfolding recordGates
+unfolding recordGates lowerAs
 flush-x-requires c κs =
     let r0 = rw (c .before .before .enum-told2 .given .1) at (c .before .before .before .before .before .before .pre) in
     flush-head r0
@@ -36,7 +37,7 @@ enum-told-3 : tie.Need-enum-told-3
 enum-told-3 c = search needs
 
 flush-z-requires : tie.Need-flush-z-requires
-unfolding recordGates
+unfolding recordGates lowerAs
 flush-z-requires c κs =
     let r0 = rw (c .before .before .enum-told3 .given .1) at (c .before .before .before .before .before .before .pre) in
     flush-head r0
@@ -45,7 +46,7 @@ enum-told-4 : tie.Need-enum-told-4
 enum-told-4 c = search needs
 
 flush-s-requires : tie.Need-flush-s-requires
-unfolding recordGates
+unfolding recordGates lowerAs
 flush-s-requires c κs =
     let r0 = rw (c .before .before .enum-told4 .given .1) at (c .before .before .before .before .before .before .pre) in
     flush-head r0
@@ -54,7 +55,7 @@ enum-told-5 : tie.Need-enum-told-5
 enum-told-5 c = search needs
 
 flush-sdg-requires : tie.Need-flush-sdg-requires
-unfolding recordGates
+unfolding recordGates lowerAs
 flush-sdg-requires c κs =
     let r0 = rw (c .before .before .enum-told5 .given .1) at (c .before .before .before .before .before .before .pre) in
     flush-head r0
@@ -69,7 +70,7 @@ enum-told-8 : tie.Need-enum-told-8
 enum-told-8 c = search needs
 
 flush-cnot-requires : tie.Need-flush-cnot-requires
-unfolding recordGates
+unfolding recordGates lowerAs
 flush-cnot-requires c κs =
     let r0 = rw (c .before .before .enum-told8 .given .1) at (c .before .before .before .before .before .before .pre) in
     flush-head r0
@@ -78,7 +79,7 @@ enum-told-9 : tie.Need-enum-told-9
 enum-told-9 c = search needs
 
 flush-cz-requires : tie.Need-flush-cz-requires
-unfolding recordGates
+unfolding recordGates lowerAs
 flush-cz-requires c κs =
     let r0 = rw (c .before .before .enum-told9 .given .1) at (c .before .before .before .before .before .before .pre) in
     flush-head r0
@@ -96,13 +97,13 @@ enum-told-13 : tie.Need-enum-told-13
 enum-told-13 c = search needs
 
 flush-z-requires-2 : tie.Need-flush-z-requires-2
-unfolding recordGates
+unfolding recordGates lowerAs
 flush-z-requires-2 c κs =
     let r0 = rw (c .before .before .enum-told13 .given .1) at (c .before .before .before .before .before .before .pre) in
     flush-head r0
 
 flush-x-requires-2 : tie.Need-flush-x-requires-2
-unfolding recordGates
+unfolding recordGates lowerAs
 flush-x-requires-2 c κs =
     let r0 = rw (c .before .before .before .before .before .before .before .before .before .enum-told13 .given .1) at (c .before .before .before .before .before .before .before .before .before .before .before .before .before .pre) in
     let r1 = flush-tail r0 (c .before .before .before .before .before .before .flush-z2 .ensures) (omega (arith, c .before .before .before .before .before .before .flush-z2 .kept)) (omega (arith, c .before .before .before .before .before .before .flush-z2 .kept)) in
@@ -112,20 +113,20 @@ enum-told-14 : tie.Need-enum-told-14
 enum-told-14 c = search needs
 
 flush-h-requires-2 : tie.Need-flush-h-requires-2
-unfolding recordGates
+unfolding recordGates lowerAs
 flush-h-requires-2 c κs =
     let r0 = rw (c .before .before .enum-told14 .given .1) at (c .before .before .before .before .before .before .pre) in
     flush-head r0
 
 flush-s-requires-2 : tie.Need-flush-s-requires-2
-unfolding recordGates
+unfolding recordGates lowerAs
 flush-s-requires-2 c κs =
     let r0 = rw (c .before .before .before .before .before .before .before .before .before .enum-told14 .given .1) at (c .before .before .before .before .before .before .before .before .before .before .before .before .before .pre) in
     let r1 = flush-tail r0 (c .before .before .before .before .before .before .flush-h2 .ensures) (omega (arith, c .before .before .before .before .before .before .flush-h2 .kept)) (omega (arith, c .before .before .before .before .before .before .flush-h2 .kept)) in
     flush-head r1
 
 flush-h-requires-3 : tie.Need-flush-h-requires-3
-unfolding recordGates
+unfolding recordGates lowerAs
 flush-h-requires-3 c κs =
     let r0 = rw (c .before .before .before .before .before .before .before .before .before .before .before .before .before .before .before .before .enum-told14 .given .1) at (c .before .before .before .before .before .before .before .before .before .before .before .before .before .before .before .before .before .before .before .before .pre) in
     let r1 = flush-tail r0 (c .before .before .before .before .before .before .before .before .before .before .before .before .before .flush-h2 .ensures) (omega (arith, c .before .before .before .before .before .before .before .before .before .before .before .before .before .flush-h2 .kept)) (omega (arith, c .before .before .before .before .before .before .before .before .before .before .before .before .before .flush-h2 .kept)) in
@@ -136,20 +137,20 @@ enum-told-15 : tie.Need-enum-told-15
 enum-told-15 c = search needs
 
 flush-cnot-requires-2 : tie.Need-flush-cnot-requires-2
-unfolding recordGates
+unfolding recordGates lowerAs
 flush-cnot-requires-2 c κs =
     let r0 = rw (c .before .before .enum-told15 .given .1) at (c .before .before .before .before .before .before .pre) in
     flush-head r0
 
 flush-cnot-requires-3 : tie.Need-flush-cnot-requires-3
-unfolding recordGates
+unfolding recordGates lowerAs
 flush-cnot-requires-3 c κs =
     let r0 = rw (c .before .before .before .before .before .before .before .before .before .enum-told15 .given .1) at (c .before .before .before .before .before .before .before .before .before .before .before .before .before .pre) in
     let r1 = flush-tail r0 (c .before .before .before .before .before .before .flush-cnot2 .ensures) (omega (arith, c .before .before .before .before .before .before .flush-cnot2 .kept)) (omega (arith, c .before .before .before .before .before .before .flush-cnot2 .kept)) in
     flush-head r1
 
 flush-cnot-requires-4 : tie.Need-flush-cnot-requires-4
-unfolding recordGates
+unfolding recordGates lowerAs
 flush-cnot-requires-4 c κs =
     let r0 = rw (c .before .before .before .before .before .before .before .before .before .before .before .before .before .before .before .before .enum-told15 .given .1) at (c .before .before .before .before .before .before .before .before .before .before .before .before .before .before .before .before .before .before .before .before .pre) in
     let r1 = flush-tail r0 (c .before .before .before .before .before .before .before .before .before .before .before .before .before .flush-cnot2 .ensures) (omega (arith, c .before .before .before .before .before .before .before .before .before .before .before .before .before .flush-cnot2 .kept)) (omega (arith, c .before .before .before .before .before .before .before .before .before .before .before .before .before .flush-cnot2 .kept)) in
@@ -160,20 +161,20 @@ enum-told-16 : tie.Need-enum-told-16
 enum-told-16 c = search needs
 
 flush-sdg-requires-2 : tie.Need-flush-sdg-requires-2
-unfolding recordGates
+unfolding recordGates lowerAs
 flush-sdg-requires-2 c κs =
     let r0 = rw (c .before .before .enum-told16 .given .1) at (c .before .before .before .before .before .before .pre) in
     flush-head r0
 
 flush-cnot-requires-5 : tie.Need-flush-cnot-requires-5
-unfolding recordGates
+unfolding recordGates lowerAs
 flush-cnot-requires-5 c κs =
     let r0 = rw (c .before .before .before .before .before .before .before .before .before .enum-told16 .given .1) at (c .before .before .before .before .before .before .before .before .before .before .before .before .before .pre) in
     let r1 = flush-tail r0 (c .before .before .before .before .before .before .flush-sdg2 .ensures) (omega (arith, c .before .before .before .before .before .before .flush-sdg2 .kept)) (omega (arith, c .before .before .before .before .before .before .flush-sdg2 .kept)) in
     flush-head r1
 
 flush-s-requires-3 : tie.Need-flush-s-requires-3
-unfolding recordGates
+unfolding recordGates lowerAs
 flush-s-requires-3 c κs =
     let r0 = rw (c .before .before .before .before .before .before .before .before .before .before .before .before .before .before .before .before .enum-told16 .given .1) at (c .before .before .before .before .before .before .before .before .before .before .before .before .before .before .before .before .before .before .before .before .pre) in
     let r1 = flush-tail r0 (c .before .before .before .before .before .before .before .before .before .before .before .before .before .flush-sdg2 .ensures) (omega (arith, c .before .before .before .before .before .before .before .before .before .before .before .before .before .flush-sdg2 .kept)) (omega (arith, c .before .before .before .before .before .before .before .before .before .before .before .before .before .flush-sdg2 .kept)) in
@@ -190,7 +191,7 @@ same-length-2 : tie.Need-same-length-2
 same-length-2 c = search needs
 
 returns : tie.Need-returns
-unfolding recordGates
+unfolding recordGates lowerAs
 returns c = rw (c .before .before .before .before .before .before .before .enum-told .given .1) (c .before .before .before .before .flush-h .ensures)
 
 same-length-3 : tie.Need-same-length-3
@@ -200,7 +201,7 @@ same-length-4 : tie.Need-same-length-4
 same-length-4 c = search needs
 
 returns-2 : tie.Need-returns-2
-unfolding recordGates
+unfolding recordGates lowerAs
 returns-2 c = rw (c .before .before .before .before .before .before .before .enum-told2 .given .1) (c .before .before .before .before .flush-x .ensures)
 
 same-length-5 : tie.Need-same-length-5
@@ -210,7 +211,7 @@ same-length-6 : tie.Need-same-length-6
 same-length-6 c = search needs
 
 returns-3 : tie.Need-returns-3
-unfolding recordGates
+unfolding recordGates lowerAs
 returns-3 c = rw (c .before .before .before .before .before .before .before .enum-told3 .given .1) (c .before .before .before .before .flush-z .ensures)
 
 same-length-7 : tie.Need-same-length-7
@@ -220,7 +221,7 @@ same-length-8 : tie.Need-same-length-8
 same-length-8 c = search needs
 
 returns-4 : tie.Need-returns-4
-unfolding recordGates
+unfolding recordGates lowerAs
 returns-4 c = rw (c .before .before .before .before .before .before .before .enum-told4 .given .1) (c .before .before .before .before .flush-s .ensures)
 
 same-length-9 : tie.Need-same-length-9
@@ -230,15 +231,15 @@ same-length-10 : tie.Need-same-length-10
 same-length-10 c = search needs
 
 returns-5 : tie.Need-returns-5
-unfolding recordGates
+unfolding recordGates lowerAs
 returns-5 c = rw (c .before .before .before .before .before .before .before .enum-told5 .given .1) (c .before .before .before .before .flush-sdg .ensures)
 
 returns-6 : tie.Need-returns-6
-unfolding recordGates
+unfolding recordGates lowerAs
 returns-6 c = rw (c .enum-told6 .given .1) none-flushed
 
 returns-7 : tie.Need-returns-7
-unfolding recordGates
+unfolding recordGates lowerAs
 returns-7 c = rw (c .enum-told7 .given .1) none-flushed
 
 same-length-11 : tie.Need-same-length-11
@@ -248,7 +249,7 @@ same-length-12 : tie.Need-same-length-12
 same-length-12 c = search needs
 
 returns-8 : tie.Need-returns-8
-unfolding recordGates
+unfolding recordGates lowerAs
 returns-8 c = rw (c .before .before .before .before .before .before .before .enum-told8 .given .1) (c .before .before .before .before .flush-cnot .ensures)
 
 same-length-13 : tie.Need-same-length-13
@@ -258,19 +259,19 @@ same-length-14 : tie.Need-same-length-14
 same-length-14 c = search needs
 
 returns-9 : tie.Need-returns-9
-unfolding recordGates
+unfolding recordGates lowerAs
 returns-9 c = rw (c .before .before .before .before .before .before .before .enum-told9 .given .1) (c .before .before .before .before .flush-cz .ensures)
 
 returns-10 : tie.Need-returns-10
-unfolding recordGates
+unfolding recordGates lowerAs
 returns-10 c = rw (c .enum-told10 .given .1) none-flushed
 
 returns-11 : tie.Need-returns-11
-unfolding recordGates
+unfolding recordGates lowerAs
 returns-11 c = rw (c .enum-told11 .given .1) none-flushed
 
 returns-12 : tie.Need-returns-12
-unfolding recordGates
+unfolding recordGates lowerAs
 returns-12 c = rw (c .enum-told12 .given .1) none-flushed
 
 same-length-15 : tie.Need-same-length-15
@@ -280,7 +281,7 @@ same-length-16 : tie.Need-same-length-16
 same-length-16 c = search needs
 
 returns-13 : tie.Need-returns-13
-unfolding recordGates
+unfolding recordGates lowerAs
 returns-13 c = rw (c .before .before .before .before .before .before .before .before .before .before .before .before .before .before .enum-told13 .given .1) (more-flushed (c .before .before .before .before .before .before .before .before .before .before .before .flush-z2 .ensures) (c .before .before .before .before .flush-x2 .ensures))
 
 same-length-17 : tie.Need-same-length-17
@@ -290,7 +291,7 @@ same-length-18 : tie.Need-same-length-18
 same-length-18 c = search needs
 
 returns-14 : tie.Need-returns-14
-unfolding recordGates
+unfolding recordGates lowerAs
 returns-14 c = rw (c .before .before .before .before .before .before .before .before .before .before .before .before .before .before .before .before .before .before .before .before .before .enum-told14 .given .1) (more-flushed (c .before .before .before .before .before .before .before .before .before .before .before .before .before .before .before .before .before .before .flush-h2 .ensures) (more-flushed (c .before .before .before .before .before .before .before .before .before .before .before .flush-s2 .ensures) (c .before .before .before .before .flush-h3 .ensures)))
 
 same-length-19 : tie.Need-same-length-19
@@ -300,7 +301,7 @@ same-length-20 : tie.Need-same-length-20
 same-length-20 c = search needs
 
 returns-15 : tie.Need-returns-15
-unfolding recordGates
+unfolding recordGates lowerAs
 returns-15 c = rw (c .before .before .before .before .before .before .before .before .before .before .before .before .before .before .before .before .before .before .before .before .before .enum-told15 .given .1) (more-flushed (c .before .before .before .before .before .before .before .before .before .before .before .before .before .before .before .before .before .before .flush-cnot2 .ensures) (more-flushed (c .before .before .before .before .before .before .before .before .before .before .before .flush-cnot3 .ensures) (c .before .before .before .before .flush-cnot4 .ensures)))
 
 same-length-21 : tie.Need-same-length-21
@@ -310,11 +311,11 @@ same-length-22 : tie.Need-same-length-22
 same-length-22 c = search needs
 
 returns-16 : tie.Need-returns-16
-unfolding recordGates
+unfolding recordGates lowerAs
 returns-16 c = rw (c .before .before .before .before .before .before .before .before .before .before .before .before .before .before .before .before .before .before .before .before .before .enum-told16 .given .1) (more-flushed (c .before .before .before .before .before .before .before .before .before .before .before .before .before .before .before .before .before .before .flush-sdg2 .ensures) (more-flushed (c .before .before .before .before .before .before .before .before .before .before .before .flush-cnot5 .ensures) (c .before .before .before .before .flush-s3 .ensures)))
 
 returns-17 : tie.Need-returns-17
-unfolding recordGates
+unfolding recordGates lowerAs
 returns-17 c = rw (c .enum-told17 .given .1) none-flushed
 
 pub flush-record-spec : {M : Type 1} → statement M
