@@ -1,6 +1,6 @@
 -- A frame gate on a circuit's output: what its checks leave, and what it does to the buffers.
 use mathlib.Core.Path.{_≡_, refl, ap, _∙_}
-use mathlib.Core.Bool.{Bool, true, false, _||_}
+use mathlib.Core.Bool.{false, _||_}
 use mathlib.Core.List.{List, [], _∷_, _++_}
 use Prim.Native.Nat.{ℕ, zero, suc, _+_, _*_, _/_, _<_}
 use native.Mathlib.Omega.{arith}
@@ -14,34 +14,11 @@ use Rattle.arena.specs.Store.{breaksLimit, exceedsNodes}
 use Rattle.arena.specs.Builder.{overlay}
 use Rattle.arena.proofs.Accepted.{passed-before, test-passed, left-false, right-false, sound}
 use Rattle.convert.specs.Types.{Header, BadStore, NonCliffordFrameGate, Fine}
-use Rattle.convert.specs.Records.{GateKind, KindH, KindX, KindZ, KindS, KindSdg, KindT, KindTdg, KindCnot, KindCz, KindCcx, KindCcz, KindMeasure, KindY, KindSx, KindSwap, KindCy, Unsupported, kindOf, lowerAs}
+use Rattle.convert.specs.Records.{kindOf}
 use Rattle.convert.specs.Frame.{qubitsOf, operandsChecked, namesUnused, frameGates, frameRun, cliffordCheck, opened}
-use Rattle.convert.specs.Raw.{arena, putRun, recordGates, Small, Ready, Ran}
+use Rattle.convert.specs.Raw.{arena, putRun, Small, Ready, Ran}
 use Rattle.convert.proofs.Accepting.{passed-operands, FitsGate, fits-gate}
 use Rattle.convert.proofs.Laid.{laid, put-run}
-
-no : _≡_ {A = Bool} true false → ⊥
-no e = let z : _≡_ {A = ℕ} 0 1 = cc in omega arith
-
-frame-kind : (k : GateKind) (a b : ℕ) → eqb (length (frameGates k a b)) 0 ≡ false → recordGates k a b ≡ frameGates k a b
-unfolding frameGates recordGates lowerAs
-frame-kind KindH a b e = refl
-frame-kind KindX a b e = refl
-frame-kind KindZ a b e = refl
-frame-kind KindS a b e = refl
-frame-kind KindSdg a b e = refl
-frame-kind KindT a b e = absurd (no e)
-frame-kind KindTdg a b e = absurd (no e)
-frame-kind KindCnot a b e = refl
-frame-kind KindCz a b e = refl
-frame-kind KindCcx a b e = absurd (no e)
-frame-kind KindCcz a b e = absurd (no e)
-frame-kind KindMeasure a b e = absurd (no e)
-frame-kind KindY a b e = absurd (no e)
-frame-kind KindSx a b e = absurd (no e)
-frame-kind KindSwap a b e = absurd (no e)
-frame-kind KindCy a b e = absurd (no e)
-frame-kind Unsupported a b e = absurd (no e)
 
 unused-small : (k : ℕ) (ws : List ℕ) → namesUnused k ws ≡ false → (i : ℕ) → i < length ws → getD ws i 0 / 4 < k
 unused-small k [] e i h = absurd (omega arith)
@@ -63,9 +40,6 @@ module _ (h : Header) (ns fs : List ℕ) (kind a b : ℕ) (e : cliffordCheck h (
   unfolding cliffordCheck
   before = passed-before _ _ _ (passed-before _ _ _ e)
 
-  pub gates-same : recordGates (kindOf kind) a b ≡ frameGates (kindOf kind) a b
-  gates-same = frame-kind (kindOf kind) a b (test-passed _ _ _ (passed-operands _ (h .qubits) 0 [] (qubitsOf (kindOf kind) a b 0) before))
-
   sounds : breaksLimit h ≡ false
   sounds = left-false (breaksLimit h) (exceedsNodes h (length ns)) (left-false (breaksLimit h || exceedsNodes h (length ns)) _
       (test-passed _ _ _ (passed-before _ _ _ (passed-operands _ (h .qubits) 0 [] (qubitsOf (kindOf kind) a b 0) before))))
@@ -79,26 +53,25 @@ module _ (h : Header) (ns fs : List ℕ) (kind a b : ℕ) (e : cliffordCheck h (
       let v : getD fs i 0 / 4 < h .nodes = rw (← g) u in
       omega (arith, v, s .nodes)
 
-  pub clifford-ready : Ready (h .qubits) (recordGates (kindOf kind) a b) (h .nodes) ns fs
+  pub clifford-ready : Ready (h .qubits) (frameGates (kindOf kind) a b) (h .nodes) ns fs
   clifford-ready =
       let s = sound h sounds in
-      rw gates-same (record {
+      record {
         valid = fits .valid;
         qubits = s .qubits;
         places = omega (arith, fits .places);
         small = smalls;
         few = fits .room .allowed;
         room = omega (arith, fits .room .lent);
-      })
+      }
 
-  pub clifford-done : (c′ : ℕ) (ns′ fs′ : List ℕ) → Ran (h .qubits) (recordGates (kindOf kind) a b) (h .nodes) ns fs c′ ns′ fs′
+  pub clifford-done : (c′ : ℕ) (ns′ fs′ : List ℕ) → Ran (h .qubits) (frameGates (kindOf kind) a b) (h .nodes) ns fs c′ ns′ fs′
       → arena c′ ns′ fs′ ≡ laid ns fs (frameRun (h .qubits) (frameGates (kindOf kind) a b) (opened h ns fs))
   clifford-done c′ ns′ fs′ r =
-      let r₂ = rw gates-same at (r .same) in
       let ln : length (take (nodeWords * h .nodes) ns) ≡ 2 * h .nodes = length-take-le (nodeWords * h .nodes) ns (fits .used) in
       let lf : length (take (2 * h .qubits) fs) ≡ 2 * h .qubits = length-take-le (2 * h .qubits) fs (fits .places) in
       let en : overlay (take (nodeWords * h .nodes) ns) ns ≡ ns = ap (λ (m : ℕ). take (nodeWords * h .nodes) ns ++ drop m ns) ln ∙ take-append-drop (nodeWords * h .nodes) ns in
       let ef : overlay (take (2 * h .qubits) fs) fs ≡ fs = ap (λ (m : ℕ). take (2 * h .qubits) fs ++ drop m fs) lf ∙ take-append-drop (2 * h .qubits) fs in
       let a₀ : arena (h .nodes) ns fs ≡ laid ns fs (opened h ns fs) = rw (en, ef) in
-      r₂ ∙ ap (putRun (h .qubits) (frameGates (kindOf kind) a b)) a₀
+      r .same ∙ ap (putRun (h .qubits) (frameGates (kindOf kind) a b)) a₀
       ∙ put-run (h .qubits) (frameGates (kindOf kind) a b) ns fs (opened h ns fs) (record { nodes = ln; frame = omega (arith, lf) }) (fits .valid) (omega (arith, fits .room .lent))

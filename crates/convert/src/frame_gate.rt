@@ -15,7 +15,7 @@ ghost use Rattle.pauli.specs.Gates.{gateH, gateX, gateZ, gateS, gateSdg, gateCn
 ghost use Rattle.arena.specs.References.{scaledWord};
 ghost use Rattle.convert.specs.Types.{MinusOne};
 ghost use Rattle.arena.specs.Builder.{withNodes};
-ghost use Rattle.convert.specs.Frame.{cliffordStep};
+ghost use Rattle.convert.specs.Frame.{frameGates, cliffordStep};
 ghost use Rattle.convert.specs.Raw.{Multiplied, Ready, Ran, recordGates};
 
 /// What `push_output_clifford` answers.
@@ -43,7 +43,7 @@ pub fn push_output_clifford(
         return FramePushed::Refused(error);
     }
     let n = header.qubits as usize;
-    let count = frame_record(
+    let count = append(
         header.nodes,
         nodes,
         frame,
@@ -162,6 +162,40 @@ fn gate_cz(count: u32, nodes: &mut [u32], frame: &mut [u32], n: usize, c: usize,
 {
     let next = multiply(count, nodes, frame, c, c, n + t, 0);
     multiply(next, nodes, frame, t, n + c, t, 0)
+}
+
+// The frame gate of a kind, as `CliffordFrame::append` of the Rust; a kind that is none changes nothing.
+fn append(
+    count: u32,
+    nodes: &mut [u32],
+    frame: &mut [u32],
+    n: usize,
+    kind: GateKind,
+    a: usize,
+    b: usize,
+) -> u32
+    requires { ⌜ Ready n (frameGates kind a b) count (now nodes) (now frame) ⌝ }
+    ensures { λ r. ⌜ Ran n (frameGates kind a b) count (now (nodes .entry)) (now (frame .entry)) r (now (nodes .exit)) (now (frame .exit)) ⌝ }
+{
+    match kind {
+        GateKind::H => gate_h(count, nodes, frame, n, a),
+        GateKind::X => gate_x(count, nodes, frame, n, a),
+        GateKind::Z => gate_z(count, nodes, frame, n, a),
+        GateKind::S => gate_s(count, nodes, frame, n, a),
+        GateKind::Sdg => gate_sdg(count, nodes, frame, n, a),
+        GateKind::T => count,
+        GateKind::Tdg => count,
+        GateKind::Cnot => gate_cnot(count, nodes, frame, n, a, b),
+        GateKind::Cz => gate_cz(count, nodes, frame, n, a, b),
+        GateKind::Ccx => count,
+        GateKind::Ccz => count,
+        GateKind::Measure => count,
+        GateKind::Y => count,
+        GateKind::Sx => count,
+        GateKind::Swap => count,
+        GateKind::Cy => count,
+        GateKind::Unsupported => count,
+    }
 }
 
 // The frame gates of a record.

@@ -31,8 +31,8 @@ cast-n c = search needs
 of-requires : tie.Need-of-requires
 of-requires c κs = search needs
 
-frame-record-requires : tie.Need-frame-record-requires
-frame-record-requires c κs = rw (c .of .ensures) (clifford-ready (c .before .before .before .before .before .before .before .before .before .before .args .header) (c .before .before .before .before .before .before .before .before .before .before .args .nodes .now) (c .before .before .before .before .before .before .before .before .before .before .args .frame .now) (c .before .before .before .before .before .before .before .before .before .before .args .kind) (c .before .before .before .before .before .before .before .before .before .before .args .a) (c .before .before .before .before .before .before .before .before .before .before .args .b) (sym (c .before .before .before .before .before .before .check-clifford .ensures) ∙ c .before .before .before .before .enum-told .given .1))
+append-requires : tie.Need-append-requires
+append-requires c κs = rw (c .of .ensures) (clifford-ready (c .before .before .before .before .before .before .before .before .before .before .args .header) (c .before .before .before .before .before .before .before .before .before .before .args .nodes .now) (c .before .before .before .before .before .before .before .before .before .before .args .frame .now) (c .before .before .before .before .before .before .before .before .before .before .args .kind) (c .before .before .before .before .before .before .before .before .before .before .args .a) (c .before .before .before .before .before .before .before .before .before .before .args .b) (sym (c .before .before .before .before .before .before .check-clifford .ensures) ∙ c .before .before .before .before .enum-told .given .1))
 
 with-nodes-requires : tie.Need-with-nodes-requires
 with-nodes-requires c κs = search needs
@@ -47,7 +47,7 @@ returns-2 : tie.Need-returns-2
 unfolding cliffordStep
 returns-2 c =
     let e = sym (c .before .before .before .before .before .before .before .before .before .before .before .before .check-clifford .ensures) ∙ c .before .before .before .before .before .before .before .before .before .before .enum-told .given .1 in
-    let d = clifford-done (c .before .before .before .before .before .before .before .before .before .before .before .before .before .before .before .before .args .header) (c .before .before .before .before .before .before .before .before .before .before .before .before .before .before .before .before .args .nodes .now) (c .before .before .before .before .before .before .before .before .before .before .before .before .before .before .before .before .args .frame .now) (c .before .before .before .before .before .before .before .before .before .before .before .before .before .before .before .before .args .kind) (c .before .before .before .before .before .before .before .before .before .before .before .before .before .before .before .before .args .a) (c .before .before .before .before .before .before .before .before .before .before .before .before .before .before .before .before .args .b) e _ _ _ (rw (c .before .before .before .before .before .before .of .ensures) at (c .before .before .before .before .before .frame-record .ensures)) in
+    let d = clifford-done (c .before .before .before .before .before .before .before .before .before .before .before .before .before .before .before .before .args .header) (c .before .before .before .before .before .before .before .before .before .before .before .before .before .before .before .before .args .nodes .now) (c .before .before .before .before .before .before .before .before .before .before .before .before .before .before .before .before .args .frame .now) (c .before .before .before .before .before .before .before .before .before .before .before .before .before .before .before .before .args .kind) (c .before .before .before .before .before .before .before .before .before .before .before .before .before .before .before .before .args .a) (c .before .before .before .before .before .before .before .before .before .before .before .before .before .before .before .before .args .b) e _ _ _ (rw (c .before .before .before .before .before .before .of .ensures) at (c .before .before .before .before .before .append .ensures)) in
     rw e (ap FramePushedMade (c .with-nodes .ensures ∙ ap (λ (k : ℕ). withNodes k (c .before .before .before .before .before .before .before .before .before .before .before .before .before .before .before .before .args .header)) (ap (λ (s : Arena). s .count) d)), (ap (λ (s : Arena). s .nodes) d, ap (λ (s : Arena). s .frame) d))
 
 pub push-output-clifford-spec : {M : Type 1} → statement M
@@ -61,7 +61,7 @@ push-output-clifford-spec =
     enum-told
     cast-n
     of-requires
-    frame-record-requires
+    append-requires
     with-nodes-requires
     same-length-2
     same-length-3
