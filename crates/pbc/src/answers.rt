@@ -8,6 +8,7 @@ use crate::buffers::word;
 use crate::output;
 use crate::state::Answer;
 use crate::state::Buffer;
+use crate::state::Reply;
 use arena::AxisKind;
 use arena::Header;
 use arena::NODE_WORDS;
@@ -177,6 +178,19 @@ fn words_of(
     }
 }
 
+// An answer of numbers alone.
+fn brief(out: &mut [u8], at: usize, answer: Answer) -> usize {
+    match answer {
+        Answer::Bad => output::text(out, at, b"bad"),
+        Answer::Refused(r) => refused(out, at, r),
+        Answer::Done => ok(out, at),
+        Answer::One(a) => one(out, at, a),
+        Answer::Two(a, b) => two(out, at, a, b),
+        Answer::Three(a, b, c) => three(out, at, a, b, c),
+        _ => at,
+    }
+}
+
 fn without_end(
     out: &mut [u8],
     at: usize,
@@ -191,13 +205,6 @@ fn without_end(
     letters: &[u8],
 ) -> usize {
     match answer {
-        Answer::Nothing => at,
-        Answer::Bad => output::text(out, at, b"bad"),
-        Answer::Refused(r) => refused(out, at, r),
-        Answer::Done => ok(out, at),
-        Answer::One(a) => one(out, at, a),
-        Answer::Two(a, b) => two(out, at, a, b),
-        Answer::Three(a, b, c) => three(out, at, a, b, c),
         Answer::Dump => dump(out, at, h, nodes, operations, frame),
         Answer::DumpWithPlanes => { dump_with_planes(out, at, h, nodes, operations, frame, planes) }
         Answer::Letters(phase, work) => {
@@ -224,6 +231,7 @@ fn without_end(
             pool,
             letters,
         ),
+        _ => brief(out, at, answer),
     }
 }
 
@@ -231,8 +239,7 @@ fn without_end(
 pub(crate) fn print(
     out: &mut [u8],
     at: usize,
-    answer: Answer,
-    h: Header,
+    reply: Reply,
     nodes: &[u32],
     operations: &[u32],
     frame: &[u32],
@@ -241,6 +248,7 @@ pub(crate) fn print(
     pool: &[u32],
     letters: &[u8],
 ) -> usize {
+    let answer = reply.answer;
     if let Answer::Nothing = answer {
         return at;
     }
@@ -248,7 +256,7 @@ pub(crate) fn print(
         out,
         at,
         answer,
-        h,
+        reply.state.header,
         nodes,
         operations,
         frame,

@@ -1,4 +1,4 @@
-//! The commands that add to the current circuit, and those on angles and letters alone.
+//! The commands that add to the current circuit.
 
 use crate::buffers::lent;
 use crate::buffers::wide_at;
@@ -19,6 +19,14 @@ use arena::Target;
 use pauli::Pauli;
 use pauli::PauliAngle;
 
+pub enum Build {
+    Single,
+    Product,
+    Rotate,
+    Measure,
+    Conditional,
+}
+
 // The owner's number with F added.
 fn owner_at(h: Header, words: &[u32], at: usize) -> u64 {
     std::num::wrapping_add_u64(h.owner, wide_at(words, at))
@@ -36,8 +44,8 @@ fn axis(h: Header, words: &[u32]) -> PauliAxis {
     PauliAxis::assume_hermitian(handle(h, words, 0, 1))
 }
 
-/// `single QUBIT LETTER`
-pub(crate) fn single(state: State, line: Line, words: &[u32], nodes: &mut [u32]) -> Reply {
+// `single QUBIT LETTER`
+fn single(state: State, line: Line, words: &[u32], nodes: &mut [u32]) -> Reply {
     if !line.has(2) {
         return state.bad();
     }
@@ -54,8 +62,8 @@ pub(crate) fn single(state: State, line: Line, words: &[u32], nodes: &mut [u32])
     }
 }
 
-/// `product F W F W`
-pub(crate) fn product(state: State, line: Line, words: &[u32], nodes: &mut [u32]) -> Reply {
+// `product F W F W`
+fn product(state: State, line: Line, words: &[u32], nodes: &mut [u32]) -> Reply {
     if !line.has(4) {
         return state.bad();
     }
@@ -78,8 +86,8 @@ fn pushed(state: State, answer: Pushed) -> Reply {
     }
 }
 
-/// `rotate F W ANGLE`
-pub(crate) fn rotate(state: State, line: Line, words: &[u32], operations: &mut [u32]) -> Reply {
+// `rotate F W ANGLE`
+fn rotate(state: State, line: Line, words: &[u32], operations: &mut [u32]) -> Reply {
     if !line.has_signed(3, 2) {
         return state.bad();
     }
@@ -99,8 +107,8 @@ fn target(number: u32) -> Target {
     Target::Bit(number - 1)
 }
 
-/// `measure F W BIT+1`
-pub(crate) fn measure(state: State, line: Line, words: &[u32], operations: &mut [u32]) -> Reply {
+// `measure F W BIT+1`
+fn measure(state: State, line: Line, words: &[u32], operations: &mut [u32]) -> Reply {
     if !line.has(3) {
         return state.bad();
     }
@@ -116,13 +124,8 @@ pub(crate) fn measure(state: State, line: Line, words: &[u32], operations: &mut 
     }
 }
 
-/// `cond F W ANGLE F NUMBER`
-pub(crate) fn conditional(
-    state: State,
-    line: Line,
-    words: &[u32],
-    operations: &mut [u32],
-) -> Reply {
+// `cond F W ANGLE F NUMBER`
+fn conditional(state: State, line: Line, words: &[u32], operations: &mut [u32]) -> Reply {
     if !line.has_signed(5, 2) {
         return state.bad();
     }
@@ -135,25 +138,19 @@ pub(crate) fn conditional(
     pushed(state, answer)
 }
 
-/// `angle K`
-pub(crate) fn angle(state: State, line: Line, words: &[u32]) -> Reply {
-    if !line.has_signed(1, 0) {
-        return state.bad();
+pub(crate) fn answer(
+    command: Build,
+    state: State,
+    line: Line,
+    words: &[u32],
+    nodes: &mut [u32],
+    operations: &mut [u32],
+) -> Reply {
+    match command {
+        Build::Single => single(state, line, words, nodes),
+        Build::Product => product(state, line, words, nodes),
+        Build::Rotate => rotate(state, line, words, operations),
+        Build::Measure => measure(state, line, words, operations),
+        Build::Conditional => conditional(state, line, words, operations),
     }
-    let kept = PauliAngle::new(line.signed_at(words, 0));
-    state.says(Answer::One(kept.eighths() as u64))
-}
-
-/// `times A B`
-pub(crate) fn times(state: State, line: Line, words: &[u32]) -> Reply {
-    if !line.has(2) {
-        return state.bad();
-    }
-    let left = word(words, 0);
-    let right = word(words, 1);
-    if (3 < left) | (3 < right) {
-        return state.bad();
-    }
-    let product = pauli::times_numbers(left, right);
-    state.says(Answer::Two(product.phase as u64, product.pauli as u64))
 }

@@ -1,119 +1,127 @@
 //! Which command a line is, and the answer to it.
 
 use crate::builder;
+use crate::builder::Build;
 use crate::circuits;
+use crate::circuits::Circuit;
 use crate::conversion;
+use crate::conversion::Conversion;
+use crate::fill;
 use crate::line::Line;
 use crate::names::is;
+use crate::plain;
+use crate::plain::Plain;
 use crate::readers;
+use crate::readers::Reading;
 use crate::state::Answer;
 use crate::state::Reply;
 use crate::state::State;
 
+// The commands by the buffers that they see.
 enum Command {
     Unknown,
-    Lend,
+    Nothing,
+    Plain(Plain),
     Fill,
-    Peek,
-    New,
-    Store,
-    Header,
-    Dump,
-    Kinds,
-    Single,
-    Product,
-    Rotate,
-    Measure,
-    Conditional,
-    Angle,
-    Times,
-    Expand,
-    Hermitian,
-    Report,
-    Convert,
-    Planes,
-    FrameGate,
+    Circuit(Circuit),
+    Build(Build),
+    Reading(Reading),
+    Conversion(Conversion),
 }
 
-fn command_named(name: u64) -> Command {
-    if is(name, b"lend") {
-        return Command::Lend;
+fn command_of(line: Line) -> Command {
+    if line.bad {
+        return Command::Unknown;
+    }
+    let name = line.name;
+    if name == 0 {
+        return Command::Nothing;
     }
     if is(name, b"fill") {
+        return fill_command(line);
+    }
+    plain_command(name)
+}
+
+fn fill_command(line: Line) -> Command {
+    if line.has(1) {
         return Command::Fill;
     }
+    Command::Unknown
+}
+
+fn plain_command(name: u64) -> Command {
+    if is(name, b"lend") {
+        return Command::Plain(Plain::Lend);
+    }
     if is(name, b"peek") {
-        return Command::Peek;
+        return Command::Plain(Plain::Peek);
+    }
+    if is(name, b"header") {
+        return Command::Plain(Plain::Header);
+    }
+    if is(name, b"dump") {
+        return Command::Plain(Plain::Dump);
+    }
+    if is(name, b"kinds") {
+        return Command::Plain(Plain::Kinds);
     }
     if is(name, b"angle") {
-        return Command::Angle;
+        return Command::Plain(Plain::Angle);
     }
     if is(name, b"times") {
-        return Command::Times;
+        return Command::Plain(Plain::Times);
+    }
+    build_command(name)
+}
+
+fn build_command(name: u64) -> Command {
+    if is(name, b"single") {
+        return Command::Build(Build::Single);
+    }
+    if is(name, b"product") {
+        return Command::Build(Build::Product);
+    }
+    if is(name, b"rotate") {
+        return Command::Build(Build::Rotate);
+    }
+    if is(name, b"measure") {
+        return Command::Build(Build::Measure);
+    }
+    if is(name, b"cond") {
+        return Command::Build(Build::Conditional);
     }
     circuit_command(name)
 }
 
 fn circuit_command(name: u64) -> Command {
     if is(name, b"new") {
-        return Command::New;
+        return Command::Circuit(Circuit::New);
     }
     if is(name, b"store") {
-        return Command::Store;
+        return Command::Circuit(Circuit::Store);
     }
-    if is(name, b"header") {
-        return Command::Header;
-    }
-    if is(name, b"dump") {
-        return Command::Dump;
-    }
-    if is(name, b"kinds") {
-        return Command::Kinds;
-    }
-    builder_command(name)
-}
-
-fn builder_command(name: u64) -> Command {
-    if is(name, b"single") {
-        return Command::Single;
-    }
-    if is(name, b"product") {
-        return Command::Product;
-    }
-    if is(name, b"rotate") {
-        return Command::Rotate;
-    }
-    if is(name, b"measure") {
-        return Command::Measure;
-    }
-    if is(name, b"cond") {
-        return Command::Conditional;
-    }
-    reader_command(name)
-}
-
-fn reader_command(name: u64) -> Command {
-    if is(name, b"expand") {
-        return Command::Expand;
-    }
-    if is(name, b"herm") {
-        return Command::Hermitian;
-    }
-    if is(name, b"report") {
-        return Command::Report;
-    }
-    conversion_command(name)
-}
-
-fn conversion_command(name: u64) -> Command {
     if is(name, b"convert") {
-        return Command::Convert;
+        return Command::Conversion(Conversion::Convert);
     }
     if is(name, b"planes") {
-        return Command::Planes;
+        return Command::Conversion(Conversion::Planes);
     }
     if is(name, b"fgate") {
-        return Command::FrameGate;
+        return Command::Conversion(Conversion::FrameGate);
+    }
+    reading_command(name)
+}
+
+fn reading_command(name: u64) -> Command {
+    if is(name, b"expand") {
+        return Command::Reading(Reading::Expand);
+    }
+    if is(name, b"herm") {
+        return Command::Reading(Reading::Hermitian);
+    }
+    if is(name, b"report") {
+        return Command::Reading(Reading::Report);
     }
     Command::Unknown
 }
@@ -131,18 +139,12 @@ pub(crate) fn answer(
     pool: &mut [u32],
     letters: &mut [u8],
 ) -> Reply {
-    if line.bad {
-        return state.bad();
-    }
-    if line.name == 0 {
-        return state.says(Answer::Nothing);
-    }
-    match command_named(line.name) {
+    match command_of(line) {
         Command::Unknown => state.bad(),
-        Command::Lend => circuits::lend(state, line, words),
-        Command::Fill => circuits::fill(
+        Command::Nothing => state.says(Answer::Nothing),
+        Command::Plain(plain) => plain::answer(plain, state, line, words),
+        Command::Fill => fill::answer(
             state,
-            line,
             words,
             nodes,
             operations,
@@ -152,24 +154,24 @@ pub(crate) fn answer(
             pool,
             letters,
         ),
-        Command::Peek => circuits::peek(state, line, words),
-        Command::New => circuits::new(state, line, words, nodes, frame),
-        Command::Store => circuits::store(state, line, words, nodes, operations, frame),
-        Command::Header => circuits::header(state, line, words),
-        Command::Dump => circuits::dump(state, line),
-        Command::Kinds => circuits::kinds(state, line),
-        Command::Single => builder::single(state, line, words, nodes),
-        Command::Product => builder::product(state, line, words, nodes),
-        Command::Rotate => builder::rotate(state, line, words, operations),
-        Command::Measure => builder::measure(state, line, words, operations),
-        Command::Conditional => builder::conditional(state, line, words, operations),
-        Command::Angle => builder::angle(state, line, words),
-        Command::Times => builder::times(state, line, words),
-        Command::Expand => readers::expand(state, line, words, nodes, scratch, pool, letters),
-        Command::Hermitian => readers::hermitian(state, line, words, nodes, scratch, pool),
-        Command::Convert => conversion::convert_line(
+        Command::Circuit(circuit) => {
+            circuits::answer(circuit, state, line, words, nodes, operations, frame)
+        }
+        Command::Build(build) => builder::answer(build, state, line, words, nodes, operations),
+        Command::Reading(reading) => readers::answer(
+            reading,
             state,
-            Answer::Dump,
+            line,
+            words,
+            nodes,
+            operations,
+            scratch,
+            pool,
+            letters,
+        ),
+        Command::Conversion(conversion) => conversion::answer(
+            conversion,
+            state,
             line,
             words,
             nodes,
@@ -177,17 +179,5 @@ pub(crate) fn answer(
             frame,
             planes,
         ),
-        Command::Planes => conversion::convert_line(
-            state,
-            Answer::DumpWithPlanes,
-            line,
-            words,
-            nodes,
-            operations,
-            frame,
-            planes,
-        ),
-        Command::FrameGate => conversion::frame_gate(state, line, words, nodes, frame),
-        Command::Report => { readers::report(state, line, words, nodes, operations, scratch, pool) }
     }
 }

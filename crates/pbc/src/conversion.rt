@@ -14,6 +14,12 @@ use convert::Cap;
 use convert::Converted;
 use convert::FramePushed;
 
+pub enum Conversion {
+    Convert,
+    Planes,
+    FrameGate,
+}
+
 // What a line says of the cap.
 enum ReadCap {
     Fine(Cap),
@@ -22,16 +28,16 @@ enum ReadCap {
 
 // -1 is no cap; any other number is below 2^32.
 fn read_cap(line: Line, words: &[u32]) -> ReadCap {
-    if !line.has_wide {
+    if !line.wide {
         return ReadCap::Fine(Cap::AtMost(word(words, 2)));
     }
-    if !line.wide_negative {
+    if !line.sign {
         return ReadCap::Bad;
     }
-    if line.wide == 0 {
+    if line.value == 0 {
         return ReadCap::Fine(Cap::AtMost(0));
     }
-    if line.wide == 1 {
+    if line.value == 1 {
         return ReadCap::Fine(Cap::None);
     }
     ReadCap::Bad
@@ -72,8 +78,8 @@ fn gates(words: &[u32], count: usize) -> &[u32] {
     rest(first(words, count), 3)
 }
 
-/// `convert N CBITS CAP w0 w1 ..`, or `planes`, which shows the planes too
-pub(crate) fn convert_line(
+// `convert N CBITS CAP w0 w1 ..`, or `planes`, which shows the planes too
+fn convert_line(
     state: State,
     accepted: Answer,
     line: Line,
@@ -102,8 +108,8 @@ pub(crate) fn convert_line(
     )
 }
 
-/// `fgate KIND A B C`
-pub(crate) fn frame_gate(
+// `fgate KIND A B C`
+fn frame_gate(
     state: State,
     line: Line,
     words: &[u32],
@@ -126,5 +132,40 @@ pub(crate) fn frame_gate(
     match answer {
         FramePushed::Made(made) => state.with_header(made, Answer::Done),
         FramePushed::Refused(error) => state.refused(error),
+    }
+}
+
+pub(crate) fn answer(
+    command: Conversion,
+    state: State,
+    line: Line,
+    words: &[u32],
+    nodes: &mut [u32],
+    operations: &mut [u32],
+    frame: &mut [u32],
+    planes: &mut [u64],
+) -> Reply {
+    match command {
+        Conversion::Convert => convert_line(
+            state,
+            Answer::Dump,
+            line,
+            words,
+            nodes,
+            operations,
+            frame,
+            planes,
+        ),
+        Conversion::Planes => convert_line(
+            state,
+            Answer::DumpWithPlanes,
+            line,
+            words,
+            nodes,
+            operations,
+            frame,
+            planes,
+        ),
+        Conversion::FrameGate => frame_gate(state, line, words, nodes, frame),
     }
 }

@@ -7,11 +7,13 @@ mod builder;
 mod circuits;
 mod commands;
 mod conversion;
+mod fill;
+mod input;
 mod line;
 mod names;
 mod output;
+mod plain;
 mod readers;
-mod session;
 mod state;
 
 use buffers::CHUNK;
@@ -23,7 +25,7 @@ use buffers::OPERATIONS;
 use buffers::PLANES;
 use buffers::POOL;
 use buffers::SCRATCH;
-use session::run;
+use input::session::run;
 
 fn main() {
     let mut input = [0u8; CHUNK];

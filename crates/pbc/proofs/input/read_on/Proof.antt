@@ -1,21 +1,20 @@
--- `read_line` goes on by one byte at least, and ends.
+-- `read_on` is safe and ends: the place goes up to the length of the chunk.
 use mathlib.Core.Path.{_≡_, refl}
 use Prim.Native.Nat.{_-_}
 use native.Mathlib.Omega.{arith}
 use lib.ListN.{length}
 use borrow.Author.Needs.{needs}
-use Prim.Native.Nat.{_≤_}
-use Rattle.pbc.proofs.session.read_line.Statement.{statement}
-use Rattle.pbc.proofs.session.read_line.Tie as tie
+use Rattle.pbc.proofs.input.read_on.Statement.{statement}
+use Rattle.pbc.proofs.input.read_on.Tie as tie
 
 abbrev Inv-loop : tie.InvT-loop
-Inv-loop bytes from words₀ line₀ next₀ words line next = (from ≤ next) × (length words ≡ length words₀)
+Inv-loop chunk from words₀ line₀ next₀ words line next = length words ≡ length words₀
 
 abbrev μ-loop : tie.MeasureT-loop
-μ-loop bytes from words₀ line₀ next₀ words line next = length bytes - next
+μ-loop chunk from words₀ line₀ next₀ words line next = length chunk - next
 
 loop-holds : tie.Need-loop-holds Inv-loop μ-loop
-loop-holds c = (omega arith, refl)
+loop-holds c = refl
 
 shared-slice-read-byte : tie.Need-shared-slice-read-byte Inv-loop μ-loop
 shared-slice-read-byte c = search needs
@@ -30,7 +29,7 @@ same-length : tie.Need-same-length Inv-loop μ-loop
 same-length c = omega arith
 
 returns : tie.Need-returns Inv-loop μ-loop
-returns c = omega arith
+returns c = tt
 
 with-byte-requires : tie.Need-with-byte-requires Inv-loop μ-loop
 with-byte-requires c κs = search needs
@@ -39,16 +38,16 @@ loop-less : tie.Need-loop-less Inv-loop μ-loop
 loop-less c = omega arith
 
 loop-again : tie.Need-loop-again Inv-loop μ-loop
-loop-again c = (omega arith, omega arith)
+loop-again c = omega arith
 
 same-length-2 : tie.Need-same-length-2 Inv-loop μ-loop
 same-length-2 c = omega arith
 
 returns-2 : tie.Need-returns-2 Inv-loop μ-loop
-returns-2 c = omega arith
+returns-2 c = tt
 
-pub read-line-spec : {M : Type 1} → statement M
-read-line-spec =
+pub read-on-spec : {M : Type 1} → statement M
+read-on-spec =
     tie.close
     (tie.spec
     Inv-loop

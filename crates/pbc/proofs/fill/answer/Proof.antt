@@ -1,0 +1,69 @@
+-- `answer` of `fill` is safe: each buffer keeps its length.
+use borrow.Author.Needs.{needs}
+use Rattle.pbc.proofs.fill.answer.Statement.{statement}
+use Rattle.pbc.proofs.fill.answer.Tie as tie
+
+word-requires : tie.Need-word-requires
+word-requires c κs = search needs
+
+fill-circuit-requires : tie.Need-fill-circuit-requires
+fill-circuit-requires c κs = search needs
+
+fill-work-requires : tie.Need-fill-work-requires
+fill-work-requires c κs = search needs
+
+cast-fill-wide : tie.Need-cast-fill-wide
+cast-fill-wide c = search needs
+
+fill-wide-requires : tie.Need-fill-wide-requires
+fill-wide-requires c κs = search needs
+
+empty-requires : tie.Need-empty-requires
+empty-requires c κs = search needs
+
+with-header-requires : tie.Need-with-header-requires
+with-header-requires c κs = search needs
+
+same-length : tie.Need-same-length
+same-length c = c .before .before .before .before .before .before .before .before .before .before .before .before .before .before .before .before .before .before .before .before .before .before .fill-circuit .kept .0
+
+same-length-2 : tie.Need-same-length-2
+same-length-2 c = c .before .before .before .before .before .before .before .before .before .before .before .before .before .before .before .before .before .before .before .before .before .before .fill-circuit .kept .1 .0
+
+same-length-3 : tie.Need-same-length-3
+same-length-3 c = c .before .before .before .before .before .before .before .before .before .before .before .before .before .before .before .before .before .before .before .before .before .before .fill-circuit .kept .1 .1 .0
+
+same-length-4 : tie.Need-same-length-4
+same-length-4 c = search needs
+
+same-length-5 : tie.Need-same-length-5
+same-length-5 c = search needs
+
+same-length-6 : tie.Need-same-length-6
+same-length-6 c = search needs
+
+same-length-7 : tie.Need-same-length-7
+same-length-7 c = search needs
+
+returns : tie.Need-returns
+returns c = search needs
+
+pub answer-spec : {M : Type 1} → statement M
+answer-spec =
+    tie.close
+    (tie.spec
+    word-requires
+    fill-circuit-requires
+    fill-work-requires
+    cast-fill-wide
+    fill-wide-requires
+    empty-requires
+    with-header-requires
+    same-length
+    same-length-2
+    same-length-3
+    same-length-4
+    same-length-5
+    same-length-6
+    same-length-7
+    returns)

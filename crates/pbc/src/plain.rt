@@ -1,0 +1,172 @@
+//! The commands that touch no buffer.
+
+use crate::buffers::FRAME;
+use crate::buffers::LETTERS;
+use crate::buffers::Lends;
+use crate::buffers::NODES;
+use crate::buffers::OPERATIONS;
+use crate::buffers::PLANES;
+use crate::buffers::POOL;
+use crate::buffers::SCRATCH;
+use crate::buffers::count_at;
+use crate::buffers::word;
+use crate::line::Line;
+use crate::names::is;
+use crate::state::Answer;
+use crate::state::Buffer;
+use crate::state::OWNER;
+use crate::state::Reply;
+use crate::state::State;
+use arena::Header;
+use pauli::PauliAngle;
+
+pub enum Plain {
+    Lend,
+    Peek,
+    Header,
+    Dump,
+    Kinds,
+    Angle,
+    Times,
+}
+
+// `lend`, or `lend` with a count for each buffer
+fn lend(state: State, line: Line, words: &[u32]) -> Reply {
+    if line.has(0) {
+        return state.with_lends(Lends::all());
+    }
+    if !line.has(7) {
+        return state.bad();
+    }
+    let lends = Lends::of(words);
+    if lends.exceed() {
+        return state.bad();
+    }
+    state.with_lends(lends)
+}
+
+fn buffer_named(name: u64) -> Buffer {
+    if is(name, b"nodes") {
+        return Buffer::Nodes;
+    }
+    if is(name, b"operations") {
+        return Buffer::Operations;
+    }
+    if is(name, b"frame") {
+        return Buffer::Frame;
+    }
+    if is(name, b"planes") {
+        return Buffer::Planes;
+    }
+    if is(name, b"scratch") {
+        return Buffer::Scratch;
+    }
+    if is(name, b"pool") {
+        return Buffer::Pool;
+    }
+    if is(name, b"letters") {
+        return Buffer::Letters;
+    }
+    Buffer::Unknown
+}
+
+fn length_of(buffer: Buffer) -> usize {
+    match buffer {
+        Buffer::Nodes => NODES,
+        Buffer::Operations => OPERATIONS,
+        Buffer::Frame => FRAME,
+        Buffer::Planes => PLANES,
+        Buffer::Scratch => SCRATCH,
+        Buffer::Pool => POOL,
+        Buffer::Letters => LETTERS,
+        Buffer::Unknown => 0,
+    }
+}
+
+// `peek BUFFER FROM COUNT`
+fn peek(state: State, line: Line, words: &[u32]) -> Reply {
+    if !line.has_buffer(2) {
+        return state.bad();
+    }
+    let buffer = buffer_named(line.buffer);
+    if let Buffer::Unknown = buffer {
+        return state.bad();
+    }
+    let from = count_at(words, 0);
+    let count = count_at(words, 1);
+    let length = length_of(buffer);
+    if length < from {
+        return state.bad();
+    }
+    if length - from < count {
+        return state.bad();
+    }
+    state.says(Answer::Words(buffer, from, count))
+}
+
+// `header N CBITS NODES OPERATIONS MEASUREMENTS`
+fn header(state: State, line: Line, words: &[u32]) -> Reply {
+    if !line.has(5) {
+        return state.bad();
+    }
+    let header = Header {
+        qubits: word(words, 0),
+        cbits: word(words, 1),
+        owner: OWNER,
+        nodes: word(words, 2),
+        operations: word(words, 3),
+        measurements: word(words, 4),
+    };
+    state.with_header(header, Answer::Done)
+}
+
+// `dump`
+fn dump(state: State, line: Line) -> Reply {
+    if !line.has(0) {
+        return state.bad();
+    }
+    state.says(Answer::Dump)
+}
+
+// `kinds`
+fn kinds(state: State, line: Line) -> Reply {
+    if !line.has(0) {
+        return state.bad();
+    }
+    state.says(Answer::Kinds)
+}
+
+// `angle K`
+fn angle(state: State, line: Line, words: &[u32]) -> Reply {
+    if !line.has_signed(1, 0) {
+        return state.bad();
+    }
+    let kept = PauliAngle::new(line.signed_at(words, 0));
+    state.says(Answer::One(kept.eighths() as u64))
+}
+
+// `times A B`
+fn times(state: State, line: Line, words: &[u32]) -> Reply {
+    if !line.has(2) {
+        return state.bad();
+    }
+    let left = word(words, 0);
+    let right = word(words, 1);
+    if (3 < left) | (3 < right) {
+        return state.bad();
+    }
+    let product = pauli::times_numbers(left, right);
+    state.says(Answer::Two(product.phase as u64, product.pauli as u64))
+}
+
+pub(crate) fn answer(command: Plain, state: State, line: Line, words: &[u32]) -> Reply {
+    match command {
+        Plain::Lend => lend(state, line, words),
+        Plain::Peek => peek(state, line, words),
+        Plain::Header => header(state, line, words),
+        Plain::Dump => dump(state, line),
+        Plain::Kinds => kinds(state, line),
+        Plain::Angle => angle(state, line, words),
+        Plain::Times => times(state, line, words),
+    }
+}
