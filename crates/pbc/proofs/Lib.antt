@@ -1,3 +1,4 @@
 -- Laws that the proofs of the functions cite.
 pub mod NameLaws
 pub mod BufferLaws
+pub mod LineLaws

@@ -3,3 +3,5 @@ pub mod Names
 pub mod Buffers
 pub mod State
 pub mod Lines
+pub mod Handles
+pub mod Plain

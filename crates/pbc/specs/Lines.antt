@@ -1,7 +1,10 @@
--- What is tested of a line: how many numbers it has, of which range, and whether it names a buffer.
-use mathlib.Core.Bool.{Bool, false, _&&_, _||_, not}
+-- What is read of a line: how many numbers it has, of which range, whether it names a buffer, and a number with a sign.
+use mathlib.Core.Bool.{Bool, false, cond, _&&_, _||_, not}
+use mathlib.Core.List.{List}
 use Prim.Native.Nat.{ℕ}
-use lib.Dec.{leb, eqb}
+use lib.Dec.{leb, ltb, eqb}
+use lib.IntN.{ℤ, pos, negsuc, _-ℤ_}
+use lib.ListN.{getD}
 pub use Rattle.pbc.specs.declared.line.Line.{Line}
 
 abbrev pub newLine : Line
@@ -38,3 +41,11 @@ hasMoreSigned l count place = (leb count (l .numbers) && eqb (l .buffer) 0) && (
 -- a buffer's name and so many numbers, each below 2^32
 unfoldable pub hasBuffer : Line → ℕ → Bool
 hasBuffer l count = (eqb (l .numbers) count && not (eqb (l .buffer) 0)) && not (l .wide)
+
+-- the number with this magnitude, at most 2^63, and this sign
+unfoldable pub signedOf : ℕ → Bool → ℤ
+signedOf magnitude minus = cond (ltb 9223372036854775807 magnitude) (negsuc 9223372036854775807) (cond minus (pos 0 -ℤ pos magnitude) (pos magnitude))
+
+-- the number at a place, with its sign
+unfoldable pub signedAt : Line → List ℕ → ℕ → ℤ
+signedAt l ws place = cond (l .wide) (signedOf (l .value) (l .sign)) (signedOf (getD ws place 0) false)

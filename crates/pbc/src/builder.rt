@@ -18,6 +18,8 @@ use arena::Singled;
 use arena::Target;
 use pauli::Pauli;
 use pauli::PauliAngle;
+ghost use mathlib.Core.Path.{_≡_};
+ghost use Rattle.pbc.specs.Handles.{ownerAt, handleAt};
 
 pub enum Build {
     Single,
@@ -28,19 +30,25 @@ pub enum Build {
 }
 
 // The owner's number with F added.
-fn owner_at(h: Header, words: &[u32], at: usize) -> u64 {
+fn owner_at(h: Header, words: &[u32], at: usize) -> u64
+    ensures { λ r. ⌜ r ≡ ownerAt (h .owner) (now (words .entry)) at ⌝ }
+{
     std::num::wrapping_add_u64(h.owner, wide_at(words, at))
 }
 
 /// The handle `F W`, F at the first of the two places.
-pub(crate) fn handle(h: Header, words: &[u32], f: usize, w: usize) -> PauliRef {
+pub(crate) fn handle(h: Header, words: &[u32], f: usize, w: usize) -> PauliRef
+    ensures { λ r. ⌜ r ≡ handleAt (h .owner) (now (words .entry)) f w ⌝ }
+{
     PauliRef {
         owner: owner_at(h, words, f),
         word: word(words, w),
     }
 }
 
-fn axis(h: Header, words: &[u32]) -> PauliAxis {
+fn axis(h: Header, words: &[u32]) -> PauliAxis
+    ensures { λ r. ⌜ r .0 ≡ handleAt (h .owner) (now (words .entry)) 0 1 ⌝ }
+{
     PauliAxis::assume_hermitian(handle(h, words, 0, 1))
 }
 

@@ -1,13 +1,15 @@
 //! A line of input, read byte by byte: a command's name, then numbers, or a buffer's name and numbers, with spaces between them.
 //! Numbers below 2^32 go to a lent slice. No command has more than one number of another range, so that one is kept in the line.
 
+pub mod input;
+
 use crate::buffers::put_word;
 use crate::buffers::wide_at;
 use crate::names::NO_NAME;
 use crate::names::extended;
 use crate::names::is_letter;
 ghost use mathlib.Core.Path.{_≡_};
-ghost use Rattle.pbc.specs.Lines.{newLine, hasNumbers, hasSigned, hasMore, hasMoreSigned, hasBuffer};
+ghost use Rattle.pbc.specs.Lines.{newLine, hasNumbers, hasSigned, hasMore, hasMoreSigned, hasBuffer, signedOf, signedAt};
 
 /// The longest line that is read, in bytes.
 const LONGEST: u32 = 4500000;
@@ -70,7 +72,9 @@ fn with_digit(magnitude: u64, digit: u8) -> u64 {
 }
 
 // The number with this magnitude, at most 2^63, and this sign.
-fn signed(magnitude: u64, negative: bool) -> i64 {
+fn signed(magnitude: u64, negative: bool) -> i64
+    ensures { λ r. ⌜ r ≡ signedOf magnitude negative ⌝ }
+{
     if 9223372036854775807 < magnitude {
         return -9223372036854775808;
     }
@@ -101,8 +105,8 @@ impl Line {
         }
     }
 
-    /// The line with one byte more, which is no line feed.
-    pub(crate) fn with_byte(self, byte: u8, words: &mut [u32]) -> Line {
+    // The line with one byte more, which is no line feed.
+    fn with_byte(self, byte: u8, words: &mut [u32]) -> Line {
         if self.bad {
             return self;
         }
@@ -212,8 +216,8 @@ impl Line {
         self
     }
 
-    /// The line where the name or number being read has ended.
-    pub(crate) fn ended(self, words: &mut [u32]) -> Line {
+    // The line where the name or number being read has ended.
+    fn ended(self, words: &mut [u32]) -> Line {
         let token = self.token;
         if token == NUMBER {
             return self.number_ended(words);
@@ -310,7 +314,9 @@ impl Line {
     }
 
     /// The number at a place, with its sign.
-    pub(crate) fn signed_at(self, words: &[u32], place: usize) -> i64 {
+    pub(crate) fn signed_at(self, words: &[u32], place: usize) -> i64
+        ensures { λ r. ⌜ r ≡ signedAt self (now (words .entry)) place ⌝ }
+    {
         if self.wide {
             return signed(self.value, self.sign);
         }

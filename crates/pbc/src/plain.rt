@@ -19,6 +19,9 @@ use crate::state::Reply;
 use crate::state::State;
 use arena::Header;
 use pauli::PauliAngle;
+ghost use mathlib.Core.Path.{_≡_};
+ghost use Rattle.pbc.specs.Plain.{lendReply, isUnknown, bufferNamed, lengthOf, peekedReply, peekReply, headerReply};
+ghost use Rattle.pbc.specs.Plain.{dumpReply, kindsReply, angleReply, timesReply, plainReply};
 
 pub enum Plain {
     Lend,
@@ -31,7 +34,9 @@ pub enum Plain {
 }
 
 // `lend`, or `lend` with a count for each buffer
-fn lend(state: State, line: Line, words: &[u32]) -> Reply {
+fn lend(state: State, line: Line, words: &[u32]) -> Reply
+    ensures { λ r. ⌜ r ≡ lendReply state line (now (words .entry)) ⌝ }
+{
     if line.has(0) {
         return state.with_lends(Lends::all());
     }
@@ -45,7 +50,9 @@ fn lend(state: State, line: Line, words: &[u32]) -> Reply {
     state.with_lends(lends)
 }
 
-fn buffer_named(name: u64) -> Buffer {
+fn buffer_named(name: u64) -> Buffer
+    ensures { λ r. ⌜ r ≡ bufferNamed name ⌝ }
+{
     if is(name, b"nodes") {
         return Buffer::Nodes;
     }
@@ -70,7 +77,9 @@ fn buffer_named(name: u64) -> Buffer {
     Buffer::Unknown
 }
 
-fn length_of(buffer: Buffer) -> usize {
+fn length_of(buffer: Buffer) -> usize
+    ensures { λ r. ⌜ r ≡ lengthOf buffer ⌝ }
+{
     match buffer {
         Buffer::Nodes => NODES,
         Buffer::Operations => OPERATIONS,
@@ -83,17 +92,27 @@ fn length_of(buffer: Buffer) -> usize {
     }
 }
 
-// `peek BUFFER FROM COUNT`
-fn peek(state: State, line: Line, words: &[u32]) -> Reply {
-    if !line.has_buffer(2) {
+fn is_unknown(buffer: Buffer) -> bool
+    ensures { λ r. ⌜ r ≡ isUnknown buffer ⌝ }
+{
+    match buffer {
+        Buffer::Nodes => false,
+        Buffer::Operations => false,
+        Buffer::Frame => false,
+        Buffer::Planes => false,
+        Buffer::Scratch => false,
+        Buffer::Pool => false,
+        Buffer::Letters => false,
+        Buffer::Unknown => true,
+    }
+}
+
+fn peeked(state: State, buffer: Buffer, from: usize, count: usize) -> Reply
+    ensures { λ r. ⌜ r ≡ peekedReply state buffer from count ⌝ }
+{
+    if is_unknown(buffer) {
         return state.bad();
     }
-    let buffer = buffer_named(line.buffer);
-    if let Buffer::Unknown = buffer {
-        return state.bad();
-    }
-    let from = count_at(words, 0);
-    let count = count_at(words, 1);
     let length = length_of(buffer);
     if length < from {
         return state.bad();
@@ -104,8 +123,22 @@ fn peek(state: State, line: Line, words: &[u32]) -> Reply {
     state.says(Answer::Words(buffer, from, count))
 }
 
+// `peek BUFFER FROM COUNT`
+fn peek(state: State, line: Line, words: &[u32]) -> Reply
+    ensures { λ r. ⌜ r ≡ peekReply state line (now (words .entry)) ⌝ }
+{
+    if !line.has_buffer(2) {
+        return state.bad();
+    }
+    let from = count_at(words, 0);
+    let count = count_at(words, 1);
+    peeked(state, buffer_named(line.buffer), from, count)
+}
+
 // `header N CBITS NODES OPERATIONS MEASUREMENTS`
-fn header(state: State, line: Line, words: &[u32]) -> Reply {
+fn header(state: State, line: Line, words: &[u32]) -> Reply
+    ensures { λ r. ⌜ r ≡ headerReply state line (now (words .entry)) ⌝ }
+{
     if !line.has(5) {
         return state.bad();
     }
@@ -121,7 +154,9 @@ fn header(state: State, line: Line, words: &[u32]) -> Reply {
 }
 
 // `dump`
-fn dump(state: State, line: Line) -> Reply {
+fn dump(state: State, line: Line) -> Reply
+    ensures { λ r. ⌜ r ≡ dumpReply state line ⌝ }
+{
     if !line.has(0) {
         return state.bad();
     }
@@ -129,7 +164,9 @@ fn dump(state: State, line: Line) -> Reply {
 }
 
 // `kinds`
-fn kinds(state: State, line: Line) -> Reply {
+fn kinds(state: State, line: Line) -> Reply
+    ensures { λ r. ⌜ r ≡ kindsReply state line ⌝ }
+{
     if !line.has(0) {
         return state.bad();
     }
@@ -137,7 +174,9 @@ fn kinds(state: State, line: Line) -> Reply {
 }
 
 // `angle K`
-fn angle(state: State, line: Line, words: &[u32]) -> Reply {
+fn angle(state: State, line: Line, words: &[u32]) -> Reply
+    ensures { λ r. ⌜ r ≡ angleReply state line (now (words .entry)) ⌝ }
+{
     if !line.has_signed(1, 0) {
         return state.bad();
     }
@@ -146,7 +185,9 @@ fn angle(state: State, line: Line, words: &[u32]) -> Reply {
 }
 
 // `times A B`
-fn times(state: State, line: Line, words: &[u32]) -> Reply {
+fn times(state: State, line: Line, words: &[u32]) -> Reply
+    ensures { λ r. ⌜ r ≡ timesReply state line (now (words .entry)) ⌝ }
+{
     if !line.has(2) {
         return state.bad();
     }
@@ -159,7 +200,9 @@ fn times(state: State, line: Line, words: &[u32]) -> Reply {
     state.says(Answer::Two(product.phase as u64, product.pauli as u64))
 }
 
-pub(crate) fn answer(command: Plain, state: State, line: Line, words: &[u32]) -> Reply {
+pub(crate) fn answer(command: Plain, state: State, line: Line, words: &[u32]) -> Reply
+    ensures { λ r. ⌜ r ≡ plainReply command state line (now (words .entry)) ⌝ }
+{
     match command {
         Plain::Lend => lend(state, line, words),
         Plain::Peek => peek(state, line, words),

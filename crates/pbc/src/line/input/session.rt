@@ -3,11 +3,11 @@
 use super::TURNS;
 use super::new_reader;
 use super::next_line;
-use crate::answers::print;
 use crate::commands::answer;
 use crate::line::Line;
-use crate::output::flush;
+use crate::output::answers::print;
 use crate::state::State;
+use libc::STDOUT_FILENO;
 ghost use Prim.Native.Nat.{_<_};
 
 /// The state, and how many bytes of answers are not yet written.
@@ -75,6 +75,13 @@ fn turns_left(turns: u64, over: bool) -> u64
         return 0;
     }
     turns - 1
+}
+
+// What is left is written.
+fn flush(out: &[u8], at: usize) {
+    if at <= out.len() {
+        io::write_all(STDOUT_FILENO, &out[0..at]);
+    }
 }
 
 /// Answers every line of the input.
