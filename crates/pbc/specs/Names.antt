@@ -2,7 +2,7 @@
 use mathlib.Core.Bool.{Bool, cond, _&&_}
 use mathlib.Core.List.{List, [], _∷_}
 use Prim.Native.Nat.{ℕ, _+_, _-_, _*_}
-use lib.Dec.{leb, ltb, eqb}
+use lib.Dec.{leb, ltb}
 
 abbrev pub noName : ℕ
 noName = 18446744073709551615
@@ -22,6 +22,3 @@ extendedBy name (byte ∷ text) = extendedBy (extendedName name byte) text
 
 abbrev pub numberOf : List ℕ → ℕ
 numberOf text = extendedBy 0 text
-
-abbrev pub isName : ℕ → List ℕ → Bool
-isName name text = eqb name (numberOf text)

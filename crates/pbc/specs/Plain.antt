@@ -2,11 +2,11 @@
 use mathlib.Core.Bool.{Bool, true, false, cond, _||_}
 use mathlib.Core.List.{List, [], _∷_}
 use Prim.Native.Nat.{ℕ, _-_}
-use lib.Dec.{ltb}
+use lib.Dec.{ltb, eqb}
 use lib.ListN.{getD}
 use Rattle.pauli.specs.Angle.{remainder8}
 use Rattle.pauli.specs.Letters.{numberProduct}
-use Rattle.pbc.specs.Names.{isName}
+use Rattle.pbc.specs.Names.{numberOf}
 use Rattle.pbc.specs.Buffers.{allLends, lendsOf, exceeds}
 use Rattle.pbc.specs.State.{State, Header, Reply, Answer, Bad, Done, One, Two, Words, ShowCircuit, ShowKinds, saysOf, headedOf, lentOf}
 use Rattle.pbc.specs.Lines.{Line, hasNumbers, hasSigned, hasBuffer, signedAt}
@@ -23,13 +23,13 @@ lendReply s l ws =
 -- names by their bytes: nodes, operations, frame, planes, scratch, pool, letters
 unfoldable pub bufferNamed : ℕ → Buffer
 bufferNamed name =
-    cond (isName name (110 ∷ 111 ∷ 100 ∷ 101 ∷ 115 ∷ [])) Nodes
-    (cond (isName name (111 ∷ 112 ∷ 101 ∷ 114 ∷ 97 ∷ 116 ∷ 105 ∷ 111 ∷ 110 ∷ 115 ∷ [])) Operations
-    (cond (isName name (102 ∷ 114 ∷ 97 ∷ 109 ∷ 101 ∷ [])) Frame
-    (cond (isName name (112 ∷ 108 ∷ 97 ∷ 110 ∷ 101 ∷ 115 ∷ [])) Planes
-    (cond (isName name (115 ∷ 99 ∷ 114 ∷ 97 ∷ 116 ∷ 99 ∷ 104 ∷ [])) Scratch
-    (cond (isName name (112 ∷ 111 ∷ 111 ∷ 108 ∷ [])) Pool
-    (cond (isName name (108 ∷ 101 ∷ 116 ∷ 116 ∷ 101 ∷ 114 ∷ 115 ∷ [])) Letters
+    cond (eqb name (numberOf (110 ∷ 111 ∷ 100 ∷ 101 ∷ 115 ∷ []))) Nodes
+    (cond (eqb name (numberOf (111 ∷ 112 ∷ 101 ∷ 114 ∷ 97 ∷ 116 ∷ 105 ∷ 111 ∷ 110 ∷ 115 ∷ []))) Operations
+    (cond (eqb name (numberOf (102 ∷ 114 ∷ 97 ∷ 109 ∷ 101 ∷ []))) Frame
+    (cond (eqb name (numberOf (112 ∷ 108 ∷ 97 ∷ 110 ∷ 101 ∷ 115 ∷ []))) Planes
+    (cond (eqb name (numberOf (115 ∷ 99 ∷ 114 ∷ 97 ∷ 116 ∷ 99 ∷ 104 ∷ []))) Scratch
+    (cond (eqb name (numberOf (112 ∷ 111 ∷ 111 ∷ 108 ∷ []))) Pool
+    (cond (eqb name (numberOf (108 ∷ 101 ∷ 116 ∷ 116 ∷ 101 ∷ 114 ∷ 115 ∷ []))) Letters
     Unknown))))))
 
 abbrev pub isUnknown : Buffer → Bool

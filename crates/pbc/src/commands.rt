@@ -8,7 +8,7 @@ use crate::conversion;
 use crate::conversion::Conversion;
 use crate::fill;
 use crate::line::Line;
-use crate::names::is;
+use crate::names;
 use crate::plain;
 use crate::plain::Plain;
 use crate::readers;
@@ -34,94 +34,42 @@ fn command_of(line: Line) -> Command {
         return Command::Unknown;
     }
     let name = line.name;
-    if name == 0 {
-        return Command::Nothing;
-    }
-    if is(name, b"fill") {
+    if name == names::FILL {
         return fill_command(line);
     }
-    plain_command(name)
+    command_named(name)
+}
+
+fn command_named(name: u64) -> Command {
+    match name {
+        0 => Command::Nothing,
+        names::LEND => Command::Plain(Plain::Lend),
+        names::PEEK => Command::Plain(Plain::Peek),
+        names::HEADER => Command::Plain(Plain::Header),
+        names::DUMP => Command::Plain(Plain::Dump),
+        names::KINDS => Command::Plain(Plain::Kinds),
+        names::ANGLE => Command::Plain(Plain::Angle),
+        names::TIMES => Command::Plain(Plain::Times),
+        names::SINGLE => Command::Build(Build::Single),
+        names::PRODUCT => Command::Build(Build::Product),
+        names::ROTATE => Command::Build(Build::Rotate),
+        names::MEASURE => Command::Build(Build::Measure),
+        names::COND => Command::Build(Build::Conditional),
+        names::NEW => Command::Circuit(Circuit::New),
+        names::STORE => Command::Circuit(Circuit::Store),
+        names::CONVERT => Command::Conversion(Conversion::Convert),
+        names::PLANES => Command::Conversion(Conversion::Planes),
+        names::FGATE => Command::Conversion(Conversion::FrameGate),
+        names::EXPAND => Command::Reading(Reading::Expand),
+        names::HERM => Command::Reading(Reading::Hermitian),
+        names::REPORT => Command::Reading(Reading::Report),
+        _ => Command::Unknown,
+    }
 }
 
 fn fill_command(line: Line) -> Command {
     if line.has(1) {
         return Command::Fill;
-    }
-    Command::Unknown
-}
-
-fn plain_command(name: u64) -> Command {
-    if is(name, b"lend") {
-        return Command::Plain(Plain::Lend);
-    }
-    if is(name, b"peek") {
-        return Command::Plain(Plain::Peek);
-    }
-    if is(name, b"header") {
-        return Command::Plain(Plain::Header);
-    }
-    if is(name, b"dump") {
-        return Command::Plain(Plain::Dump);
-    }
-    if is(name, b"kinds") {
-        return Command::Plain(Plain::Kinds);
-    }
-    if is(name, b"angle") {
-        return Command::Plain(Plain::Angle);
-    }
-    if is(name, b"times") {
-        return Command::Plain(Plain::Times);
-    }
-    build_command(name)
-}
-
-fn build_command(name: u64) -> Command {
-    if is(name, b"single") {
-        return Command::Build(Build::Single);
-    }
-    if is(name, b"product") {
-        return Command::Build(Build::Product);
-    }
-    if is(name, b"rotate") {
-        return Command::Build(Build::Rotate);
-    }
-    if is(name, b"measure") {
-        return Command::Build(Build::Measure);
-    }
-    if is(name, b"cond") {
-        return Command::Build(Build::Conditional);
-    }
-    circuit_command(name)
-}
-
-fn circuit_command(name: u64) -> Command {
-    if is(name, b"new") {
-        return Command::Circuit(Circuit::New);
-    }
-    if is(name, b"store") {
-        return Command::Circuit(Circuit::Store);
-    }
-    if is(name, b"convert") {
-        return Command::Conversion(Conversion::Convert);
-    }
-    if is(name, b"planes") {
-        return Command::Conversion(Conversion::Planes);
-    }
-    if is(name, b"fgate") {
-        return Command::Conversion(Conversion::FrameGate);
-    }
-    reading_command(name)
-}
-
-fn reading_command(name: u64) -> Command {
-    if is(name, b"expand") {
-        return Command::Reading(Reading::Expand);
-    }
-    if is(name, b"herm") {
-        return Command::Reading(Reading::Hermitian);
-    }
-    if is(name, b"report") {
-        return Command::Reading(Reading::Report);
     }
     Command::Unknown
 }

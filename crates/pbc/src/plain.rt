@@ -11,7 +11,7 @@ use crate::buffers::SCRATCH;
 use crate::buffers::count_at;
 use crate::buffers::word;
 use crate::line::Line;
-use crate::names::is;
+use crate::names;
 use crate::state::Answer;
 use crate::state::Buffer;
 use crate::state::OWNER;
@@ -53,25 +53,25 @@ fn lend(state: State, line: Line, words: &[u32]) -> Reply
 fn buffer_named(name: u64) -> Buffer
     ensures { λ r. ⌜ r ≡ bufferNamed name ⌝ }
 {
-    if is(name, b"nodes") {
+    if name == names::NODES {
         return Buffer::Nodes;
     }
-    if is(name, b"operations") {
+    if name == names::OPERATIONS {
         return Buffer::Operations;
     }
-    if is(name, b"frame") {
+    if name == names::FRAME {
         return Buffer::Frame;
     }
-    if is(name, b"planes") {
+    if name == names::PLANES {
         return Buffer::Planes;
     }
-    if is(name, b"scratch") {
+    if name == names::SCRATCH {
         return Buffer::Scratch;
     }
-    if is(name, b"pool") {
+    if name == names::POOL {
         return Buffer::Pool;
     }
-    if is(name, b"letters") {
+    if name == names::LETTERS {
         return Buffer::Letters;
     }
     Buffer::Unknown

@@ -2,7 +2,6 @@
 use mathlib.Core.Path.{_≡_, sym}
 use Prim.Native.Nat.{ℕ}
 use lib.ListN.{length, replicate, length-replicate}
-use borrow.Author.Needs.{needs}
 use Rattle.pbc.proofs.main.Statement.{statement}
 use Rattle.pbc.proofs.main.Tie as tie
 
@@ -40,10 +39,10 @@ slice-aggregate-run-10 : tie.Need-slice-aggregate-run-10
 slice-aggregate-run-10 c = zeros 65536
 
 run-requires : tie.Need-run-requires
-run-requires c κs = search needs
+run-requires c κs = tt
 
 returns : tie.Need-returns
-returns c = search needs
+returns c = tt
 
 pub main-spec : {M : Type 1} → statement M
 main-spec = tie.close (tie.spec slice-aggregate-run slice-aggregate-run-2 slice-aggregate-run-3 slice-aggregate-run-4 slice-aggregate-run-5 slice-aggregate-run-6 slice-aggregate-run-7 slice-aggregate-run-8 slice-aggregate-run-9 slice-aggregate-run-10 run-requires returns)
