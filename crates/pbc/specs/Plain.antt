@@ -8,10 +8,10 @@ use Rattle.pauli.specs.Angle.{remainder8}
 use Rattle.pauli.specs.Letters.{numberProduct}
 use Rattle.pbc.specs.Names.{numberOf}
 use Rattle.pbc.specs.Buffers.{allLends, lendsOf, exceeds}
-use Rattle.pbc.specs.State.{State, Header, Reply, Answer, Bad, Done, One, Two, Words, ShowCircuit, ShowKinds, saysOf, headedOf, lentOf}
+use Rattle.pbc.specs.State.{State, Header, Reply, Answer, NoAnswer, Bad, Done, One, Two, Words, ShowCircuit, ShowKinds, saysOf, headedOf, lentOf}
 use Rattle.pbc.specs.Lines.{Line, hasNumbers, hasSigned, hasBuffer, signedAt}
 pub use Rattle.pbc.specs.declared.state.Buffer.the-variants.{the-data as Buffer, Nodes, Operations, Frame, Planes, Scratch, Pool, Letters, Unknown}
-pub use Rattle.pbc.specs.declared.plain.Plain.the-variants.{the-data as Plain, Lend, Peek, Header as SetHeader, Dump, Kinds, Angle, Times}
+pub use Rattle.pbc.specs.declared.plain.Plain.the-variants.{the-data as Plain, Unknown as NoCommand, Nothing as EmptyLine, Lend, Peek, Header as SetHeader, Dump, Kinds, Angle, Times}
 
 unfoldable pub lendReply : State → Line → List ℕ → Reply
 lendReply s l ws =
@@ -93,6 +93,8 @@ timesReply s l ws =
     (saysOf s Bad)
 
 abbrev pub plainReply : Plain → State → Line → List ℕ → Reply
+plainReply NoCommand s l ws = saysOf s Bad
+plainReply EmptyLine s l ws = saysOf s NoAnswer
 plainReply Lend s l ws = lendReply s l ws
 plainReply Peek s l ws = peekReply s l ws
 plainReply SetHeader s l ws = headerReply s l ws

@@ -6,7 +6,7 @@ pub use Rattle.arena.specs.declared.header.Header.{Header}
 pub use Rattle.arena.specs.declared.error.PbcError.the-variants.{the-data as PbcError}
 pub use Rattle.pbc.specs.declared.state.State.{State}
 pub use Rattle.pbc.specs.declared.state.Reply.{Reply}
-pub use Rattle.pbc.specs.declared.state.Answer.the-variants.{the-data as Answer, Bad, Refused, Done, One, Two, Words, Dump as ShowCircuit, Kinds as ShowKinds}
+pub use Rattle.pbc.specs.declared.state.Answer.the-variants.{the-data as Answer, Nothing as NoAnswer, Bad, Refused, Done, One, Two, Words, Dump as ShowCircuit, Kinds as ShowKinds}
 
 -- the header of a circuit with no qubit; every circuit has the owner 1
 abbrev pub emptyHeader : Header

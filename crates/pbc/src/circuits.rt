@@ -1,5 +1,7 @@
 //! The commands that make a circuit current with all its words.
 
+pub mod conversion;
+
 use crate::buffers::FRAME;
 use crate::buffers::NODES;
 use crate::buffers::OPERATIONS;
@@ -18,9 +20,13 @@ use arena::Header;
 use arena::NODE_WORDS;
 use arena::OPERATION_WORDS;
 
+/// The commands that make a circuit current, and the gate on its frame.
 pub enum Circuit {
     New,
     Store,
+    Convert,
+    Planes,
+    FrameGate,
 }
 
 // `new N CBITS`
@@ -139,19 +145,4 @@ fn store(
         measurements: word(words, 2),
     };
     state.with_header(header, Answer::Done)
-}
-
-pub(crate) fn answer(
-    command: Circuit,
-    state: State,
-    line: Line,
-    words: &[u32],
-    nodes: &mut [u32],
-    operations: &mut [u32],
-    frame: &mut [u32],
-) -> Reply {
-    match command {
-        Circuit::New => new(state, line, words, nodes, frame),
-        Circuit::Store => store(state, line, words, nodes, operations, frame),
-    }
 }

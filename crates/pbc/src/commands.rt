@@ -2,10 +2,8 @@
 
 use crate::builder;
 use crate::builder::Build;
-use crate::circuits;
 use crate::circuits::Circuit;
-use crate::conversion;
-use crate::conversion::Conversion;
+use crate::circuits::conversion;
 use crate::fill;
 use crate::line::Line;
 use crate::names;
@@ -13,25 +11,21 @@ use crate::plain;
 use crate::plain::Plain;
 use crate::readers;
 use crate::readers::Reading;
-use crate::state::Answer;
 use crate::state::Reply;
 use crate::state::State;
 
 // The commands by the buffers that they see.
 enum Command {
-    Unknown,
-    Nothing,
     Plain(Plain),
     Fill,
     Circuit(Circuit),
     Build(Build),
     Reading(Reading),
-    Conversion(Conversion),
 }
 
 fn command_of(line: Line) -> Command {
     if line.bad {
-        return Command::Unknown;
+        return Command::Plain(Plain::Unknown);
     }
     let name = line.name;
     if name == names::FILL {
@@ -42,7 +36,7 @@ fn command_of(line: Line) -> Command {
 
 fn command_named(name: u64) -> Command {
     match name {
-        0 => Command::Nothing,
+        0 => Command::Plain(Plain::Nothing),
         names::LEND => Command::Plain(Plain::Lend),
         names::PEEK => Command::Plain(Plain::Peek),
         names::HEADER => Command::Plain(Plain::Header),
@@ -57,13 +51,13 @@ fn command_named(name: u64) -> Command {
         names::COND => Command::Build(Build::Conditional),
         names::NEW => Command::Circuit(Circuit::New),
         names::STORE => Command::Circuit(Circuit::Store),
-        names::CONVERT => Command::Conversion(Conversion::Convert),
-        names::PLANES => Command::Conversion(Conversion::Planes),
-        names::FGATE => Command::Conversion(Conversion::FrameGate),
+        names::CONVERT => Command::Circuit(Circuit::Convert),
+        names::PLANES => Command::Circuit(Circuit::Planes),
+        names::FGATE => Command::Circuit(Circuit::FrameGate),
         names::EXPAND => Command::Reading(Reading::Expand),
         names::HERM => Command::Reading(Reading::Hermitian),
         names::REPORT => Command::Reading(Reading::Report),
-        _ => Command::Unknown,
+        _ => Command::Plain(Plain::Unknown),
     }
 }
 
@@ -71,7 +65,7 @@ fn fill_command(line: Line) -> Command {
     if line.has(1) {
         return Command::Fill;
     }
-    Command::Unknown
+    Command::Plain(Plain::Unknown)
 }
 
 /// The answer to a whole line.
@@ -88,8 +82,6 @@ pub(crate) fn answer(
     letters: &mut [u8],
 ) -> Reply {
     match command_of(line) {
-        Command::Unknown => state.bad(),
-        Command::Nothing => state.says(Answer::Nothing),
         Command::Plain(plain) => plain::answer(plain, state, line, words),
         Command::Fill => fill::answer(
             state,
@@ -102,9 +94,16 @@ pub(crate) fn answer(
             pool,
             letters,
         ),
-        Command::Circuit(circuit) => {
-            circuits::answer(circuit, state, line, words, nodes, operations, frame)
-        }
+        Command::Circuit(circuit) => conversion::answer(
+            circuit,
+            state,
+            line,
+            words,
+            nodes,
+            operations,
+            frame,
+            planes,
+        ),
         Command::Build(build) => builder::answer(build, state, line, words, nodes, operations),
         Command::Reading(reading) => readers::answer(
             reading,
@@ -116,16 +115,6 @@ pub(crate) fn answer(
             scratch,
             pool,
             letters,
-        ),
-        Command::Conversion(conversion) => conversion::answer(
-            conversion,
-            state,
-            line,
-            words,
-            nodes,
-            operations,
-            frame,
-            planes,
         ),
     }
 }

@@ -5,7 +5,6 @@ mod buffers;
 mod builder;
 mod circuits;
 mod commands;
-mod conversion;
 mod fill;
 mod line;
 mod names;

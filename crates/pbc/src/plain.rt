@@ -24,6 +24,9 @@ ghost use Rattle.pbc.specs.Plain.{lendReply, isUnknown, bufferNamed, len
 ghost use Rattle.pbc.specs.Plain.{dumpReply, kindsReply, angleReply, timesReply, plainReply};
 
 pub enum Plain {
+    /// No command, and a line with nothing on it.
+    Unknown,
+    Nothing,
     Lend,
     Peek,
     Header,
@@ -204,6 +207,8 @@ pub(crate) fn answer(command: Plain, state: State, line: Line, words: &[u32]) ->
     ensures { λ r. ⌜ r ≡ plainReply command state line (now (words .entry)) ⌝ }
 {
     match command {
+        Plain::Unknown => state.bad(),
+        Plain::Nothing => state.says(Answer::Nothing),
         Plain::Lend => lend(state, line, words),
         Plain::Peek => peek(state, line, words),
         Plain::Header => header(state, line, words),

@@ -1,5 +1,8 @@
-//! The commands of the conversion.
+//! The commands of the conversion, and the answer to every command that makes a circuit current.
 
+use super::Circuit;
+use super::new;
+use super::store;
 use crate::buffers::first;
 use crate::buffers::lent;
 use crate::buffers::lent_wide;
@@ -13,12 +16,6 @@ use crate::state::State;
 use convert::Cap;
 use convert::Converted;
 use convert::FramePushed;
-
-pub enum Conversion {
-    Convert,
-    Planes,
-    FrameGate,
-}
 
 // What a line says of the cap.
 enum ReadCap {
@@ -136,7 +133,7 @@ fn frame_gate(
 }
 
 pub(crate) fn answer(
-    command: Conversion,
+    command: Circuit,
     state: State,
     line: Line,
     words: &[u32],
@@ -146,7 +143,9 @@ pub(crate) fn answer(
     planes: &mut [u64],
 ) -> Reply {
     match command {
-        Conversion::Convert => convert_line(
+        Circuit::New => new(state, line, words, nodes, frame),
+        Circuit::Store => store(state, line, words, nodes, operations, frame),
+        Circuit::Convert => convert_line(
             state,
             Answer::Dump,
             line,
@@ -156,7 +155,7 @@ pub(crate) fn answer(
             frame,
             planes,
         ),
-        Conversion::Planes => convert_line(
+        Circuit::Planes => convert_line(
             state,
             Answer::DumpWithPlanes,
             line,
@@ -166,6 +165,6 @@ pub(crate) fn answer(
             frame,
             planes,
         ),
-        Conversion::FrameGate => frame_gate(state, line, words, nodes, frame),
+        Circuit::FrameGate => frame_gate(state, line, words, nodes, frame),
     }
 }
