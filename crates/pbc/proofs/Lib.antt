@@ -2,3 +2,4 @@
 pub mod NameLaws
 pub mod BufferLaws
 pub mod LineLaws
+pub mod BuilderLaws

@@ -5,3 +5,4 @@ pub mod State
 pub mod Lines
 pub mod Handles
 pub mod Plain
+pub mod Builder

@@ -1,5 +1,6 @@
 -- `axis` meets its contract.
-use mathlib.Core.Path.{_∙_}
+use mathlib.Core.Path.{ap, _∙_}
+use Rattle.arena.specs.References.{axisOf}
 use borrow.Author.Needs.{needs}
 use Rattle.pbc.proofs.builder.axis.Statement.{statement}
 use Rattle.pbc.proofs.builder.axis.Tie as tie
@@ -11,7 +12,7 @@ assume-hermitian-requires : tie.Need-assume-hermitian-requires
 assume-hermitian-requires c κs = search needs
 
 returns : tie.Need-returns
-returns c = c .assume-hermitian .ensures ∙ c .before .handle .ensures
+returns c = ap axisOf (c .assume-hermitian .ensures ∙ c .before .handle .ensures)
 
 pub axis-spec : {M : Type 1} → statement M
 axis-spec = tie.close (tie.spec handle-requires assume-hermitian-requires returns)
