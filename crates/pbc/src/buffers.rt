@@ -36,7 +36,7 @@ pub struct Lends {
 }
 
 impl Lends {
-    /// Every buffer whole.
+    /// Every buffer whole. Promise: `allLends`.
     pub(crate) fn all() -> Lends
         ensures { λ r. ⌜ r ≡ allLends ⌝ }
     {
@@ -51,7 +51,7 @@ impl Lends {
         }
     }
 
-    /// What the seven numbers of a line say.
+    /// What the seven numbers of a line say. Promise: `lendsOf`.
     pub(crate) fn of(words: &[u32]) -> Lends
         ensures { λ r. ⌜ r ≡ lendsOf (now (words .entry)) ⌝ }
     {
@@ -66,7 +66,7 @@ impl Lends {
         }
     }
 
-    /// More is lent than a buffer has.
+    /// More is lent than a buffer has. Promise: `exceeds`.
     pub(crate) fn exceed(self) -> bool
         ensures { λ r. ⌜ r ≡ exceeds self ⌝ }
     {
@@ -156,7 +156,7 @@ pub(crate) fn first(words: &[u32], count: usize) -> &[u32]
     words
 }
 
-/// So many words from a place on, none if they are not all there.
+/// So many words from a place on, none if they are not all there. Promise: `partOf`.
 pub(crate) fn part(words: &[u32], from: usize, count: usize) -> &[u32]
     ensures { λ r. ⌜ now r ≡ partOf (now (words .entry)) from count ⌝ }
 {
@@ -169,7 +169,7 @@ pub(crate) fn part(words: &[u32], from: usize, count: usize) -> &[u32]
     &words[from..from + count]
 }
 
-/// The same of 64-bit words.
+/// The same of 64-bit words. Promise: `partOf`.
 pub(crate) fn wide_part(words: &[u64], from: usize, count: usize) -> &[u64]
     ensures { λ r. ⌜ now r ≡ partOf (now (words .entry)) from count ⌝ }
 {
@@ -182,7 +182,7 @@ pub(crate) fn wide_part(words: &[u64], from: usize, count: usize) -> &[u64]
     &words[from..from + count]
 }
 
-/// The same of bytes.
+/// The same of bytes. Promise: `partOf`.
 pub(crate) fn byte_part(bytes: &[u8], from: usize, count: usize) -> &[u8]
     ensures { λ r. ⌜ now r ≡ partOf (now (bytes .entry)) from count ⌝ }
 {
@@ -205,7 +205,7 @@ pub(crate) fn rest(words: &[u32], from: usize) -> &[u32]
     &words[0..0]
 }
 
-/// The first words of `to` become those of `from`.
+/// The first words of `to` become those of `from`. Promise: `copied`.
 pub(crate) fn copy(from: &[u32], to: &mut [u32])
     ensures { λ _. ⌜ now (to .exit) ≡ copied (now (from .entry)) (now (to .entry)) ⌝ }
 {

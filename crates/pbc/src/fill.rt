@@ -33,7 +33,7 @@ fn fill_work(scratch: &mut [u32], pool: &mut [u32], letters: &mut [u8], value: u
     fill_bytes(letters, (value % 256) as u8);
 }
 
-/// `fill VALUE`
+/// `fill VALUE`: every word of every buffer becomes the value, and the current circuit one with no qubit.
 pub(crate) fn answer(
     state: State,
     words: &[u32],

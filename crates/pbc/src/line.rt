@@ -86,6 +86,7 @@ fn signed(magnitude: u64, negative: bool) -> i64
 }
 
 impl Line {
+    /// A line before its first byte. Promise: `newLine`.
     pub(crate) fn new() -> Line
         ensures { λ r. ⌜ r ≡ newLine ⌝ }
     {
@@ -278,42 +279,42 @@ impl Line {
         self
     }
 
-    /// The line has so many numbers, each below 2^32, and no buffer's name.
+    /// The line has so many numbers, each below 2^32, and no buffer's name. Promise: `hasNumbers`.
     pub(crate) fn has(self, count: usize) -> bool
         ensures { λ r. ⌜ r ≡ hasNumbers self count ⌝ }
     {
         (self.numbers == count) & (self.buffer == 0) & !self.wide
     }
 
-    /// The same, but that the number at a place is any of 64 bits with a sign.
+    /// The same, but that the number at a place is any of 64 bits with a sign. Promise: `hasSigned`.
     pub(crate) fn has_signed(self, count: usize, place: usize) -> bool
         ensures { λ r. ⌜ r ≡ hasSigned self count place ⌝ }
     {
         (self.numbers == count) & (self.buffer == 0) & (!self.wide | (self.place == place))
     }
 
-    /// At least so many numbers, and the one at a place is any of 64 bits with a sign.
+    /// At least so many numbers, and the one at a place is any of 64 bits with a sign. Promise: `hasMoreSigned`.
     pub(crate) fn has_more_signed(self, count: usize, place: usize) -> bool
         ensures { λ r. ⌜ r ≡ hasMoreSigned self count place ⌝ }
     {
         (count <= self.numbers) & (self.buffer == 0) & (!self.wide | (self.place == place))
     }
 
-    /// At least so many numbers, each below 2^32, and no buffer's name.
+    /// At least so many numbers, each below 2^32, and no buffer's name. Promise: `hasMore`.
     pub(crate) fn has_more(self, count: usize) -> bool
         ensures { λ r. ⌜ r ≡ hasMore self count ⌝ }
     {
         (count <= self.numbers) & (self.buffer == 0) & !self.wide
     }
 
-    /// A buffer's name and so many numbers, each below 2^32.
+    /// A buffer's name and so many numbers, each below 2^32. Promise: `hasBuffer`.
     pub(crate) fn has_buffer(self, count: usize) -> bool
         ensures { λ r. ⌜ r ≡ hasBuffer self count ⌝ }
     {
         (self.numbers == count) & !(self.buffer == 0) & !self.wide
     }
 
-    /// The number at a place, with its sign.
+    /// The number at a place, with its sign. Promise: `signedAt`.
     pub(crate) fn signed_at(self, words: &[u32], place: usize) -> i64
         ensures { λ r. ⌜ r ≡ signedAt self (now (words .entry)) place ⌝ }
     {

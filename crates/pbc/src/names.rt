@@ -9,7 +9,7 @@ pub const NO_NAME: u64 = 18446744073709551615;
 // 27 to the power 11: a name of twelve letters or more is not below it.
 const LONG: u64 = 5559060566555523;
 
-/// The names of the commands, and of the buffers.
+/// The names of the commands and of the buffers; proofs/NameLaws.antt has each number beside its letters.
 pub const LEND: u64 = 240223;
 
 pub const FILL: u64 = 124995;
@@ -64,14 +64,14 @@ pub const POOL: u64 = 326280;
 
 pub const LETTERS: u64 = 4731817033;
 
-/// Whether the byte is a lower-case letter.
+/// Whether the byte is a lower-case letter. Promise: `isLetter`.
 pub(crate) fn is_letter(byte: u8) -> bool
     ensures { λ r. ⌜ r ≡ isLetter byte ⌝ }
 {
     (97 <= byte) & (byte <= 122)
 }
 
-/// The number of a name with one byte more.
+/// The number of a name with one byte more. Promise: `extendedName`.
 pub(crate) fn extended(name: u64, byte: u8) -> u64
     ensures { λ r. ⌜ r ≡ extendedName name byte ⌝ }
 {

@@ -203,6 +203,7 @@ fn times(state: State, line: Line, words: &[u32]) -> Reply
     state.says(Answer::Two(product.phase as u64, product.pauli as u64))
 }
 
+/// The answer to a command that touches no buffer. Promise: `plainReply`.
 pub(crate) fn answer(command: Plain, state: State, line: Line, words: &[u32]) -> Reply
     ensures { λ r. ⌜ r ≡ plainReply command state line (now (words .entry)) ⌝ }
 {

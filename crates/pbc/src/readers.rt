@@ -116,6 +116,7 @@ fn report(
     }
 }
 
+/// The answer to a command that reads the current circuit by a walk.
 pub(crate) fn answer(
     command: Reading,
     state: State,

@@ -51,7 +51,7 @@ pub struct Reply {
     pub answer: Answer,
 }
 
-/// The header of a circuit with no qubit.
+/// The header of a circuit with no qubit. Promise: `emptyHeader`.
 pub(crate) fn empty() -> Header
     ensures { λ r. ⌜ r ≡ emptyHeader ⌝ }
 {
@@ -66,6 +66,7 @@ pub(crate) fn empty() -> Header
 }
 
 impl State {
+    /// What a session begins with. Promise: `newState`.
     pub(crate) fn new() -> State
         ensures { λ r. ⌜ r ≡ newState ⌝ }
     {
@@ -75,7 +76,7 @@ impl State {
         }
     }
 
-    /// The answer, with the state as it was.
+    /// The answer, with the state as it was. Promise: `saysOf`.
     pub(crate) fn says(self, answer: Answer) -> Reply
         ensures { λ r. ⌜ r ≡ saysOf self answer ⌝ }
     {
@@ -85,19 +86,21 @@ impl State {
         }
     }
 
+    /// The line is no command. Promise: `saysOf`.
     pub(crate) fn bad(self) -> Reply
         ensures { λ r. ⌜ r ≡ saysOf self Bad ⌝ }
     {
         self.says(Answer::Bad)
     }
 
+    /// The refusal, with the state as it was. Promise: `refusedOf`.
     pub(crate) fn refused(self, error: PbcError) -> Reply
         ensures { λ r. ⌜ r ≡ refusedOf self error ⌝ }
     {
         self.says(Answer::Refused(error.refusal()))
     }
 
-    /// The answer, with another circuit current.
+    /// The answer, with another circuit current. Promise: `headedOf`.
     pub(crate) fn with_header(self, header: Header, answer: Answer) -> Reply
         ensures { λ r. ⌜ r ≡ headedOf self header answer ⌝ }
     {
@@ -106,6 +109,7 @@ impl State {
         Reply { state, answer }
     }
 
+    /// Other counts are lent from here on. Promise: `lentOf`.
     pub(crate) fn with_lends(self, lends: Lends) -> Reply
         ensures { λ r. ⌜ r ≡ lentOf self lends ⌝ }
     {

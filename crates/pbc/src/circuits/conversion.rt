@@ -132,6 +132,7 @@ fn frame_gate(
     }
 }
 
+/// The answer to a command that makes a circuit current, and to a gate on its frame.
 pub(crate) fn answer(
     command: Circuit,
     state: State,
