@@ -1,6 +1,6 @@
--- Numbers with a sign, and what an angle keeps of one.
-use mathlib.Core.Path.{_≡_, refl}
-use Prim.Native.Nat.{ℕ, _-_, _%_}
+-- What an angle keeps of a number with a sign.
+use mathlib.Core.Path.{_≡_}
+use Prim.Native.Nat.{_%_}
 use native.Mathlib.Omega.{arith}
 use lib.IntN.{ℤ, pos, negsuc}
 use Rattle.pauli.specs.Angle.{remainder8}

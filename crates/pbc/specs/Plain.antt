@@ -8,7 +8,7 @@ use Rattle.pauli.specs.Angle.{remainder8}
 use Rattle.pauli.specs.Letters.{numberProduct}
 use Rattle.pbc.specs.Names.{numberOf}
 use Rattle.pbc.specs.Buffers.{allLends, lendsOf, exceeds}
-use Rattle.pbc.specs.State.{State, Header, Reply, Answer, NoAnswer, Bad, Done, One, Two, Words, ShowCircuit, ShowKinds, saysOf, headedOf, lentOf}
+use Rattle.pbc.specs.State.{State, Header, Reply, NoAnswer, Bad, Done, One, Two, Words, ShowCircuit, ShowKinds, saysOf, headedOf, lentOf}
 use Rattle.pbc.specs.Lines.{Line, hasNumbers, hasSigned, hasBuffer, signedAt}
 pub use Rattle.pbc.specs.declared.state.Buffer.the-variants.{the-data as Buffer, Nodes, Operations, Frame, Planes, Scratch, Pool, Letters, Unknown}
 pub use Rattle.pbc.specs.declared.plain.Plain.the-variants.{the-data as Plain, Unknown as NoCommand, Nothing as EmptyLine, Lend, Peek, Header as SetHeader, Dump, Kinds, Angle, Times}

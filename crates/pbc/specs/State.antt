@@ -1,5 +1,4 @@
 -- What stays from line to line, and what a command answers.
-use Prim.Native.Nat.{ℕ}
 use Rattle.arena.specs.Errors.{refusalIn}
 use Rattle.pbc.specs.Buffers.{Lends, allLends}
 pub use Rattle.arena.specs.declared.header.Header.{Header}

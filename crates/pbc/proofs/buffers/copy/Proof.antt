@@ -27,7 +27,7 @@ shared-slice-read-put-word : tie.Need-shared-slice-read-put-word Inv-loop μ-loo
 shared-slice-read-put-word c = search needs
 
 put-word-requires : tie.Need-put-word-requires Inv-loop μ-loop
-put-word-requires c κs = search needs
+put-word-requires c κs = tt
 
 add-i : tie.Need-add-i Inv-loop μ-loop
 add-i c = omega arith

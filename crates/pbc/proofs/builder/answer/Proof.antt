@@ -8,31 +8,31 @@ enum-told : tie.Need-enum-told
 enum-told c = search needs
 
 single-requires : tie.Need-single-requires
-single-requires c κs = search needs
+single-requires c κs = tt
 
 enum-told-2 : tie.Need-enum-told-2
 enum-told-2 c = search needs
 
 product-requires : tie.Need-product-requires
-product-requires c κs = search needs
+product-requires c κs = tt
 
 enum-told-3 : tie.Need-enum-told-3
 enum-told-3 c = search needs
 
 rotate-requires : tie.Need-rotate-requires
-rotate-requires c κs = search needs
+rotate-requires c κs = tt
 
 enum-told-4 : tie.Need-enum-told-4
 enum-told-4 c = search needs
 
 measure-requires : tie.Need-measure-requires
-measure-requires c κs = search needs
+measure-requires c κs = tt
 
 enum-told-5 : tie.Need-enum-told-5
 enum-told-5 c = search needs
 
 conditional-requires : tie.Need-conditional-requires
-conditional-requires c κs = search needs
+conditional-requires c κs = tt
 
 same-length : tie.Need-same-length
 same-length c = search needs

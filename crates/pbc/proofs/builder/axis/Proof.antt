@@ -1,15 +1,14 @@
 -- `axis` meets its contract.
 use mathlib.Core.Path.{ap, _∙_}
 use Rattle.arena.specs.References.{axisOf}
-use borrow.Author.Needs.{needs}
 use Rattle.pbc.proofs.builder.axis.Statement.{statement}
 use Rattle.pbc.proofs.builder.axis.Tie as tie
 
 handle-requires : tie.Need-handle-requires
-handle-requires c κs = search needs
+handle-requires c κs = tt
 
 assume-hermitian-requires : tie.Need-assume-hermitian-requires
-assume-hermitian-requires c κs = search needs
+assume-hermitian-requires c κs = tt
 
 returns : tie.Need-returns
 returns c = ap axisOf (c .assume-hermitian .ensures ∙ c .before .handle .ensures)

@@ -7,35 +7,35 @@ use Rattle.pbc.proofs.builder.conditional.Statement.{statement}
 use Rattle.pbc.proofs.builder.conditional.Tie as tie
 
 has-signed-requires : tie.Need-has-signed-requires
-has-signed-requires c κs = search needs
+has-signed-requires c κs = tt
 
 bad-requires : tie.Need-bad-requires
-bad-requires c κs = search needs
+bad-requires c κs = tt
 
 returns : tie.Need-returns
 unfolding conditionalCommand
 returns c = rw (sym (c .before .before .has-signed .ensures) ∙ not-true (c .before .before .has-signed .result) (c .before .if1 .taken)) (c .bad .ensures, refl)
 
 axis-requires : tie.Need-axis-requires
-axis-requires c κs = search needs
+axis-requires c κs = tt
 
 angle-requires : tie.Need-angle-requires
-angle-requires c κs = search needs
+angle-requires c κs = tt
 
 owner-at-requires : tie.Need-owner-at-requires
-owner-at-requires c κs = search needs
+owner-at-requires c κs = tt
 
 word-requires : tie.Need-word-requires
-word-requires c κs = search needs
+word-requires c κs = tt
 
 new-requires : tie.Need-new-requires
-new-requires c κs = search needs
+new-requires c κs = tt
 
 lent-conditional-requires : tie.Need-lent-conditional-requires
-lent-conditional-requires c κs = search needs
+lent-conditional-requires c κs = tt
 
 pushed-requires : tie.Need-pushed-requires
-pushed-requires c κs = search needs
+pushed-requires c κs = tt
 
 same-length : tie.Need-same-length
 same-length c = search needs

@@ -1,15 +1,14 @@
 -- `handle` meets its contract.
 use mathlib.Core.Path.{ap₂}
 use Rattle.pbc.specs.Handles.{refOf}
-use borrow.Author.Needs.{needs}
 use Rattle.pbc.proofs.builder.handle.Statement.{statement}
 use Rattle.pbc.proofs.builder.handle.Tie as tie
 
 owner-at-requires : tie.Need-owner-at-requires
-owner-at-requires c κs = search needs
+owner-at-requires c κs = tt
 
 word-requires : tie.Need-word-requires
-word-requires c κs = search needs
+word-requires c κs = tt
 
 returns : tie.Need-returns
 returns c = ap₂ refOf (c .before .owner-at .ensures) (c .word .ensures)

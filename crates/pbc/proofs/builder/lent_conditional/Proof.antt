@@ -9,7 +9,7 @@ use Rattle.pbc.proofs.builder.lent_conditional.Statement.{statement}
 use Rattle.pbc.proofs.builder.lent_conditional.Tie as tie
 
 conditional-rotate-requires : tie.Need-conditional-rotate-requires
-conditional-rotate-requires c κs = search needs
+conditional-rotate-requires c κs = tt
 
 same-length : tie.Need-same-length
 same-length c = search needs
@@ -24,7 +24,7 @@ slice-aggregate-conditional-rotate : tie.Need-slice-aggregate-conditional-rotate
 slice-aggregate-conditional-rotate c = sym (length-take-le (c .before .before .before .args .count) (c .before .before .before .args .operations .now) (omega arith))
 
 conditional-rotate-requires-2 : tie.Need-conditional-rotate-requires-2
-conditional-rotate-requires-2 c κs = search needs
+conditional-rotate-requires-2 c κs = tt
 
 same-length-2 : tie.Need-same-length-2
 same-length-2 c = search needs

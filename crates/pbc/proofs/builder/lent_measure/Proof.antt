@@ -9,7 +9,7 @@ use Rattle.pbc.proofs.builder.lent_measure.Statement.{statement}
 use Rattle.pbc.proofs.builder.lent_measure.Tie as tie
 
 measure-requires : tie.Need-measure-requires
-measure-requires c κs = search needs
+measure-requires c κs = tt
 
 same-length : tie.Need-same-length
 same-length c = search needs
@@ -24,7 +24,7 @@ slice-aggregate-measure : tie.Need-slice-aggregate-measure
 slice-aggregate-measure c = sym (length-take-le (c .before .before .before .args .count) (c .before .before .before .args .operations .now) (omega arith))
 
 measure-requires-2 : tie.Need-measure-requires-2
-measure-requires-2 c κs = search needs
+measure-requires-2 c κs = tt
 
 same-length-2 : tie.Need-same-length-2
 same-length-2 c = search needs

@@ -9,7 +9,7 @@ use Rattle.pbc.proofs.builder.lent_product.Statement.{statement}
 use Rattle.pbc.proofs.builder.lent_product.Tie as tie
 
 product-requires : tie.Need-product-requires
-product-requires c κs = search needs
+product-requires c κs = tt
 
 same-length : tie.Need-same-length
 same-length c = search needs
@@ -24,7 +24,7 @@ slice-aggregate-product : tie.Need-slice-aggregate-product
 slice-aggregate-product c = sym (length-take-le (c .before .before .before .args .count) (c .before .before .before .args .nodes .now) (omega arith))
 
 product-requires-2 : tie.Need-product-requires-2
-product-requires-2 c κs = search needs
+product-requires-2 c κs = tt
 
 same-length-2 : tie.Need-same-length-2
 same-length-2 c = search needs

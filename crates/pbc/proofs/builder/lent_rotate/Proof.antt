@@ -9,7 +9,7 @@ use Rattle.pbc.proofs.builder.lent_rotate.Statement.{statement}
 use Rattle.pbc.proofs.builder.lent_rotate.Tie as tie
 
 rotate-requires : tie.Need-rotate-requires
-rotate-requires c κs = search needs
+rotate-requires c κs = tt
 
 same-length : tie.Need-same-length
 same-length c = search needs
@@ -24,7 +24,7 @@ slice-aggregate-rotate : tie.Need-slice-aggregate-rotate
 slice-aggregate-rotate c = sym (length-take-le (c .before .before .before .args .count) (c .before .before .before .args .operations .now) (omega arith))
 
 rotate-requires-2 : tie.Need-rotate-requires-2
-rotate-requires-2 c κs = search needs
+rotate-requires-2 c κs = tt
 
 same-length-2 : tie.Need-same-length-2
 same-length-2 c = search needs

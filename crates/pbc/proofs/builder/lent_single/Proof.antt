@@ -9,7 +9,7 @@ use Rattle.pbc.proofs.builder.lent_single.Statement.{statement}
 use Rattle.pbc.proofs.builder.lent_single.Tie as tie
 
 single-requires : tie.Need-single-requires
-single-requires c κs = search needs
+single-requires c κs = tt
 
 same-length : tie.Need-same-length
 same-length c = search needs
@@ -24,7 +24,7 @@ slice-aggregate-single : tie.Need-slice-aggregate-single
 slice-aggregate-single c = sym (length-take-le (c .before .before .before .args .count) (c .before .before .before .args .nodes .now) (omega arith))
 
 single-requires-2 : tie.Need-single-requires-2
-single-requires-2 c κs = search needs
+single-requires-2 c κs = tt
 
 same-length-2 : tie.Need-same-length-2
 same-length-2 c = search needs

@@ -7,29 +7,29 @@ use Rattle.pbc.proofs.builder.measure.Statement.{statement}
 use Rattle.pbc.proofs.builder.measure.Tie as tie
 
 has-requires : tie.Need-has-requires
-has-requires c κs = search needs
+has-requires c κs = tt
 
 bad-requires : tie.Need-bad-requires
-bad-requires c κs = search needs
+bad-requires c κs = tt
 
 returns : tie.Need-returns
 unfolding measureCommand
 returns c = rw (sym (c .before .before .has .ensures) ∙ not-true (c .before .before .has .result) (c .before .if1 .taken)) (c .bad .ensures, refl)
 
 axis-requires : tie.Need-axis-requires
-axis-requires c κs = search needs
+axis-requires c κs = tt
 
 word-requires : tie.Need-word-requires
-word-requires c κs = search needs
+word-requires c κs = tt
 
 target-requires : tie.Need-target-requires
-target-requires c κs = search needs
+target-requires c κs = tt
 
 lent-measure-requires : tie.Need-lent-measure-requires
-lent-measure-requires c κs = search needs
+lent-measure-requires c κs = tt
 
 measured-requires : tie.Need-measured-requires
-measured-requires c κs = search needs
+measured-requires c κs = tt
 
 same-length : tie.Need-same-length
 same-length c = search needs

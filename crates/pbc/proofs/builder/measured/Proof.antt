@@ -7,19 +7,19 @@ enum-known-answer : tie.Need-enum-known-answer
 enum-known-answer c = search needs
 
 index-requires : tie.Need-index-requires
-index-requires c κs = search needs
+index-requires c κs = tt
 
 cast-t8 : tie.Need-cast-t8
 cast-t8 c = search needs
 
 with-header-requires : tie.Need-with-header-requires
-with-header-requires c κs = search needs
+with-header-requires c κs = tt
 
 enum-known-answer-2 : tie.Need-enum-known-answer-2
 enum-known-answer-2 c = search needs
 
 refused-requires : tie.Need-refused-requires
-refused-requires c κs = search needs
+refused-requires c κs = tt
 
 returns : tie.Need-returns
 returns c = rw (c .before .before .before .answer .given .1) (rw (c .before .index .ensures) at (c .with-header .ensures))

@@ -7,26 +7,26 @@ use Rattle.pbc.proofs.builder.product.Statement.{statement}
 use Rattle.pbc.proofs.builder.product.Tie as tie
 
 has-requires : tie.Need-has-requires
-has-requires c κs = search needs
+has-requires c κs = tt
 
 bad-requires : tie.Need-bad-requires
-bad-requires c κs = search needs
+bad-requires c κs = tt
 
 returns : tie.Need-returns
 unfolding productCommand
 returns c = rw (sym (c .before .before .has .ensures) ∙ not-true (c .before .before .has .result) (c .before .if1 .taken)) (c .bad .ensures, refl)
 
 handle-requires : tie.Need-handle-requires
-handle-requires c κs = search needs
+handle-requires c κs = tt
 
 handle-requires-2 : tie.Need-handle-requires-2
-handle-requires-2 c κs = search needs
+handle-requires-2 c κs = tt
 
 lent-product-requires : tie.Need-lent-product-requires
-lent-product-requires c κs = search needs
+lent-product-requires c κs = tt
 
 multiplied-requires : tie.Need-multiplied-requires
-multiplied-requires c κs = search needs
+multiplied-requires c κs = tt
 
 same-length : tie.Need-same-length
 same-length c = search needs

@@ -7,26 +7,26 @@ use Rattle.pbc.proofs.builder.rotate.Statement.{statement}
 use Rattle.pbc.proofs.builder.rotate.Tie as tie
 
 has-signed-requires : tie.Need-has-signed-requires
-has-signed-requires c κs = search needs
+has-signed-requires c κs = tt
 
 bad-requires : tie.Need-bad-requires
-bad-requires c κs = search needs
+bad-requires c κs = tt
 
 returns : tie.Need-returns
 unfolding rotateCommand
 returns c = rw (sym (c .before .before .has-signed .ensures) ∙ not-true (c .before .before .has-signed .result) (c .before .if1 .taken)) (c .bad .ensures, refl)
 
 axis-requires : tie.Need-axis-requires
-axis-requires c κs = search needs
+axis-requires c κs = tt
 
 angle-requires : tie.Need-angle-requires
-angle-requires c κs = search needs
+angle-requires c κs = tt
 
 lent-rotate-requires : tie.Need-lent-rotate-requires
-lent-rotate-requires c κs = search needs
+lent-rotate-requires c κs = tt
 
 pushed-requires : tie.Need-pushed-requires
-pushed-requires c κs = search needs
+pushed-requires c κs = tt
 
 same-length : tie.Need-same-length
 same-length c = search needs

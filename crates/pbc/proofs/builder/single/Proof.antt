@@ -8,36 +8,36 @@ use Rattle.pbc.proofs.builder.single.Statement.{statement}
 use Rattle.pbc.proofs.builder.single.Tie as tie
 
 has-requires : tie.Need-has-requires
-has-requires c κs = search needs
+has-requires c κs = tt
 
 bad-requires : tie.Need-bad-requires
-bad-requires c κs = search needs
+bad-requires c κs = tt
 
 returns : tie.Need-returns
 unfolding singleCommand
 returns c = rw (sym (c .before .before .has .ensures) ∙ not-true (c .before .before .has .result) (c .before .if1 .taken)) (c .bad .ensures, refl)
 
 word-requires : tie.Need-word-requires
-word-requires c κs = search needs
+word-requires c κs = tt
 
 bad-requires-2 : tie.Need-bad-requires-2
-bad-requires-2 c κs = search needs
+bad-requires-2 c κs = tt
 
 returns-2 : tie.Need-returns-2
 unfolding singleCommand
 returns-2 c = rw (sym (c .before .before .before .before .has .ensures) ∙ not-false (c .before .before .before .before .has .result) (c .before .before .before .if1 .left), ap (ltb 3) (sym (c .before .before .word .ensures)) ∙ lt-ltb 3 (c .before .before .word .result) (c .before .if2 .taken)) (c .bad2 .ensures, refl)
 
 word-requires-2 : tie.Need-word-requires-2
-word-requires-2 c κs = search needs
+word-requires-2 c κs = tt
 
 or-identity-requires : tie.Need-or-identity-requires
-or-identity-requires c κs = search needs
+or-identity-requires c κs = tt
 
 lent-single-requires : tie.Need-lent-single-requires
-lent-single-requires c κs = search needs
+lent-single-requires c κs = tt
 
 singled-requires : tie.Need-singled-requires
-singled-requires c κs = search needs
+singled-requires c κs = tt
 
 same-length : tie.Need-same-length
 same-length c = search needs

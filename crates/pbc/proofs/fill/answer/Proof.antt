@@ -8,25 +8,25 @@ use Rattle.pbc.proofs.fill.answer.Statement.{statement}
 use Rattle.pbc.proofs.fill.answer.Tie as tie
 
 word-requires : tie.Need-word-requires
-word-requires c κs = search needs
+word-requires c κs = tt
 
 fill-circuit-requires : tie.Need-fill-circuit-requires
-fill-circuit-requires c κs = search needs
+fill-circuit-requires c κs = tt
 
 fill-work-requires : tie.Need-fill-work-requires
-fill-work-requires c κs = search needs
+fill-work-requires c κs = tt
 
 cast-fill-wide : tie.Need-cast-fill-wide
 cast-fill-wide c = search needs
 
 fill-wide-requires : tie.Need-fill-wide-requires
-fill-wide-requires c κs = search needs
+fill-wide-requires c κs = tt
 
 empty-requires : tie.Need-empty-requires
-empty-requires c κs = search needs
+empty-requires c κs = tt
 
 with-header-requires : tie.Need-with-header-requires
-with-header-requires c κs = search needs
+with-header-requires c κs = tt
 
 same-length : tie.Need-same-length
 same-length c = c .before .before .before .before .before .before .before .before .before .before .before .before .before .before .before .before .before .before .before .before .before .before .fill-circuit .kept .0

@@ -13,29 +13,29 @@ use Rattle.pbc.proofs.plain.angle.Statement.{statement}
 use Rattle.pbc.proofs.plain.angle.Tie as tie
 
 has-signed-requires : tie.Need-has-signed-requires
-has-signed-requires c κs = search needs
+has-signed-requires c κs = tt
 
 bad-requires : tie.Need-bad-requires
-bad-requires c κs = search needs
+bad-requires c κs = tt
 
 returns : tie.Need-returns
 unfolding angleReply
 returns c = rw (sym (c .before .before .has-signed .ensures) ∙ not-true (c .before .before .has-signed .result) (c .before .if1 .taken)) (c .bad .ensures)
 
 signed-at-requires : tie.Need-signed-at-requires
-signed-at-requires c κs = search needs
+signed-at-requires c κs = tt
 
 new-requires : tie.Need-new-requires
-new-requires c κs = search needs
+new-requires c κs = tt
 
 eighths-requires : tie.Need-eighths-requires
-eighths-requires c κs = search needs
+eighths-requires c κs = tt
 
 cast-t9 : tie.Need-cast-t9
 cast-t9 c = search needs
 
 says-requires : tie.Need-says-requires
-says-requires c κs = search needs
+says-requires c κs = tt
 
 returns-2 : tie.Need-returns-2
 unfolding angleReply

@@ -2,22 +2,21 @@
 use mathlib.Core.Path.{sym, _∙_}
 use borrow.Author.Tests.{not-true, not-false}
 use Rattle.pbc.specs.Plain.{kindsReply}
-use borrow.Author.Needs.{needs}
 use Rattle.pbc.proofs.plain.kinds.Statement.{statement}
 use Rattle.pbc.proofs.plain.kinds.Tie as tie
 
 has-requires : tie.Need-has-requires
-has-requires c κs = search needs
+has-requires c κs = tt
 
 bad-requires : tie.Need-bad-requires
-bad-requires c κs = search needs
+bad-requires c κs = tt
 
 returns : tie.Need-returns
 unfolding kindsReply
 returns c = rw (sym (c .before .before .has .ensures) ∙ not-true (c .before .before .has .result) (c .before .if1 .taken)) (c .bad .ensures)
 
 says-requires : tie.Need-says-requires
-says-requires c κs = search needs
+says-requires c κs = tt
 
 returns-2 : tie.Need-returns-2
 unfolding kindsReply

@@ -2,31 +2,30 @@
 use mathlib.Core.Path.{sym, _∙_}
 use borrow.Author.Tests.{not-true, not-false}
 use Rattle.pbc.specs.Plain.{peekReply}
-use borrow.Author.Needs.{needs}
 use Rattle.pbc.proofs.plain.peek.Statement.{statement}
 use Rattle.pbc.proofs.plain.peek.Tie as tie
 
 has-buffer-requires : tie.Need-has-buffer-requires
-has-buffer-requires c κs = search needs
+has-buffer-requires c κs = tt
 
 bad-requires : tie.Need-bad-requires
-bad-requires c κs = search needs
+bad-requires c κs = tt
 
 returns : tie.Need-returns
 unfolding peekReply
 returns c = rw (sym (c .before .before .has-buffer .ensures) ∙ not-true (c .before .before .has-buffer .result) (c .before .if1 .taken)) (c .bad .ensures)
 
 count-at-requires : tie.Need-count-at-requires
-count-at-requires c κs = search needs
+count-at-requires c κs = tt
 
 count-at-requires-2 : tie.Need-count-at-requires-2
-count-at-requires-2 c κs = search needs
+count-at-requires-2 c κs = tt
 
 buffer-named-requires : tie.Need-buffer-named-requires
-buffer-named-requires c κs = search needs
+buffer-named-requires c κs = tt
 
 peeked-requires : tie.Need-peeked-requires
-peeked-requires c κs = search needs
+peeked-requires c κs = tt
 
 returns-2 : tie.Need-returns-2
 unfolding peekReply

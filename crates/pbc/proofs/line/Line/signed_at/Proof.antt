@@ -4,22 +4,21 @@ use mathlib.Core.Bool.{false}
 use mir.Syntax.{w64}
 use mir.ValLaws.{toZ-ofZ}
 use Rattle.pbc.specs.Lines.{signedAt, signedOf}
-use borrow.Author.Needs.{needs}
 use Rattle.pbc.proofs.line.Line.signed_at.Statement.{statement}
 use Rattle.pbc.proofs.line.Line.signed_at.Tie as tie
 
 signed-requires : tie.Need-signed-requires
-signed-requires c κs = search needs
+signed-requires c κs = tt
 
 returns : tie.Need-returns
 unfolding signedAt
 returns c = rw (c .before .if1 .taken) (toZ-ofZ w64 (c .signed .result) (record { sfits = c .signed .ok }) ∙ c .signed .ensures)
 
 wide-at-requires : tie.Need-wide-at-requires
-wide-at-requires c κs = search needs
+wide-at-requires c κs = tt
 
 signed-requires-2 : tie.Need-signed-requires-2
-signed-requires-2 c κs = search needs
+signed-requires-2 c κs = tt
 
 returns-2 : tie.Need-returns-2
 unfolding signedAt

@@ -2,7 +2,6 @@
 use mathlib.Core.Path.{_≡_, refl}
 use native.Mathlib.Omega.{arith}
 use lib.ListN.{length}
-use borrow.Author.Needs.{needs}
 use Rattle.pbc.proofs.line.input.next_line.Statement.{statement}
 use Rattle.pbc.proofs.line.input.next_line.Tie as tie
 
@@ -13,13 +12,13 @@ abbrev μ-loop : tie.MeasureT-loop
 μ-loop input₀ words₀ read₀ turns₀ input words read turns = turns
 
 new-requires : tie.Need-new-requires Inv-loop μ-loop
-new-requires c κs = search needs
+new-requires c κs = tt
 
 byte-part-requires : tie.Need-byte-part-requires Inv-loop μ-loop
-byte-part-requires c κs = search needs
+byte-part-requires c κs = tt
 
 read-on-requires : tie.Need-read-on-requires Inv-loop μ-loop
-read-on-requires c κs = search needs
+read-on-requires c κs = tt
 
 loop-holds : tie.Need-loop-holds Inv-loop μ-loop
 loop-holds c = (refl, refl)
@@ -34,7 +33,7 @@ returns : tie.Need-returns Inv-loop μ-loop
 returns c = tt
 
 refilled-requires : tie.Need-refilled-requires Inv-loop μ-loop
-refilled-requires c κs = search needs
+refilled-requires c κs = tt
 
 sub-turns : tie.Need-sub-turns Inv-loop μ-loop
 sub-turns c = omega arith

@@ -1,15 +1,14 @@
 -- `new` meets its contract.
 use mathlib.Core.Path.{ap₂}
 use Rattle.pbc.specs.State.{stateOf}
-use borrow.Author.Needs.{needs}
 use Rattle.pbc.proofs.state.State.new.Statement.{statement}
 use Rattle.pbc.proofs.state.State.new.Tie as tie
 
 empty-requires : tie.Need-empty-requires
-empty-requires c κs = search needs
+empty-requires c κs = tt
 
 all-requires : tie.Need-all-requires
-all-requires c κs = search needs
+all-requires c κs = tt
 
 returns : tie.Need-returns
 returns c = ap₂ stateOf (c .before .empty .ensures) (c .all .ensures)

@@ -1,7 +1,6 @@
 -- `run` is safe and ends: its turns are counted down.
 use mathlib.Core.Path.{_≡_, refl, _∙_}
 use lib.ListN.{length}
-use borrow.Author.Needs.{needs}
 use Rattle.pbc.proofs.line.input.session.run.Statement.{statement}
 use Rattle.pbc.proofs.line.input.session.run.Tie as tie
 
@@ -14,19 +13,19 @@ abbrev μ-loop : tie.MeasureT-loop
     turns
 
 new-reader-requires : tie.Need-new-reader-requires Inv-loop μ-loop
-new-reader-requires c κs = search needs
+new-reader-requires c κs = tt
 
 new-session-requires : tie.Need-new-session-requires Inv-loop μ-loop
-new-session-requires c κs = search needs
+new-session-requires c κs = tt
 
 loop-holds : tie.Need-loop-holds Inv-loop μ-loop
 loop-holds c = (refl, refl, refl, refl, refl, refl, refl, refl, refl, refl)
 
 next-line-requires : tie.Need-next-line-requires Inv-loop μ-loop
-next-line-requires c κs = search needs
+next-line-requires c κs = tt
 
 answer-line-requires : tie.Need-answer-line-requires Inv-loop μ-loop
-answer-line-requires c κs = search needs
+answer-line-requires c κs = tt
 
 turns-left-requires : tie.Need-turns-left-requires Inv-loop μ-loop
 turns-left-requires c κs = c .before .before .before .before .before .before .before .before .before .before .before .before .before .before .before .before .before .before .before .before .before .before .before .before .before .before .before .before .before .before .before .before .before .before .loop-test .taken
@@ -49,7 +48,7 @@ loop-again c = (
 )
 
 flush-requires : tie.Need-flush-requires Inv-loop μ-loop
-flush-requires c κs = search needs
+flush-requires c κs = tt
 
 same-length : tie.Need-same-length Inv-loop μ-loop
 same-length c = c .before .before .before .loop .inv .0
