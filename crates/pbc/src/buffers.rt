@@ -1,6 +1,10 @@
 //! The buffers: their lengths, how much of each the calls are lent, and work on whole buffers.
 //! Nodes, operations and pool have room for four entries more than document 01's limit of 65,536.
 
+ghost use mathlib.Core.Path.{_≡_};
+ghost use lib.ListN.{length, getD, set, take, drop, replicate};
+ghost use Rattle.pbc.specs.Buffers.{allLends, lendsOf, exceeds, partOf, copied};
+
 /// u32 words.
 pub const NODES: usize = 131080;
 
@@ -32,8 +36,10 @@ pub struct Lends {
 }
 
 impl Lends {
-    /// Every buffer whole.
-    pub(crate) fn all() -> Lends {
+    /// Every buffer whole. Promise: `allLends`.
+    pub(crate) fn all() -> Lends
+        ensures { λ r. ⌜ r ≡ allLends ⌝ }
+    {
         Lends {
             nodes: NODES,
             operations: OPERATIONS,
@@ -45,8 +51,10 @@ impl Lends {
         }
     }
 
-    /// What the seven numbers of a line say.
-    pub(crate) fn of(words: &[u32]) -> Lends {
+    /// What the seven numbers of a line say. Promise: `lendsOf`.
+    pub(crate) fn of(words: &[u32]) -> Lends
+        ensures { λ r. ⌜ r ≡ lendsOf (now (words .entry)) ⌝ }
+    {
         Lends {
             nodes: count_at(words, 0),
             operations: count_at(words, 1),
@@ -58,8 +66,10 @@ impl Lends {
         }
     }
 
-    /// More is lent than a buffer has.
-    pub(crate) fn exceed(self) -> bool {
+    /// More is lent than a buffer has. Promise: `exceeds`.
+    pub(crate) fn exceed(self) -> bool
+        ensures { λ r. ⌜ r ≡ exceeds self ⌝ }
+    {
         (NODES < self.nodes)
             | (OPERATIONS < self.operations)
             | (FRAME < self.frame)
@@ -71,7 +81,9 @@ impl Lends {
 }
 
 /// The word at a place, 0 past the end.
-pub(crate) fn word(words: &[u32], at: usize) -> u32 {
+pub(crate) fn word(words: &[u32], at: usize) -> u32
+    ensures { λ r. ⌜ r ≡ getD (now (words .entry)) at 0 ⌝ }
+{
     if at < words.len() {
         return words[at];
     }
@@ -79,24 +91,32 @@ pub(crate) fn word(words: &[u32], at: usize) -> u32 {
 }
 
 /// The same, as a count.
-pub(crate) fn count_at(words: &[u32], at: usize) -> usize {
+pub(crate) fn count_at(words: &[u32], at: usize) -> usize
+    ensures { λ r. ⌜ r ≡ getD (now (words .entry)) at 0 ⌝ }
+{
     word(words, at) as usize
 }
 
 /// The same, as a number of 64 bits.
-pub(crate) fn wide_at(words: &[u32], at: usize) -> u64 {
+pub(crate) fn wide_at(words: &[u32], at: usize) -> u64
+    ensures { λ r. ⌜ r ≡ getD (now (words .entry)) at 0 ⌝ }
+{
     word(words, at) as u64
 }
 
 /// Stores a word; past the end nothing is stored.
-pub(crate) fn put_word(words: &mut [u32], at: usize, value: u32) {
+pub(crate) fn put_word(words: &mut [u32], at: usize, value: u32)
+    ensures { λ _. ⌜ now (words .exit) ≡ set (now (words .entry)) at value ⌝ }
+{
     if at < words.len() {
         words[at] = value;
     }
 }
 
 /// The first words, all if there are fewer.
-pub(crate) fn lent(words: &mut [u32], count: usize) -> &mut [u32] {
+pub(crate) fn lent(words: &mut [u32], count: usize) -> &mut [u32]
+    ensures { λ r. ⌜ now r ≡ take count (now (words .entry)) ⌝ }
+{
     if count <= words.len() {
         &mut words[0..count]
     } else {
@@ -105,7 +125,9 @@ pub(crate) fn lent(words: &mut [u32], count: usize) -> &mut [u32] {
 }
 
 /// The same of bytes.
-pub(crate) fn lent_bytes(bytes: &mut [u8], count: usize) -> &mut [u8] {
+pub(crate) fn lent_bytes(bytes: &mut [u8], count: usize) -> &mut [u8]
+    ensures { λ r. ⌜ now r ≡ take count (now (bytes .entry)) ⌝ }
+{
     if count <= bytes.len() {
         &mut bytes[0..count]
     } else {
@@ -114,7 +136,9 @@ pub(crate) fn lent_bytes(bytes: &mut [u8], count: usize) -> &mut [u8] {
 }
 
 /// The same of 64-bit words.
-pub(crate) fn lent_wide(words: &mut [u64], count: usize) -> &mut [u64] {
+pub(crate) fn lent_wide(words: &mut [u64], count: usize) -> &mut [u64]
+    ensures { λ r. ⌜ now r ≡ take count (now (words .entry)) ⌝ }
+{
     if count <= words.len() {
         &mut words[0..count]
     } else {
@@ -123,53 +147,68 @@ pub(crate) fn lent_wide(words: &mut [u64], count: usize) -> &mut [u64] {
 }
 
 /// The same of words, only to be read.
-pub(crate) fn first(words: &[u32], count: usize) -> &[u32] {
+pub(crate) fn first(words: &[u32], count: usize) -> &[u32]
+    ensures { λ r. ⌜ now r ≡ take count (now (words .entry)) ⌝ }
+{
     if count <= words.len() {
         return &words[0..count];
     }
     words
 }
 
-/// So many words from a place on, none if they are not all there.
-pub(crate) fn part(words: &[u32], from: usize, count: usize) -> &[u32] {
-    if from <= words.len() {
-        if count <= words.len() - from {
-            return &words[from..from + count];
-        }
+/// So many words from a place on, none if they are not all there. Promise: `partOf`.
+pub(crate) fn part(words: &[u32], from: usize, count: usize) -> &[u32]
+    ensures { λ r. ⌜ now r ≡ partOf (now (words .entry)) from count ⌝ }
+{
+    if words.len() < from {
+        return &words[0..0];
     }
-    &words[0..0]
+    if words.len() - from < count {
+        return &words[0..0];
+    }
+    &words[from..from + count]
 }
 
-/// The same of 64-bit words.
-pub(crate) fn wide_part(words: &[u64], from: usize, count: usize) -> &[u64] {
-    if from <= words.len() {
-        if count <= words.len() - from {
-            return &words[from..from + count];
-        }
+/// The same of 64-bit words. Promise: `partOf`.
+pub(crate) fn wide_part(words: &[u64], from: usize, count: usize) -> &[u64]
+    ensures { λ r. ⌜ now r ≡ partOf (now (words .entry)) from count ⌝ }
+{
+    if words.len() < from {
+        return &words[0..0];
     }
-    &words[0..0]
+    if words.len() - from < count {
+        return &words[0..0];
+    }
+    &words[from..from + count]
 }
 
-/// The same of bytes.
-pub(crate) fn byte_part(bytes: &[u8], from: usize, count: usize) -> &[u8] {
-    if from <= bytes.len() {
-        if count <= bytes.len() - from {
-            return &bytes[from..from + count];
-        }
+/// The same of bytes. Promise: `partOf`.
+pub(crate) fn byte_part(bytes: &[u8], from: usize, count: usize) -> &[u8]
+    ensures { λ r. ⌜ now r ≡ partOf (now (bytes .entry)) from count ⌝ }
+{
+    if bytes.len() < from {
+        return &bytes[0..0];
     }
-    &bytes[0..0]
+    if bytes.len() - from < count {
+        return &bytes[0..0];
+    }
+    &bytes[from..from + count]
 }
 
 /// The words from a place on, none past the end.
-pub(crate) fn rest(words: &[u32], from: usize) -> &[u32] {
+pub(crate) fn rest(words: &[u32], from: usize) -> &[u32]
+    ensures { λ r. ⌜ now r ≡ drop from (now (words .entry)) ⌝ }
+{
     if from <= words.len() {
         return &words[from..];
     }
     &words[0..0]
 }
 
-/// The first words of `to` become those of `from`.
-pub(crate) fn copy(from: &[u32], to: &mut [u32]) {
+/// The first words of `to` become those of `from`. Promise: `copied`.
+pub(crate) fn copy(from: &[u32], to: &mut [u32])
+    ensures { λ _. ⌜ now (to .exit) ≡ copied (now (from .entry)) (now (to .entry)) ⌝ }
+{
     let mut i = 0;
     while i < from.len() {
         put_word(to, i, from[i]);
@@ -178,7 +217,9 @@ pub(crate) fn copy(from: &[u32], to: &mut [u32]) {
 }
 
 /// Every word becomes the value.
-pub(crate) fn fill(words: &mut [u32], value: u32) {
+pub(crate) fn fill(words: &mut [u32], value: u32)
+    ensures { λ _. ⌜ now (words .exit) ≡ replicate (length (now (words .entry))) value ⌝ }
+{
     let mut i = 0;
     while i < words.len() {
         words[i] = value;
@@ -187,7 +228,9 @@ pub(crate) fn fill(words: &mut [u32], value: u32) {
 }
 
 /// The same of 64-bit words.
-pub(crate) fn fill_wide(words: &mut [u64], value: u64) {
+pub(crate) fn fill_wide(words: &mut [u64], value: u64)
+    ensures { λ _. ⌜ now (words .exit) ≡ replicate (length (now (words .entry))) value ⌝ }
+{
     let mut i = 0;
     while i < words.len() {
         words[i] = value;
@@ -196,7 +239,9 @@ pub(crate) fn fill_wide(words: &mut [u64], value: u64) {
 }
 
 /// The same of bytes.
-pub(crate) fn fill_bytes(bytes: &mut [u8], value: u8) {
+pub(crate) fn fill_bytes(bytes: &mut [u8], value: u8)
+    ensures { λ _. ⌜ now (bytes .exit) ≡ replicate (length (now (bytes .entry))) value ⌝ }
+{
     let mut i = 0;
     while i < bytes.len() {
         bytes[i] = value;

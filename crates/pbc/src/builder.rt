@@ -1,6 +1,5 @@
-//! The commands that add to the current circuit, and those on angles and letters alone.
+//! The commands that add to the current circuit.
 
-use crate::buffers::lent;
 use crate::buffers::wide_at;
 use crate::buffers::word;
 use crate::line::Line;
@@ -18,26 +17,187 @@ use arena::Singled;
 use arena::Target;
 use pauli::Pauli;
 use pauli::PauliAngle;
+ghost use mathlib.Core.Path.{_≡_};
+ghost use Rattle.arena.specs.Builder.{singleStep, productStep, rotateStep, measureStep, conditionalStep};
+ghost use Rattle.pbc.specs.Handles.{ownerAt, handleAt};
+ghost use Rattle.pbc.specs.Builder.{lentStep, axisAt, angleAt, targetOf, singledReply, multipliedReply, pushedReply, measuredReply};
+ghost use Rattle.pbc.specs.Builder.{singleCommand, productCommand, rotateCommand, measureCommand, conditionalCommand, built};
+
+pub enum Build {
+    Single,
+    Product,
+    Rotate,
+    Measure,
+    Conditional,
+}
+
+// ---- what the numbers of a line say
 
 // The owner's number with F added.
-fn owner_at(h: Header, words: &[u32], at: usize) -> u64 {
+fn owner_at(h: Header, words: &[u32], at: usize) -> u64
+    ensures { λ r. ⌜ r ≡ ownerAt (h .owner) (now (words .entry)) at ⌝ }
+{
     std::num::wrapping_add_u64(h.owner, wide_at(words, at))
 }
 
-/// The handle `F W`, F at the first of the two places.
-pub(crate) fn handle(h: Header, words: &[u32], f: usize, w: usize) -> PauliRef {
+/// The handle `F W`, F at the first of the two places. Promise: `handleAt`.
+pub(crate) fn handle(h: Header, words: &[u32], f: usize, w: usize) -> PauliRef
+    ensures { λ r. ⌜ r ≡ handleAt (h .owner) (now (words .entry)) f w ⌝ }
+{
     PauliRef {
         owner: owner_at(h, words, f),
         word: word(words, w),
     }
 }
 
-fn axis(h: Header, words: &[u32]) -> PauliAxis {
+fn axis(h: Header, words: &[u32]) -> PauliAxis
+    ensures { λ r. ⌜ r ≡ axisAt (h .owner) (now (words .entry)) ⌝ }
+{
     PauliAxis::assume_hermitian(handle(h, words, 0, 1))
 }
 
-/// `single QUBIT LETTER`
-pub(crate) fn single(state: State, line: Line, words: &[u32], nodes: &mut [u32]) -> Reply {
+fn angle(line: Line, words: &[u32]) -> PauliAngle
+    ensures { λ r. ⌜ r ≡ angleAt line (now (words .entry)) ⌝ }
+{
+    PauliAngle::new(line.signed_at(words, 2))
+}
+
+// One more than the bit, 0 for none.
+fn target(number: u32) -> Target
+    ensures { λ r. ⌜ r ≡ targetOf number ⌝ }
+{
+    if number == 0 {
+        return Target::None;
+    }
+    Target::Bit(number - 1)
+}
+
+// ---- the calls, lent the first words of a buffer
+
+fn lent_single(h: Header, count: usize, nodes: &mut [u32], qubit: u32, letter: Pauli) -> Singled
+    ensures { λ r. ⌜ r ≡ lentStep count (now (nodes .entry)) (λ part. singleStep h part qubit letter) .answer ⌝ }
+    ensures { λ _. ⌜ now (nodes .exit) ≡ lentStep count (now (nodes .entry)) (λ part. singleStep h part qubit letter) .words ⌝ }
+{
+    if nodes.len() <= count {
+        return h.single(nodes, qubit, letter);
+    }
+    h.single(&mut nodes[..count], qubit, letter)
+}
+
+fn lent_product(
+    h: Header,
+    count: usize,
+    nodes: &mut [u32],
+    left: PauliRef,
+    right: PauliRef,
+) -> Multiplied
+    ensures { λ r. ⌜ r ≡ lentStep count (now (nodes .entry)) (λ part. productStep h part left right) .answer ⌝ }
+    ensures { λ _. ⌜ now (nodes .exit) ≡ lentStep count (now (nodes .entry)) (λ part. productStep h part left right) .words ⌝ }
+{
+    if nodes.len() <= count {
+        return h.product(nodes, left, right);
+    }
+    h.product(&mut nodes[..count], left, right)
+}
+
+fn lent_rotate(
+    h: Header,
+    count: usize,
+    operations: &mut [u32],
+    on: PauliAxis,
+    by: PauliAngle,
+) -> Pushed
+    ensures { λ r. ⌜ r ≡ lentStep count (now (operations .entry)) (λ part. rotateStep h part on by) .answer ⌝ }
+    ensures { λ _. ⌜ now (operations .exit) ≡ lentStep count (now (operations .entry)) (λ part. rotateStep h part on by) .words ⌝ }
+{
+    if operations.len() <= count {
+        return h.rotate(operations, on, by);
+    }
+    h.rotate(&mut operations[..count], on, by)
+}
+
+fn lent_measure(
+    h: Header,
+    count: usize,
+    operations: &mut [u32],
+    on: PauliAxis,
+    into: Target,
+) -> Measured
+    ensures { λ r. ⌜ r ≡ lentStep count (now (operations .entry)) (λ part. measureStep h part on into) .answer ⌝ }
+    ensures { λ _. ⌜ now (operations .exit) ≡ lentStep count (now (operations .entry)) (λ part. measureStep h part on into) .words ⌝ }
+{
+    if operations.len() <= count {
+        return h.measure(operations, on, into);
+    }
+    h.measure(&mut operations[..count], on, into)
+}
+
+fn lent_conditional(
+    h: Header,
+    count: usize,
+    operations: &mut [u32],
+    on: PauliAxis,
+    by: PauliAngle,
+    outcome: MeasId,
+) -> Pushed
+    ensures { λ r. ⌜ r ≡ lentStep count (now (operations .entry)) (λ part. conditionalStep h part on by outcome) .answer ⌝ }
+    ensures { λ _. ⌜ now (operations .exit) ≡ lentStep count (now (operations .entry)) (λ part. conditionalStep h part on by outcome) .words ⌝ }
+{
+    if operations.len() <= count {
+        return h.conditional_rotate(operations, on, by, outcome);
+    }
+    h.conditional_rotate(&mut operations[..count], on, by, outcome)
+}
+
+// ---- answers of the calls
+
+fn singled(state: State, answer: Singled) -> Reply
+    ensures { λ r. ⌜ r ≡ singledReply state answer ⌝ }
+{
+    match answer {
+        Singled::Made(made, on) => { state.with_header(made, Answer::One(on.as_ref().word as u64)) }
+        Singled::Refused(error) => state.refused(error),
+    }
+}
+
+fn multiplied(state: State, answer: Multiplied) -> Reply
+    ensures { λ r. ⌜ r ≡ multipliedReply state answer ⌝ }
+{
+    match answer {
+        Multiplied::Made(made, reference) => {
+            state.with_header(made, Answer::One(reference.word as u64))
+        }
+        Multiplied::Refused(error) => state.refused(error),
+    }
+}
+
+fn pushed(state: State, answer: Pushed) -> Reply
+    ensures { λ r. ⌜ r ≡ pushedReply state answer ⌝ }
+{
+    match answer {
+        Pushed::Made(made) => state.with_header(made, Answer::Done),
+        Pushed::Refused(error) => state.refused(error),
+    }
+}
+
+fn measured(state: State, answer: Measured) -> Reply
+    ensures { λ r. ⌜ r ≡ measuredReply state answer ⌝ }
+{
+    match answer {
+        Measured::Made(made, outcome) => {
+            state.with_header(made, Answer::One(outcome.index() as u64))
+        }
+        Measured::Refused(error) => state.refused(error),
+    }
+}
+
+// ---- the commands
+
+// `single QUBIT LETTER`
+fn single(state: State, line: Line, words: &[u32], nodes: &mut [u32]) -> Reply
+    ensures { λ r. ⌜ r ≡ singleCommand state line (now (words .entry)) (now (nodes .entry)) .answer ⌝ }
+    ensures { λ _. ⌜ now (nodes .exit) ≡ singleCommand state line (now (words .entry)) (now (nodes .entry)) .words ⌝ }
+{
     if !line.has(2) {
         return state.bad();
     }
@@ -46,114 +206,91 @@ pub(crate) fn single(state: State, line: Line, words: &[u32], nodes: &mut [u32])
         return state.bad();
     }
     let header = state.header;
-    let count = state.lends.nodes;
+    let qubit = word(words, 0);
     let pauli = Pauli::or_identity(letter);
-    match header.single(lent(nodes, count), word(words, 0), pauli) {
-        Singled::Made(made, on) => { state.with_header(made, Answer::One(on.as_ref().word as u64)) }
-        Singled::Refused(error) => state.refused(error),
-    }
+    let made = lent_single(header, state.lends.nodes, nodes, qubit, pauli);
+    singled(state, made)
 }
 
-/// `product F W F W`
-pub(crate) fn product(state: State, line: Line, words: &[u32], nodes: &mut [u32]) -> Reply {
+// `product F W F W`
+fn product(state: State, line: Line, words: &[u32], nodes: &mut [u32]) -> Reply
+    ensures { λ r. ⌜ r ≡ productCommand state line (now (words .entry)) (now (nodes .entry)) .answer ⌝ }
+    ensures { λ _. ⌜ now (nodes .exit) ≡ productCommand state line (now (words .entry)) (now (nodes .entry)) .words ⌝ }
+{
     if !line.has(4) {
         return state.bad();
     }
     let header = state.header;
-    let count = state.lends.nodes;
     let left = handle(header, words, 0, 1);
     let right = handle(header, words, 2, 3);
-    match header.product(lent(nodes, count), left, right) {
-        Multiplied::Made(made, reference) => {
-            state.with_header(made, Answer::One(reference.word as u64))
-        }
-        Multiplied::Refused(error) => state.refused(error),
-    }
+    let made = lent_product(header, state.lends.nodes, nodes, left, right);
+    multiplied(state, made)
 }
 
-fn pushed(state: State, answer: Pushed) -> Reply {
-    match answer {
-        Pushed::Made(made) => state.with_header(made, Answer::Done),
-        Pushed::Refused(error) => state.refused(error),
-    }
-}
-
-/// `rotate F W ANGLE`
-pub(crate) fn rotate(state: State, line: Line, words: &[u32], operations: &mut [u32]) -> Reply {
+// `rotate F W ANGLE`
+fn rotate(state: State, line: Line, words: &[u32], operations: &mut [u32]) -> Reply
+    ensures { λ r. ⌜ r ≡ rotateCommand state line (now (words .entry)) (now (operations .entry)) .answer ⌝ }
+    ensures { λ _. ⌜ now (operations .exit) ≡ rotateCommand state line (now (words .entry)) (now (operations .entry)) .words ⌝ }
+{
     if !line.has_signed(3, 2) {
         return state.bad();
     }
     let header = state.header;
-    let count = state.lends.operations;
     let on = axis(header, words);
-    let angle = PauliAngle::new(line.signed_at(words, 2));
-    let answer = header.rotate(lent(operations, count), on, angle);
-    pushed(state, answer)
+    let by = angle(line, words);
+    let made = lent_rotate(header, state.lends.operations, operations, on, by);
+    pushed(state, made)
 }
 
-// One more than the bit, 0 for none.
-fn target(number: u32) -> Target {
-    if number == 0 {
-        return Target::None;
-    }
-    Target::Bit(number - 1)
-}
-
-/// `measure F W BIT+1`
-pub(crate) fn measure(state: State, line: Line, words: &[u32], operations: &mut [u32]) -> Reply {
+// `measure F W BIT+1`
+fn measure(state: State, line: Line, words: &[u32], operations: &mut [u32]) -> Reply
+    ensures { λ r. ⌜ r ≡ measureCommand state line (now (words .entry)) (now (operations .entry)) .answer ⌝ }
+    ensures { λ _. ⌜ now (operations .exit) ≡ measureCommand state line (now (words .entry)) (now (operations .entry)) .words ⌝ }
+{
     if !line.has(3) {
         return state.bad();
     }
     let header = state.header;
-    let count = state.lends.operations;
     let on = axis(header, words);
     let into = target(word(words, 2));
-    match header.measure(lent(operations, count), on, into) {
-        Measured::Made(made, outcome) => {
-            state.with_header(made, Answer::One(outcome.index() as u64))
-        }
-        Measured::Refused(error) => state.refused(error),
-    }
+    let made = lent_measure(header, state.lends.operations, operations, on, into);
+    measured(state, made)
 }
 
-/// `cond F W ANGLE F NUMBER`
-pub(crate) fn conditional(
-    state: State,
-    line: Line,
-    words: &[u32],
-    operations: &mut [u32],
-) -> Reply {
+// `cond F W ANGLE F NUMBER`
+fn conditional(state: State, line: Line, words: &[u32], operations: &mut [u32]) -> Reply
+    ensures { λ r. ⌜ r ≡ conditionalCommand state line (now (words .entry)) (now (operations .entry)) .answer ⌝ }
+    ensures { λ _. ⌜ now (operations .exit) ≡ conditionalCommand state line (now (words .entry)) (now (operations .entry)) .words ⌝ }
+{
     if !line.has_signed(5, 2) {
         return state.bad();
     }
     let header = state.header;
-    let count = state.lends.operations;
     let on = axis(header, words);
-    let angle = PauliAngle::new(line.signed_at(words, 2));
+    let by = angle(line, words);
     let outcome = MeasId::new(owner_at(header, words, 3), word(words, 4));
-    let answer = header.conditional_rotate(lent(operations, count), on, angle, outcome);
-    pushed(state, answer)
+    let made = lent_conditional(header, state.lends.operations, operations, on, by, outcome);
+    pushed(state, made)
 }
 
-/// `angle K`
-pub(crate) fn angle(state: State, line: Line, words: &[u32]) -> Reply {
-    if !line.has_signed(1, 0) {
-        return state.bad();
+/// The answer to a command that adds to the current circuit. Promise: `built`.
+pub(crate) fn answer(
+    command: Build,
+    state: State,
+    line: Line,
+    words: &[u32],
+    nodes: &mut [u32],
+    operations: &mut [u32],
+) -> Reply
+    ensures { λ r. ⌜ r ≡ built command state line (now (words .entry)) (now (nodes .entry)) (now (operations .entry)) .reply ⌝ }
+    ensures { λ _. ⌜ now (nodes .exit) ≡ built command state line (now (words .entry)) (now (nodes .entry)) (now (operations .entry)) .nodes ⌝ }
+    ensures { λ _. ⌜ now (operations .exit) ≡ built command state line (now (words .entry)) (now (nodes .entry)) (now (operations .entry)) .operations ⌝ }
+{
+    match command {
+        Build::Single => single(state, line, words, nodes),
+        Build::Product => product(state, line, words, nodes),
+        Build::Rotate => rotate(state, line, words, operations),
+        Build::Measure => measure(state, line, words, operations),
+        Build::Conditional => conditional(state, line, words, operations),
     }
-    let kept = PauliAngle::new(line.signed_at(words, 0));
-    state.says(Answer::One(kept.eighths() as u64))
-}
-
-/// `times A B`
-pub(crate) fn times(state: State, line: Line, words: &[u32]) -> Reply {
-    if !line.has(2) {
-        return state.bad();
-    }
-    let left = word(words, 0);
-    let right = word(words, 1);
-    if (3 < left) | (3 < right) {
-        return state.bad();
-    }
-    let product = pauli::times_numbers(left, right);
-    state.says(Answer::Two(product.phase as u64, product.pauli as u64))
 }

@@ -1,171 +1,36 @@
-//! The commands that set the buffers and the current circuit, or show them.
+//! The commands that make a circuit current with all its words.
 
-use crate::buffers;
+pub mod conversion;
+
 use crate::buffers::FRAME;
-use crate::buffers::LETTERS;
-use crate::buffers::Lends;
 use crate::buffers::NODES;
 use crate::buffers::OPERATIONS;
-use crate::buffers::PLANES;
-use crate::buffers::POOL;
-use crate::buffers::SCRATCH;
+use crate::buffers::copy;
 use crate::buffers::count_at;
 use crate::buffers::lent;
 use crate::buffers::part;
 use crate::buffers::word;
 use crate::line::Line;
-use crate::names::is;
 use crate::state::Answer;
-use crate::state::Buffer;
 use crate::state::OWNER;
 use crate::state::Reply;
 use crate::state::State;
-use crate::state::empty;
 use arena::Created;
 use arena::Header;
 use arena::NODE_WORDS;
 use arena::OPERATION_WORDS;
 
-/// `lend`, or `lend` with a count for each buffer
-pub(crate) fn lend(state: State, line: Line, words: &[u32]) -> Reply {
-    if line.has(0) {
-        return state.with_lends(Lends::all());
-    }
-    if !line.has(7) {
-        return state.bad();
-    }
-    let lends = Lends::of(words);
-    if lends.exceed() {
-        return state.bad();
-    }
-    state.with_lends(lends)
+/// The commands that make a circuit current, and the gate on its frame.
+pub enum Circuit {
+    New,
+    Store,
+    Convert,
+    Planes,
+    FrameGate,
 }
 
-fn fill_circuit(nodes: &mut [u32], operations: &mut [u32], frame: &mut [u32], value: u32) {
-    buffers::fill(nodes, value);
-    buffers::fill(operations, value);
-    buffers::fill(frame, value);
-}
-
-fn fill_work(scratch: &mut [u32], pool: &mut [u32], letters: &mut [u8], value: u32) {
-    buffers::fill(scratch, value);
-    buffers::fill(pool, value);
-    buffers::fill_bytes(letters, (value % 256) as u8);
-}
-
-fn fill_all(
-    nodes: &mut [u32],
-    operations: &mut [u32],
-    frame: &mut [u32],
-    planes: &mut [u64],
-    scratch: &mut [u32],
-    pool: &mut [u32],
-    letters: &mut [u8],
-    value: u32,
-) {
-    fill_circuit(nodes, operations, frame, value);
-    fill_work(scratch, pool, letters, value);
-    buffers::fill_wide(planes, value as u64);
-}
-
-/// `fill VALUE`
-pub(crate) fn fill(
-    state: State,
-    line: Line,
-    words: &[u32],
-    nodes: &mut [u32],
-    operations: &mut [u32],
-    frame: &mut [u32],
-    planes: &mut [u64],
-    scratch: &mut [u32],
-    pool: &mut [u32],
-    letters: &mut [u8],
-) -> Reply {
-    if !line.has(1) {
-        return state.bad();
-    }
-    let value = word(words, 0);
-    let reply = state.with_header(empty(), Answer::Done);
-    fill_all(
-        nodes,
-        operations,
-        frame,
-        planes,
-        scratch,
-        pool,
-        letters,
-        value,
-    );
-    reply
-}
-
-fn buffer_named(name: u64) -> Buffer {
-    if is(name, b"nodes") {
-        return Buffer::Nodes;
-    }
-    if is(name, b"operations") {
-        return Buffer::Operations;
-    }
-    if is(name, b"frame") {
-        return Buffer::Frame;
-    }
-    if is(name, b"planes") {
-        return Buffer::Planes;
-    }
-    if is(name, b"scratch") {
-        return Buffer::Scratch;
-    }
-    if is(name, b"pool") {
-        return Buffer::Pool;
-    }
-    if is(name, b"letters") {
-        return Buffer::Letters;
-    }
-    Buffer::Unknown
-}
-
-fn length_of(buffer: Buffer) -> usize {
-    match buffer {
-        Buffer::Nodes => NODES,
-        Buffer::Operations => OPERATIONS,
-        Buffer::Frame => FRAME,
-        Buffer::Planes => PLANES,
-        Buffer::Scratch => SCRATCH,
-        Buffer::Pool => POOL,
-        Buffer::Letters => LETTERS,
-        Buffer::Unknown => 0,
-    }
-}
-
-/// `peek BUFFER FROM COUNT`
-pub(crate) fn peek(state: State, line: Line, words: &[u32]) -> Reply {
-    if !line.has_buffer(2) {
-        return state.bad();
-    }
-    let buffer = buffer_named(line.buffer);
-    if let Buffer::Unknown = buffer {
-        return state.bad();
-    }
-    let from = count_at(words, 0);
-    let count = count_at(words, 1);
-    let length = length_of(buffer);
-    if length < from {
-        return state.bad();
-    }
-    if length - from < count {
-        return state.bad();
-    }
-    state.says(Answer::Words(buffer, from, count))
-}
-
-/// `new N CBITS`
-pub(crate) fn new(
-    state: State,
-    line: Line,
-    words: &[u32],
-    nodes: &mut [u32],
-    frame: &mut [u32],
-) -> Reply {
+// `new N CBITS`
+fn new(state: State, line: Line, words: &[u32], nodes: &mut [u32], frame: &mut [u32]) -> Reply {
     if !line.has(2) {
         return state.bad();
     }
@@ -184,38 +49,6 @@ pub(crate) fn new(
         Created::Made(made) => state.with_header(made, Answer::Dump),
         Created::Refused(error) => state.refused(error),
     }
-}
-
-/// `header N CBITS NODES OPERATIONS MEASUREMENTS`
-pub(crate) fn header(state: State, line: Line, words: &[u32]) -> Reply {
-    if !line.has(5) {
-        return state.bad();
-    }
-    let header = Header {
-        qubits: word(words, 0),
-        cbits: word(words, 1),
-        owner: OWNER,
-        nodes: word(words, 2),
-        operations: word(words, 3),
-        measurements: word(words, 4),
-    };
-    state.with_header(header, Answer::Done)
-}
-
-/// `dump`
-pub(crate) fn dump(state: State, line: Line) -> Reply {
-    if !line.has(0) {
-        return state.bad();
-    }
-    state.says(Answer::Dump)
-}
-
-/// `kinds`
-pub(crate) fn kinds(state: State, line: Line) -> Reply {
-    if !line.has(0) {
-        return state.bad();
-    }
-    state.says(Answer::Kinds)
 }
 
 // The three lists of a `store`: where each begins among the numbers of its line, and how many words it has.
@@ -278,16 +111,16 @@ fn store_words(
     operations: &mut [u32],
     frame: &mut [u32],
 ) {
-    buffers::copy(part(words, 4, found.nodes), nodes);
-    buffers::copy(
+    copy(part(words, 4, found.nodes), nodes);
+    copy(
         part(words, found.operations_at, found.operations),
         operations,
     );
-    buffers::copy(part(words, found.frame_at, found.frame), frame);
+    copy(part(words, found.frame_at, found.frame), frame);
 }
 
-/// `store N CBITS MEASUREMENTS`, then the three lists, each with its count in front
-pub(crate) fn store(
+// `store N CBITS MEASUREMENTS`, then the three lists, each with its count in front
+fn store(
     state: State,
     line: Line,
     words: &[u32],

@@ -1,121 +1,71 @@
 //! Which command a line is, and the answer to it.
 
 use crate::builder;
-use crate::circuits;
-use crate::conversion;
+use crate::builder::Build;
+use crate::circuits::Circuit;
+use crate::circuits::conversion;
+use crate::fill;
 use crate::line::Line;
-use crate::names::is;
+use crate::names;
+use crate::plain;
+use crate::plain::Plain;
 use crate::readers;
-use crate::state::Answer;
+use crate::readers::Reading;
 use crate::state::Reply;
 use crate::state::State;
 
+// The commands by the buffers that they see.
 enum Command {
-    Unknown,
-    Lend,
+    Plain(Plain),
     Fill,
-    Peek,
-    New,
-    Store,
-    Header,
-    Dump,
-    Kinds,
-    Single,
-    Product,
-    Rotate,
-    Measure,
-    Conditional,
-    Angle,
-    Times,
-    Expand,
-    Hermitian,
-    Report,
-    Convert,
-    Planes,
-    FrameGate,
+    Circuit(Circuit),
+    Build(Build),
+    Reading(Reading),
+}
+
+fn command_of(line: Line) -> Command {
+    if line.bad {
+        return Command::Plain(Plain::Unknown);
+    }
+    let name = line.name;
+    if name == names::FILL {
+        return fill_command(line);
+    }
+    command_named(name)
 }
 
 fn command_named(name: u64) -> Command {
-    if is(name, b"lend") {
-        return Command::Lend;
+    match name {
+        0 => Command::Plain(Plain::Nothing),
+        names::LEND => Command::Plain(Plain::Lend),
+        names::PEEK => Command::Plain(Plain::Peek),
+        names::HEADER => Command::Plain(Plain::Header),
+        names::DUMP => Command::Plain(Plain::Dump),
+        names::KINDS => Command::Plain(Plain::Kinds),
+        names::ANGLE => Command::Plain(Plain::Angle),
+        names::TIMES => Command::Plain(Plain::Times),
+        names::SINGLE => Command::Build(Build::Single),
+        names::PRODUCT => Command::Build(Build::Product),
+        names::ROTATE => Command::Build(Build::Rotate),
+        names::MEASURE => Command::Build(Build::Measure),
+        names::COND => Command::Build(Build::Conditional),
+        names::NEW => Command::Circuit(Circuit::New),
+        names::STORE => Command::Circuit(Circuit::Store),
+        names::CONVERT => Command::Circuit(Circuit::Convert),
+        names::PLANES => Command::Circuit(Circuit::Planes),
+        names::FGATE => Command::Circuit(Circuit::FrameGate),
+        names::EXPAND => Command::Reading(Reading::Expand),
+        names::HERM => Command::Reading(Reading::Hermitian),
+        names::REPORT => Command::Reading(Reading::Report),
+        _ => Command::Plain(Plain::Unknown),
     }
-    if is(name, b"fill") {
+}
+
+fn fill_command(line: Line) -> Command {
+    if line.has(1) {
         return Command::Fill;
     }
-    if is(name, b"peek") {
-        return Command::Peek;
-    }
-    if is(name, b"angle") {
-        return Command::Angle;
-    }
-    if is(name, b"times") {
-        return Command::Times;
-    }
-    circuit_command(name)
-}
-
-fn circuit_command(name: u64) -> Command {
-    if is(name, b"new") {
-        return Command::New;
-    }
-    if is(name, b"store") {
-        return Command::Store;
-    }
-    if is(name, b"header") {
-        return Command::Header;
-    }
-    if is(name, b"dump") {
-        return Command::Dump;
-    }
-    if is(name, b"kinds") {
-        return Command::Kinds;
-    }
-    builder_command(name)
-}
-
-fn builder_command(name: u64) -> Command {
-    if is(name, b"single") {
-        return Command::Single;
-    }
-    if is(name, b"product") {
-        return Command::Product;
-    }
-    if is(name, b"rotate") {
-        return Command::Rotate;
-    }
-    if is(name, b"measure") {
-        return Command::Measure;
-    }
-    if is(name, b"cond") {
-        return Command::Conditional;
-    }
-    reader_command(name)
-}
-
-fn reader_command(name: u64) -> Command {
-    if is(name, b"expand") {
-        return Command::Expand;
-    }
-    if is(name, b"herm") {
-        return Command::Hermitian;
-    }
-    if is(name, b"report") {
-        return Command::Report;
-    }
-    conversion_command(name)
-}
-
-fn conversion_command(name: u64) -> Command {
-    if is(name, b"convert") {
-        return Command::Convert;
-    }
-    if is(name, b"planes") {
-        return Command::Planes;
-    }
-    if is(name, b"fgate") {
-        return Command::FrameGate;
-    }
-    Command::Unknown
+    Command::Plain(Plain::Unknown)
 }
 
 /// The answer to a whole line.
@@ -131,18 +81,10 @@ pub(crate) fn answer(
     pool: &mut [u32],
     letters: &mut [u8],
 ) -> Reply {
-    if line.bad {
-        return state.bad();
-    }
-    if line.name == 0 {
-        return state.says(Answer::Nothing);
-    }
-    match command_named(line.name) {
-        Command::Unknown => state.bad(),
-        Command::Lend => circuits::lend(state, line, words),
-        Command::Fill => circuits::fill(
+    match command_of(line) {
+        Command::Plain(plain) => plain::answer(plain, state, line, words),
+        Command::Fill => fill::answer(
             state,
-            line,
             words,
             nodes,
             operations,
@@ -152,24 +94,9 @@ pub(crate) fn answer(
             pool,
             letters,
         ),
-        Command::Peek => circuits::peek(state, line, words),
-        Command::New => circuits::new(state, line, words, nodes, frame),
-        Command::Store => circuits::store(state, line, words, nodes, operations, frame),
-        Command::Header => circuits::header(state, line, words),
-        Command::Dump => circuits::dump(state, line),
-        Command::Kinds => circuits::kinds(state, line),
-        Command::Single => builder::single(state, line, words, nodes),
-        Command::Product => builder::product(state, line, words, nodes),
-        Command::Rotate => builder::rotate(state, line, words, operations),
-        Command::Measure => builder::measure(state, line, words, operations),
-        Command::Conditional => builder::conditional(state, line, words, operations),
-        Command::Angle => builder::angle(state, line, words),
-        Command::Times => builder::times(state, line, words),
-        Command::Expand => readers::expand(state, line, words, nodes, scratch, pool, letters),
-        Command::Hermitian => readers::hermitian(state, line, words, nodes, scratch, pool),
-        Command::Convert => conversion::convert_line(
+        Command::Circuit(circuit) => conversion::answer(
+            circuit,
             state,
-            Answer::Dump,
             line,
             words,
             nodes,
@@ -177,17 +104,17 @@ pub(crate) fn answer(
             frame,
             planes,
         ),
-        Command::Planes => conversion::convert_line(
+        Command::Build(build) => builder::answer(build, state, line, words, nodes, operations),
+        Command::Reading(reading) => readers::answer(
+            reading,
             state,
-            Answer::DumpWithPlanes,
             line,
             words,
             nodes,
             operations,
-            frame,
-            planes,
+            scratch,
+            pool,
+            letters,
         ),
-        Command::FrameGate => conversion::frame_gate(state, line, words, nodes, frame),
-        Command::Report => { readers::report(state, line, words, nodes, operations, scratch, pool) }
     }
 }

@@ -1,11 +1,15 @@
 //! A line of input, read byte by byte: a command's name, then numbers, or a buffer's name and numbers, with spaces between them.
 //! Numbers below 2^32 go to a lent slice. No command has more than one number of another range, so that one is kept in the line.
 
+pub mod input;
+
 use crate::buffers::put_word;
 use crate::buffers::wide_at;
 use crate::names::NO_NAME;
 use crate::names::extended;
 use crate::names::is_letter;
+ghost use mathlib.Core.Path.{_≡_};
+ghost use Rattle.pbc.specs.Lines.{newLine, hasNumbers, hasSigned, hasMore, hasMoreSigned, hasBuffer, signedOf, signedAt};
 
 /// The longest line that is read, in bytes.
 const LONGEST: u32 = 4500000;
@@ -37,13 +41,13 @@ pub struct Line {
     /// Numbers so far.
     pub numbers: usize,
     /// There is a number with a sign, or of 2^32 or more.
-    pub has_wide: bool,
+    pub wide: bool,
     /// Its place among the numbers.
-    pub wide_place: usize,
+    pub place: usize,
     /// Its magnitude, at most 2^63.
-    pub wide: u64,
+    pub value: u64,
     /// It has a minus sign.
-    pub wide_negative: bool,
+    pub sign: bool,
     /// What is being read.
     pub token: u32,
     /// The magnitude of the number being read, and whether it has a minus sign.
@@ -68,7 +72,9 @@ fn with_digit(magnitude: u64, digit: u8) -> u64 {
 }
 
 // The number with this magnitude, at most 2^63, and this sign.
-fn signed(magnitude: u64, negative: bool) -> i64 {
+fn signed(magnitude: u64, negative: bool) -> i64
+    ensures { λ r. ⌜ r ≡ signedOf magnitude negative ⌝ }
+{
     if 9223372036854775807 < magnitude {
         return -9223372036854775808;
     }
@@ -80,25 +86,28 @@ fn signed(magnitude: u64, negative: bool) -> i64 {
 }
 
 impl Line {
-    pub(crate) fn new() -> Line {
+    /// A line before its first byte. Promise: `newLine`.
+    pub(crate) fn new() -> Line
+        ensures { λ r. ⌜ r ≡ newLine ⌝ }
+    {
         Line {
             length: 0,
             bad: false,
             name: 0,
             buffer: 0,
             numbers: 0,
-            has_wide: false,
-            wide_place: 0,
-            wide: 0,
-            wide_negative: false,
+            wide: false,
+            place: 0,
+            value: 0,
+            sign: false,
             token: BETWEEN,
             magnitude: 0,
             negative: false,
         }
     }
 
-    /// The line with one byte more, which is no line feed.
-    pub(crate) fn with_byte(self, byte: u8, words: &mut [u32]) -> Line {
+    // The line with one byte more, which is no line feed.
+    fn with_byte(self, byte: u8, words: &mut [u32]) -> Line {
         if self.bad {
             return self;
         }
@@ -169,7 +178,7 @@ impl Line {
         if self.numbers != 0 {
             return self.spoilt();
         }
-        if self.has_wide {
+        if self.wide {
             return self.spoilt();
         }
         self.buffer_named(byte)
@@ -208,8 +217,8 @@ impl Line {
         self
     }
 
-    /// The line where the name or number being read has ended.
-    pub(crate) fn ended(self, words: &mut [u32]) -> Line {
+    // The line where the name or number being read has ended.
+    fn ended(self, words: &mut [u32]) -> Line {
         let token = self.token;
         if token == NUMBER {
             return self.number_ended(words);
@@ -247,7 +256,7 @@ impl Line {
 
     // A number with a sign, or of 2^32 or more, ends: the first of its kind and within 64 bits.
     fn wide_ended(self) -> Line {
-        if self.has_wide {
+        if self.wide {
             return self.spoilt();
         }
         if 9223372036854775808 < self.magnitude {
@@ -263,42 +272,54 @@ impl Line {
         let magnitude = self.magnitude;
         let negative = self.negative;
         let place = self.numbers;
-        self.has_wide = true;
-        self.wide_place = place;
-        self.wide = magnitude;
-        self.wide_negative = negative;
+        self.wide = true;
+        self.place = place;
+        self.value = magnitude;
+        self.sign = negative;
         self
     }
 
-    /// The line has so many numbers, each below 2^32, and no buffer's name.
-    pub(crate) fn has(self, count: usize) -> bool {
-        (self.numbers == count) & (self.buffer == 0) & !self.has_wide
+    /// The line has so many numbers, each below 2^32, and no buffer's name. Promise: `hasNumbers`.
+    pub(crate) fn has(self, count: usize) -> bool
+        ensures { λ r. ⌜ r ≡ hasNumbers self count ⌝ }
+    {
+        (self.numbers == count) & (self.buffer == 0) & !self.wide
     }
 
-    /// The same, but that the number at a place is any of 64 bits with a sign.
-    pub(crate) fn has_signed(self, count: usize, place: usize) -> bool {
-        (self.numbers == count) & (self.buffer == 0) & (!self.has_wide | (self.wide_place == place))
+    /// The same, but that the number at a place is any of 64 bits with a sign. Promise: `hasSigned`.
+    pub(crate) fn has_signed(self, count: usize, place: usize) -> bool
+        ensures { λ r. ⌜ r ≡ hasSigned self count place ⌝ }
+    {
+        (self.numbers == count) & (self.buffer == 0) & (!self.wide | (self.place == place))
     }
 
-    /// At least so many numbers, and the one at a place is any of 64 bits with a sign.
-    pub(crate) fn has_more_signed(self, count: usize, place: usize) -> bool {
-        (count <= self.numbers) & (self.buffer == 0) & (!self.has_wide | (self.wide_place == place))
+    /// At least so many numbers, and the one at a place is any of 64 bits with a sign. Promise: `hasMoreSigned`.
+    pub(crate) fn has_more_signed(self, count: usize, place: usize) -> bool
+        ensures { λ r. ⌜ r ≡ hasMoreSigned self count place ⌝ }
+    {
+        (count <= self.numbers) & (self.buffer == 0) & (!self.wide | (self.place == place))
     }
 
-    /// At least so many numbers, each below 2^32, and no buffer's name.
-    pub(crate) fn has_more(self, count: usize) -> bool {
-        (count <= self.numbers) & (self.buffer == 0) & !self.has_wide
+    /// At least so many numbers, each below 2^32, and no buffer's name. Promise: `hasMore`.
+    pub(crate) fn has_more(self, count: usize) -> bool
+        ensures { λ r. ⌜ r ≡ hasMore self count ⌝ }
+    {
+        (count <= self.numbers) & (self.buffer == 0) & !self.wide
     }
 
-    /// A buffer's name and so many numbers, each below 2^32.
-    pub(crate) fn has_buffer(self, count: usize) -> bool {
-        (self.numbers == count) & !(self.buffer == 0) & !self.has_wide
+    /// A buffer's name and so many numbers, each below 2^32. Promise: `hasBuffer`.
+    pub(crate) fn has_buffer(self, count: usize) -> bool
+        ensures { λ r. ⌜ r ≡ hasBuffer self count ⌝ }
+    {
+        (self.numbers == count) & !(self.buffer == 0) & !self.wide
     }
 
-    /// The number at a place, with its sign.
-    pub(crate) fn signed_at(self, words: &[u32], place: usize) -> i64 {
-        if self.has_wide {
-            return signed(self.wide, self.wide_negative);
+    /// The number at a place, with its sign. Promise: `signedAt`.
+    pub(crate) fn signed_at(self, words: &[u32], place: usize) -> i64
+        ensures { λ r. ⌜ r ≡ signedAt self (now (words .entry)) place ⌝ }
+    {
+        if self.wide {
+            return signed(self.value, self.sign);
         }
         signed(wide_at(words, place), false)
     }

@@ -1,17 +1,16 @@
 //! The command `pbc`: one command of the library a line on standard input, one answer a line on standard output.
 //! All memory is made here, once, and lent.
 
-mod answers;
 mod buffers;
 mod builder;
 mod circuits;
 mod commands;
-mod conversion;
+mod fill;
 mod line;
 mod names;
 mod output;
+mod plain;
 mod readers;
-mod session;
 mod state;
 
 use buffers::CHUNK;
@@ -23,7 +22,7 @@ use buffers::OPERATIONS;
 use buffers::PLANES;
 use buffers::POOL;
 use buffers::SCRATCH;
-use session::run;
+use line::input::session::run;
 
 fn main() {
     let mut input = [0u8; CHUNK];

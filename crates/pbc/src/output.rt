@@ -1,6 +1,8 @@
 //! Answers are gathered in a lent buffer, which is written to standard output when it is full and at the end.
 //! Each function takes how many bytes stand there, and answers how many do afterwards.
 
+pub mod answers;
+
 use libc::STDOUT_FILENO;
 
 // A full buffer is written, and begins again.
@@ -21,7 +23,7 @@ fn put(out: &mut [u8], at: usize, byte: u8) -> usize {
     to
 }
 
-pub(crate) fn text(out: &mut [u8], at: usize, bytes: &[u8]) -> usize {
+fn text(out: &mut [u8], at: usize, bytes: &[u8]) -> usize {
     let mut to = at;
     let mut i = 0;
     while i < bytes.len() {
@@ -31,25 +33,25 @@ pub(crate) fn text(out: &mut [u8], at: usize, bytes: &[u8]) -> usize {
     to
 }
 
-pub(crate) fn line_end(out: &mut [u8], at: usize) -> usize {
+fn line_end(out: &mut [u8], at: usize) -> usize {
     put(out, at, 10)
 }
 
-/// A space and the number.
-pub(crate) fn number(out: &mut [u8], at: usize, n: u64) -> usize {
+// A space and the number.
+fn number(out: &mut [u8], at: usize, n: u64) -> usize {
     let mut digits = [0u8; 20];
     let k = io::decimal(n, &mut digits);
     let to = put(out, at, 32);
     text(out, to, &digits[..k])
 }
 
-/// A space and the word.
-pub(crate) fn word(out: &mut [u8], at: usize, n: u32) -> usize {
+// A space and the word.
+fn word(out: &mut [u8], at: usize, n: u32) -> usize {
     number(out, at, n as u64)
 }
 
-/// Every word with a space before it.
-pub(crate) fn words(out: &mut [u8], at: usize, list: &[u32]) -> usize {
+// Every word with a space before it.
+fn words(out: &mut [u8], at: usize, list: &[u32]) -> usize {
     let mut to = at;
     let mut i = 0;
     while i < list.len() {
@@ -59,8 +61,8 @@ pub(crate) fn words(out: &mut [u8], at: usize, list: &[u32]) -> usize {
     to
 }
 
-/// The same of 64-bit words.
-pub(crate) fn wide_words(out: &mut [u8], at: usize, list: &[u64]) -> usize {
+// The same of 64-bit words.
+fn wide_words(out: &mut [u8], at: usize, list: &[u64]) -> usize {
     let mut to = at;
     let mut i = 0;
     while i < list.len() {
@@ -74,8 +76,8 @@ fn small(out: &mut [u8], at: usize, n: u8) -> usize {
     number(out, at, n as u64)
 }
 
-/// The same of bytes.
-pub(crate) fn bytes(out: &mut [u8], at: usize, list: &[u8]) -> usize {
+// The same of bytes.
+fn bytes(out: &mut [u8], at: usize, list: &[u8]) -> usize {
     let mut to = at;
     let mut i = 0;
     while i < list.len() {
@@ -83,11 +85,4 @@ pub(crate) fn bytes(out: &mut [u8], at: usize, list: &[u8]) -> usize {
         i += 1;
     }
     to
-}
-
-/// What is left is written.
-pub(crate) fn flush(out: &[u8], at: usize) {
-    if at <= out.len() {
-        io::write_all(STDOUT_FILENO, &out[0..at]);
-    }
 }

@@ -13,8 +13,14 @@ use arena::Expansion;
 use arena::HermitianAxis;
 use arena::MaxAxisWeights;
 
-/// `expand F W MAX_CELLS`
-pub(crate) fn expand(
+pub enum Reading {
+    Expand,
+    Hermitian,
+    Report,
+}
+
+// `expand F W MAX_CELLS`
+fn expand(
     state: State,
     line: Line,
     words: &[u32],
@@ -46,8 +52,8 @@ pub(crate) fn expand(
     }
 }
 
-/// `herm F W LIMIT`
-pub(crate) fn hermitian(
+// `herm F W LIMIT`
+fn hermitian(
     state: State,
     line: Line,
     words: &[u32],
@@ -77,8 +83,8 @@ pub(crate) fn hermitian(
     }
 }
 
-/// `report LIMIT`
-pub(crate) fn report(
+// `report LIMIT`
+fn report(
     state: State,
     line: Line,
     words: &[u32],
@@ -107,5 +113,24 @@ pub(crate) fn report(
             work as u64,
         )),
         MaxAxisWeights::Refused(error) => state.refused(error),
+    }
+}
+
+/// The answer to a command that reads the current circuit by a walk.
+pub(crate) fn answer(
+    command: Reading,
+    state: State,
+    line: Line,
+    words: &[u32],
+    nodes: &[u32],
+    operations: &[u32],
+    scratch: &mut [u32],
+    pool: &mut [u32],
+    letters: &mut [u8],
+) -> Reply {
+    match command {
+        Reading::Expand => expand(state, line, words, nodes, scratch, pool, letters),
+        Reading::Hermitian => hermitian(state, line, words, nodes, scratch, pool),
+        Reading::Report => report(state, line, words, nodes, operations, scratch, pool),
     }
 }

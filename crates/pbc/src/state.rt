@@ -4,6 +4,8 @@ use crate::buffers::Lends;
 use arena::Header;
 use arena::PbcError;
 use arena::Refusal;
+ghost use mathlib.Core.Path.{_≡_};
+ghost use Rattle.pbc.specs.State.{emptyHeader, newState, saysOf, Bad, refusedOf, headedOf, lentOf};
 
 /// The owner's number of every circuit here.
 pub const OWNER: u64 = 1;
@@ -49,8 +51,10 @@ pub struct Reply {
     pub answer: Answer,
 }
 
-/// The header of a circuit with no qubit.
-pub(crate) fn empty() -> Header {
+/// The header of a circuit with no qubit. Promise: `emptyHeader`.
+pub(crate) fn empty() -> Header
+    ensures { λ r. ⌜ r ≡ emptyHeader ⌝ }
+{
     Header {
         qubits: 0,
         cbits: 0,
@@ -62,37 +66,53 @@ pub(crate) fn empty() -> Header {
 }
 
 impl State {
-    pub(crate) fn new() -> State {
+    /// What a session begins with. Promise: `newState`.
+    pub(crate) fn new() -> State
+        ensures { λ r. ⌜ r ≡ newState ⌝ }
+    {
         State {
             header: empty(),
             lends: Lends::all(),
         }
     }
 
-    /// The answer, with the state as it was.
-    pub(crate) fn says(self, answer: Answer) -> Reply {
+    /// The answer, with the state as it was. Promise: `saysOf`.
+    pub(crate) fn says(self, answer: Answer) -> Reply
+        ensures { λ r. ⌜ r ≡ saysOf self answer ⌝ }
+    {
         Reply {
             state: self,
             answer,
         }
     }
 
-    pub(crate) fn bad(self) -> Reply {
+    /// The line is no command. Promise: `saysOf`.
+    pub(crate) fn bad(self) -> Reply
+        ensures { λ r. ⌜ r ≡ saysOf self Bad ⌝ }
+    {
         self.says(Answer::Bad)
     }
 
-    pub(crate) fn refused(self, error: PbcError) -> Reply {
+    /// The refusal, with the state as it was. Promise: `refusedOf`.
+    pub(crate) fn refused(self, error: PbcError) -> Reply
+        ensures { λ r. ⌜ r ≡ refusedOf self error ⌝ }
+    {
         self.says(Answer::Refused(error.refusal()))
     }
 
-    /// The answer, with another circuit current.
-    pub(crate) fn with_header(self, header: Header, answer: Answer) -> Reply {
+    /// The answer, with another circuit current. Promise: `headedOf`.
+    pub(crate) fn with_header(self, header: Header, answer: Answer) -> Reply
+        ensures { λ r. ⌜ r ≡ headedOf self header answer ⌝ }
+    {
         let lends = self.lends;
         let state = State { header, lends };
         Reply { state, answer }
     }
 
-    pub(crate) fn with_lends(self, lends: Lends) -> Reply {
+    /// Other counts are lent from here on. Promise: `lentOf`.
+    pub(crate) fn with_lends(self, lends: Lends) -> Reply
+        ensures { λ r. ⌜ r ≡ lentOf self lends ⌝ }
+    {
         let header = self.header;
         let state = State { header, lends };
         Reply {

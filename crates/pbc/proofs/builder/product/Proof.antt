@@ -1,0 +1,39 @@
+-- `product` meets its contract.
+use mathlib.Core.Path.{refl, sym, ap, _∙_}
+use borrow.Author.Tests.{not-true, not-false}
+use Rattle.pbc.specs.Builder.{multipliedReply, productCommand}
+use borrow.Author.Needs.{needs}
+use Rattle.pbc.proofs.builder.product.Statement.{statement}
+use Rattle.pbc.proofs.builder.product.Tie as tie
+
+has-requires : tie.Need-has-requires
+has-requires c κs = tt
+
+bad-requires : tie.Need-bad-requires
+bad-requires c κs = tt
+
+returns : tie.Need-returns
+unfolding productCommand
+returns c = rw (sym (c .before .before .has .ensures) ∙ not-true (c .before .before .has .result) (c .before .if1 .taken)) (c .bad .ensures, refl)
+
+handle-requires : tie.Need-handle-requires
+handle-requires c κs = tt
+
+handle-requires-2 : tie.Need-handle-requires-2
+handle-requires-2 c κs = tt
+
+lent-product-requires : tie.Need-lent-product-requires
+lent-product-requires c κs = tt
+
+multiplied-requires : tie.Need-multiplied-requires
+multiplied-requires c κs = tt
+
+same-length : tie.Need-same-length
+same-length c = search needs
+
+returns-2 : tie.Need-returns-2
+unfolding productCommand
+returns-2 c = let e = rw (c .before .before .before .before .before .before .handle .ensures, c .before .before .before .before .before .handle2 .ensures) at (c .before .before .before .lent-product .ensures) in rw (sym (c .before .before .before .before .before .before .before .before .before .has .ensures) ∙ not-false (c .before .before .before .before .before .before .before .before .before .has .result) (c .before .before .before .before .before .before .before .before .if1 .left)) (c .multiplied .ensures ∙ ap (multipliedReply (c .before .before .before .before .before .before .before .before .before .before .before .before .args .state)) (e .0), e .1)
+
+pub product-spec : {M : Type 1} → statement M
+product-spec = tie.close (tie.spec has-requires bad-requires returns handle-requires handle-requires-2 lent-product-requires multiplied-requires same-length returns-2)

@@ -1,0 +1,65 @@
+-- `read_on` is safe and ends: the place goes up to the length of the chunk.
+use mathlib.Core.Path.{_≡_, refl}
+use Prim.Native.Nat.{_-_}
+use native.Mathlib.Omega.{arith}
+use lib.ListN.{length}
+use borrow.Author.Needs.{needs}
+use Rattle.pbc.proofs.line.input.read_on.Statement.{statement}
+use Rattle.pbc.proofs.line.input.read_on.Tie as tie
+
+abbrev Inv-loop : tie.InvT-loop
+Inv-loop chunk from words₀ line₀ next₀ words line next = length words ≡ length words₀
+
+abbrev μ-loop : tie.MeasureT-loop
+μ-loop chunk from words₀ line₀ next₀ words line next = length chunk - next
+
+loop-holds : tie.Need-loop-holds Inv-loop μ-loop
+loop-holds c = refl
+
+shared-slice-read-byte : tie.Need-shared-slice-read-byte Inv-loop μ-loop
+shared-slice-read-byte c = search needs
+
+add-next : tie.Need-add-next Inv-loop μ-loop
+add-next c = omega arith
+
+ended-requires : tie.Need-ended-requires Inv-loop μ-loop
+ended-requires c κs = tt
+
+same-length : tie.Need-same-length Inv-loop μ-loop
+same-length c = omega arith
+
+returns : tie.Need-returns Inv-loop μ-loop
+returns c = tt
+
+with-byte-requires : tie.Need-with-byte-requires Inv-loop μ-loop
+with-byte-requires c κs = tt
+
+loop-less : tie.Need-loop-less Inv-loop μ-loop
+loop-less c = omega arith
+
+loop-again : tie.Need-loop-again Inv-loop μ-loop
+loop-again c = omega arith
+
+same-length-2 : tie.Need-same-length-2 Inv-loop μ-loop
+same-length-2 c = omega arith
+
+returns-2 : tie.Need-returns-2 Inv-loop μ-loop
+returns-2 c = tt
+
+pub read-on-spec : {M : Type 1} → statement M
+read-on-spec =
+    tie.close
+    (tie.spec
+    Inv-loop
+    μ-loop
+    loop-holds
+    shared-slice-read-byte
+    add-next
+    ended-requires
+    same-length
+    returns
+    with-byte-requires
+    loop-less
+    loop-again
+    same-length-2
+    returns-2)

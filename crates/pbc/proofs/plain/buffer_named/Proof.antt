@@ -1,0 +1,41 @@
+-- `buffer_named` meets its contract, one name a return.
+use Rattle.pbc.specs.Plain.{bufferNamed}
+use Rattle.pbc.proofs.NameLaws.{same-name, other-name}
+use Rattle.pbc.proofs.NameLaws.{nodes-number, operations-number, frame-number, planes-number, scratch-number, pool-number, letters-number}
+use Rattle.pbc.proofs.plain.buffer_named.Statement.{statement}
+use Rattle.pbc.proofs.plain.buffer_named.Tie as tie
+
+returns : tie.Need-returns
+unfolding bufferNamed
+returns c = rw (same-name (c .before .args .name) 7738489 _ nodes-number (c .if1 .taken))
+
+returns-2 : tie.Need-returns-2
+unfolding bufferNamed
+returns-2 c = rw (other-name (c .before .before .args .name) 7738489 _ nodes-number (c .before .if1 .left), same-name (c .before .before .args .name) 118962135359524 _ operations-number (c .if2 .taken))
+
+returns-3 : tie.Need-returns-3
+unfolding bufferNamed
+returns-3 c = rw (other-name (c .before .before .before .args .name) 7738489 _ nodes-number (c .before .before .if1 .left), other-name (c .before .before .before .args .name) 118962135359524 _ operations-number (c .before .if2 .left), same-name (c .before .before .before .args .name) 3544025 _ frame-number (c .if3 .taken))
+
+returns-4 : tie.Need-returns-4
+unfolding bufferNamed
+returns-4 c = rw (other-name (c .before .before .before .before .args .name) 7738489 _ nodes-number (c .before .before .before .if1 .left), other-name (c .before .before .before .before .args .name) 118962135359524 _ operations-number (c .before .before .if2 .left), other-name (c .before .before .before .before .args .name) 3544025 _ frame-number (c .before .if3 .left), same-name (c .before .before .before .before .args .name) 235989847 _ planes-number (c .if4 .taken))
+
+returns-5 : tie.Need-returns-5
+unfolding bufferNamed
+returns-5 c = rw (other-name (c .before .before .before .before .before .args .name) 7738489 _ nodes-number (c .before .before .before .before .if1 .left), other-name (c .before .before .before .before .before .args .name) 118962135359524 _ operations-number (c .before .before .before .if2 .left), other-name (c .before .before .before .before .before .args .name) 3544025 _ frame-number (c .before .before .if3 .left), other-name (c .before .before .before .before .before .args .name) 235989847 _ planes-number (c .before .if4 .left), same-name (c .before .before .before .before .before .args .name) 7413636302 _ scratch-number (c .if5 .taken))
+
+returns-6 : tie.Need-returns-6
+unfolding bufferNamed
+returns-6 c = rw (other-name (c .before .before .before .before .before .before .args .name) 7738489 _ nodes-number (c .before .before .before .before .before .if1 .left), other-name (c .before .before .before .before .before .before .args .name) 118962135359524 _ operations-number (c .before .before .before .before .if2 .left), other-name (c .before .before .before .before .before .before .args .name) 3544025 _ frame-number (c .before .before .before .if3 .left), other-name (c .before .before .before .before .before .before .args .name) 235989847 _ planes-number (c .before .before .if4 .left), other-name (c .before .before .before .before .before .before .args .name) 7413636302 _ scratch-number (c .before .if5 .left), same-name (c .before .before .before .before .before .before .args .name) 326280 _ pool-number (c .if6 .taken))
+
+returns-7 : tie.Need-returns-7
+unfolding bufferNamed
+returns-7 c = rw (other-name (c .before .before .before .before .before .before .before .args .name) 7738489 _ nodes-number (c .before .before .before .before .before .before .if1 .left), other-name (c .before .before .before .before .before .before .before .args .name) 118962135359524 _ operations-number (c .before .before .before .before .before .if2 .left), other-name (c .before .before .before .before .before .before .before .args .name) 3544025 _ frame-number (c .before .before .before .before .if3 .left), other-name (c .before .before .before .before .before .before .before .args .name) 235989847 _ planes-number (c .before .before .before .if4 .left), other-name (c .before .before .before .before .before .before .before .args .name) 7413636302 _ scratch-number (c .before .before .if5 .left), other-name (c .before .before .before .before .before .before .before .args .name) 326280 _ pool-number (c .before .if6 .left), same-name (c .before .before .before .before .before .before .before .args .name) 4731817033 _ letters-number (c .if7 .taken))
+
+returns-8 : tie.Need-returns-8
+unfolding bufferNamed
+returns-8 c = rw (other-name (c .before .before .before .before .before .before .before .args .name) 7738489 _ nodes-number (c .before .before .before .before .before .before .if1 .left), other-name (c .before .before .before .before .before .before .before .args .name) 118962135359524 _ operations-number (c .before .before .before .before .before .if2 .left), other-name (c .before .before .before .before .before .before .before .args .name) 3544025 _ frame-number (c .before .before .before .before .if3 .left), other-name (c .before .before .before .before .before .before .before .args .name) 235989847 _ planes-number (c .before .before .before .if4 .left), other-name (c .before .before .before .before .before .before .before .args .name) 7413636302 _ scratch-number (c .before .before .if5 .left), other-name (c .before .before .before .before .before .before .before .args .name) 326280 _ pool-number (c .before .if6 .left), other-name (c .before .before .before .before .before .before .before .args .name) 4731817033 _ letters-number (c .if7 .left))
+
+pub buffer-named-spec : {M : Type 1} → statement M
+buffer-named-spec = tie.close (tie.spec returns returns-2 returns-3 returns-4 returns-5 returns-6 returns-7 returns-8)

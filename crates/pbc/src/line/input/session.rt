@@ -1,0 +1,122 @@
+//! Lines from standard input, each answered in turn.
+
+use super::TURNS;
+use super::new_reader;
+use super::next_line;
+use crate::commands::answer;
+use crate::line::Line;
+use crate::output::answers::print;
+use crate::state::State;
+use libc::STDOUT_FILENO;
+ghost use Prim.Native.Nat.{_<_};
+
+/// The state, and how many bytes of answers are not yet written.
+struct Session {
+    state: State,
+    at: usize,
+}
+
+fn new_session() -> Session {
+    Session {
+        state: State::new(),
+        at: 0,
+    }
+}
+
+// The answer to a whole line.
+fn answer_line(
+    session: Session,
+    line: Line,
+    words: &[u32],
+    nodes: &mut [u32],
+    operations: &mut [u32],
+    frame: &mut [u32],
+    planes: &mut [u64],
+    scratch: &mut [u32],
+    pool: &mut [u32],
+    letters: &mut [u8],
+    out: &mut [u8],
+) -> Session {
+    let before = session.state;
+    let reply = answer(
+        before,
+        line,
+        words,
+        nodes,
+        operations,
+        frame,
+        planes,
+        scratch,
+        pool,
+        letters,
+    );
+    let at = print(
+        out,
+        session.at,
+        reply,
+        nodes,
+        operations,
+        frame,
+        planes,
+        scratch,
+        pool,
+        letters,
+    );
+    let state = reply.state;
+    Session { state, at }
+}
+
+// The turns that are left: none at the end of the input.
+fn turns_left(turns: u64, over: bool) -> u64
+    requires { ⌜ 0 < turns ⌝ }
+    ensures { λ r. ⌜ r < turns ⌝ }
+{
+    if over {
+        return 0;
+    }
+    turns - 1
+}
+
+// What is left is written.
+fn flush(out: &[u8], at: usize) {
+    if at <= out.len() {
+        io::write_all(STDOUT_FILENO, &out[0..at]);
+    }
+}
+
+/// Answers every line of the input.
+pub(crate) fn run(
+    input: &mut [u8],
+    words: &mut [u32],
+    nodes: &mut [u32],
+    operations: &mut [u32],
+    frame: &mut [u32],
+    planes: &mut [u64],
+    scratch: &mut [u32],
+    pool: &mut [u32],
+    letters: &mut [u8],
+    out: &mut [u8],
+) {
+    let mut reader = new_reader();
+    let mut session = new_session();
+    let mut turns = TURNS;
+    while turns > 0 {
+        reader = next_line(reader, input, words);
+        let line = reader.line;
+        session = answer_line(
+            session,
+            line,
+            words,
+            nodes,
+            operations,
+            frame,
+            planes,
+            scratch,
+            pool,
+            letters,
+            out,
+        );
+        turns = turns_left(turns, reader.over);
+    }
+    flush(out, session.at);
+}

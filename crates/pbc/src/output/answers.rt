@@ -1,0 +1,269 @@
+//! Answers as text.
+
+use crate::buffers::byte_part;
+use crate::buffers::first;
+use crate::buffers::part;
+use crate::buffers::wide_part;
+use crate::buffers::word;
+use crate::output;
+use crate::state::Answer;
+use crate::state::Buffer;
+use crate::state::Reply;
+use arena::AxisKind;
+use arena::Header;
+use arena::NODE_WORDS;
+use arena::OPERATION_WORDS;
+use arena::PbcOp;
+use arena::Refusal;
+
+fn ok(out: &mut [u8], at: usize) -> usize {
+    output::text(out, at, b"ok")
+}
+
+fn refused(out: &mut [u8], at: usize, r: Refusal) -> usize {
+    let named = output::text(out, at, b"err");
+    let numbered = output::word(out, named, r.number);
+    let placed = output::number(out, numbered, r.index);
+    output::number(out, placed, r.operand)
+}
+
+fn one(out: &mut [u8], at: usize, a: u64) -> usize {
+    let to = ok(out, at);
+    output::number(out, to, a)
+}
+
+fn two(out: &mut [u8], at: usize, a: u64, b: u64) -> usize {
+    let to = one(out, at, a);
+    output::number(out, to, b)
+}
+
+fn three(out: &mut [u8], at: usize, a: u64, b: u64, c: u64) -> usize {
+    let to = two(out, at, a, b);
+    output::number(out, to, c)
+}
+
+// A list with its count in front.
+fn list(out: &mut [u8], at: usize, words: &[u32]) -> usize {
+    let to = output::number(out, at, words.len() as u64);
+    output::words(out, to, words)
+}
+
+// The used words of the buffers, or as many as there are.
+fn dump(
+    out: &mut [u8],
+    at: usize,
+    h: Header,
+    nodes: &[u32],
+    operations: &[u32],
+    frame: &[u32],
+) -> usize {
+    let to = three(
+        out,
+        at,
+        h.qubits as u64,
+        h.cbits as u64,
+        h.measurements as u64,
+    );
+    let with_nodes = list(out, to, first(nodes, NODE_WORDS * (h.nodes as usize)));
+    let used = first(operations, OPERATION_WORDS * (h.operations as usize));
+    let with_operations = list(out, with_nodes, used);
+    list(out, with_operations, first(frame, 2 * (h.qubits as usize)))
+}
+
+// The plane words of so many qubits: for each four parts, of one word for every 64 qubits.
+fn plane_words(qubits: u32) -> usize {
+    if qubits <= 64 {
+        return 4 * (qubits as usize);
+    }
+    if qubits <= 128 {
+        return 8 * (qubits as usize);
+    }
+    if qubits <= 192 {
+        return 12 * (qubits as usize);
+    }
+    16 * (qubits as usize)
+}
+
+// A dump, and the plane words after a bar.
+fn dump_with_planes(
+    out: &mut [u8],
+    at: usize,
+    h: Header,
+    nodes: &[u32],
+    operations: &[u32],
+    frame: &[u32],
+    planes: &[u64],
+) -> usize {
+    let to = dump(out, at, h, nodes, operations, frame);
+    let barred = output::text(out, to, b" |");
+    output::wide_words(out, barred, wide_part(planes, 0, plane_words(h.qubits)))
+}
+
+// The number of an axis kind.
+fn kind_number(kind: AxisKind) -> u64 {
+    match kind {
+        AxisKind::None => 0,
+        AxisKind::Pi8 => 1,
+        AxisKind::Clifford => 2,
+        AxisKind::Measurement => 3,
+    }
+}
+
+// The axis kind of the operation with these words.
+fn kind_of(h: Header, words: &[u32]) -> u64 {
+    let op = PbcOp::decode(
+        h.owner,
+        h.cbits,
+        word(words, 0),
+        word(words, 1),
+        word(words, 2),
+        word(words, 3),
+    );
+    kind_number(AxisKind::of(op))
+}
+
+fn kinds(out: &mut [u8], at: usize, h: Header, operations: &[u32]) -> usize {
+    let used = first(operations, OPERATION_WORDS * (h.operations as usize));
+    kinds_of(out, at, h, used)
+}
+
+fn kinds_of(out: &mut [u8], at: usize, h: Header, operations: &[u32]) -> usize {
+    let count = operations.len() / OPERATION_WORDS;
+    let mut to = at;
+    let mut k = 0;
+    while k < count {
+        let kind = kind_of(h, part(operations, OPERATION_WORDS * k, OPERATION_WORDS));
+        to = output::number(out, to, kind);
+        k += 1;
+    }
+    to
+}
+
+fn kinds_answer(out: &mut [u8], at: usize, h: Header, operations: &[u32]) -> usize {
+    let to = ok(out, at);
+    kinds(out, to, h, operations)
+}
+
+// An expansion: the phase, the work, and a letter for each qubit.
+fn expansion(out: &mut [u8], at: usize, phase: u64, work: u64, letters: &[u8]) -> usize {
+    let to = two(out, at, phase, work);
+    output::bytes(out, to, letters)
+}
+
+// A part of a buffer.
+fn words_of(
+    out: &mut [u8],
+    at: usize,
+    buffer: Buffer,
+    from: usize,
+    count: usize,
+    nodes: &[u32],
+    operations: &[u32],
+    frame: &[u32],
+    planes: &[u64],
+    scratch: &[u32],
+    pool: &[u32],
+    letters: &[u8],
+) -> usize {
+    let to = ok(out, at);
+    match buffer {
+        Buffer::Nodes => output::words(out, to, part(nodes, from, count)),
+        Buffer::Operations => output::words(out, to, part(operations, from, count)),
+        Buffer::Frame => output::words(out, to, part(frame, from, count)),
+        Buffer::Planes => output::wide_words(out, to, wide_part(planes, from, count)),
+        Buffer::Scratch => output::words(out, to, part(scratch, from, count)),
+        Buffer::Pool => output::words(out, to, part(pool, from, count)),
+        Buffer::Letters => output::bytes(out, to, byte_part(letters, from, count)),
+        Buffer::Unknown => to,
+    }
+}
+
+// An answer of numbers alone.
+fn brief(out: &mut [u8], at: usize, answer: Answer) -> usize {
+    match answer {
+        Answer::Bad => output::text(out, at, b"bad"),
+        Answer::Refused(r) => refused(out, at, r),
+        Answer::Done => ok(out, at),
+        Answer::One(a) => one(out, at, a),
+        Answer::Two(a, b) => two(out, at, a, b),
+        Answer::Three(a, b, c) => three(out, at, a, b, c),
+        _ => at,
+    }
+}
+
+fn without_end(
+    out: &mut [u8],
+    at: usize,
+    answer: Answer,
+    h: Header,
+    nodes: &[u32],
+    operations: &[u32],
+    frame: &[u32],
+    planes: &[u64],
+    scratch: &[u32],
+    pool: &[u32],
+    letters: &[u8],
+) -> usize {
+    match answer {
+        Answer::Dump => dump(out, at, h, nodes, operations, frame),
+        Answer::DumpWithPlanes => { dump_with_planes(out, at, h, nodes, operations, frame, planes) }
+        Answer::Letters(phase, work) => {
+            expansion(
+                out,
+                at,
+                phase,
+                work,
+                byte_part(letters, 0, h.qubits as usize),
+            )
+        }
+        Answer::Kinds => kinds_answer(out, at, h, operations),
+        Answer::Words(buffer, from, count) => words_of(
+            out,
+            at,
+            buffer,
+            from,
+            count,
+            nodes,
+            operations,
+            frame,
+            planes,
+            scratch,
+            pool,
+            letters,
+        ),
+        _ => brief(out, at, answer),
+    }
+}
+
+/// Puts the answer, its line end with it, after the `at` bytes that stand in `out`, and says how many bytes stand there then.
+pub(crate) fn print(
+    out: &mut [u8],
+    at: usize,
+    reply: Reply,
+    nodes: &[u32],
+    operations: &[u32],
+    frame: &[u32],
+    planes: &[u64],
+    scratch: &[u32],
+    pool: &[u32],
+    letters: &[u8],
+) -> usize {
+    let answer = reply.answer;
+    if let Answer::Nothing = answer {
+        return at;
+    }
+    let to = without_end(
+        out,
+        at,
+        answer,
+        reply.state.header,
+        nodes,
+        operations,
+        frame,
+        planes,
+        scratch,
+        pool,
+        letters,
+    );
+    output::line_end(out, to)
+}
