@@ -1,5 +1,5 @@
 -- The roots of a walk in words: uses counted, a root shown, a root released, the axes of operations weighed.
--- The private functions of src/pool/scratch/materialize/roots.rt and of its child modules ask and promise what is said here.
+-- The private functions of src/roots.rt and of its child modules ask and promise what is said here.
 use mathlib.Core.Path.{_≡_}
 use mathlib.Core.Logic.{_≢_}
 use mathlib.Core.Bool.{true, cond}

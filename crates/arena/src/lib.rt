@@ -7,12 +7,17 @@ mod error;
 mod expansion;
 mod header;
 mod limits;
+mod materialize;
 mod node;
 mod op;
 mod pauli_ref;
 mod pool;
+mod readers;
+mod roots;
+mod scratch;
 mod stats;
 mod stored;
+mod weights;
 
 pub use builder::Created;
 pub use builder::Measured;

@@ -1,8 +1,6 @@
 //! The factor pool: a lent slice of records of three words, next, qubit and letter, in chains that rise by qubit; a next of 0 ends a chain.
 //! Record 0 is never lent: its next is where a chain in the making starts. What a chain and the free list are: specs/Pool.antt.
 
-pub mod scratch;
-
 use pauli::times_numbers;
 ghost use mathlib.Core.Path.{_≡_};
 ghost use Prim.Native.Nat.{_+_, _*_, _≤_, _<_};
@@ -38,7 +36,7 @@ pub struct Turn {
     pub phase: usize,
 }
 
-fn wide(x: u32) -> usize
+pub(crate) fn wide(x: u32) -> usize
     ensures { λ r. ⌜ r ≡ x ⌝ }
 {
     x as usize
@@ -46,21 +44,21 @@ fn wide(x: u32) -> usize
 
 // ---- the words of a record
 
-fn next_of(pool: &[u32], r: usize) -> usize
+pub(crate) fn next_of(pool: &[u32], r: usize) -> usize
     requires { ⌜ (r < 65536) × (3 * r < length (now pool)) ⌝ }
     ensures { λ v. ⌜ v ≡ nextAt (now (pool .entry)) r ⌝ }
 {
     wide(pool[3 * r])
 }
 
-fn qubit_of(pool: &[u32], r: usize) -> u32
+pub(crate) fn qubit_of(pool: &[u32], r: usize) -> u32
     requires { ⌜ (r < 65536) × (3 * r + 1 < length (now pool)) ⌝ }
     ensures { λ v. ⌜ v ≡ qubitAt (now (pool .entry)) r ⌝ }
 {
     pool[3 * r + 1]
 }
 
-fn letter_of(pool: &[u32], r: usize) -> u32
+pub(crate) fn letter_of(pool: &[u32], r: usize) -> u32
     requires { ⌜ (r < 65536) × (3 * r + 2 < length (now pool)) ⌝ }
     ensures { λ v. ⌜ v ≡ letterAt (now (pool .entry)) r ⌝ }
 {
@@ -103,14 +101,14 @@ fn attach(pool: &mut [u32], tail: usize, rest: usize) -> usize
 // ---- the start and the end
 
 // How many records count in a pool of so many words.
-fn cap_of(words: usize) -> usize
+pub(crate) fn cap_of(words: usize) -> usize
     ensures { λ r. ⌜ r ≡ capOf words ⌝ }
 {
     if words / 3 < 65536 { words / 3 } else { 65536 }
 }
 
 // Every counted record but record 0 is free; the first of the free list is returned.
-fn init(pool: &mut [u32]) -> usize
+pub(crate) fn init(pool: &mut [u32]) -> usize
     ensures { λ r. ⌜ AllFree (now (pool .entry)) (now (pool .exit)) r ⌝ }
 {
     let cap = cap_of(pool.len());
@@ -126,7 +124,7 @@ fn init(pool: &mut [u32]) -> usize
 }
 
 // Every counted record is zero.
-fn clear(pool: &mut [u32])
+pub(crate) fn clear(pool: &mut [u32])
     ensures { λ _. ⌜ now (pool .exit) ≡ cleared (now (pool .entry)) ⌝ }
 {
     let words = 3 * cap_of(pool.len());
@@ -140,7 +138,7 @@ fn clear(pool: &mut [u32])
 // ---- lending and giving back
 
 // One record is lent for one factor.
-fn single(pool: &mut [u32], free: usize, qubit: u32, letter: u32) -> Taken
+pub(crate) fn single(pool: &mut [u32], free: usize, qubit: u32, letter: u32) -> Taken
     requires { ⌜ Lender (now pool) free ⌝ }
     requires { ⌜ (1 ≤ letter) × (letter ≤ 3) ⌝ }
     ensures { λ r. ⌜ ((g : Lender (now (pool .entry)) free) → Lent g (factor qubit (pauliOf letter)) (now (pool .exit)) (r .head) (r .free)) ⌝ }
@@ -156,7 +154,7 @@ fn single(pool: &mut [u32], free: usize, qubit: u32, letter: u32) -> Taken
 }
 
 // A chain of count factors is copied.
-fn copy(pool: &mut [u32], free0: usize, a0: usize, count: usize) -> Taken
+pub(crate) fn copy(pool: &mut [u32], free0: usize, a0: usize, count: usize) -> Taken
     requires { ⌜ Source (now pool) free0 a0 count ⌝ }
     ensures { λ r. ⌜ ((g : Source (now (pool .entry)) free0 a0 count) → Copied g (now (pool .exit)) (r .head) (r .free)) ⌝ }
 {
@@ -192,7 +190,7 @@ fn take(pool: &mut [u32], free: usize, a: usize, count: usize, last: usize) -> T
 }
 
 // A chain of count factors is given back.
-fn give_back(pool: &mut [u32], free0: usize, a0: usize, count: usize) -> usize
+pub(crate) fn give_back(pool: &mut [u32], free0: usize, a0: usize, count: usize) -> usize
     requires { ⌜ Holding (now pool) free0 a0 count ⌝ }
     ensures { λ r. ⌜ ((g : Holding (now (pool .entry)) free0 a0 count) → GivenBack g (now (pool .exit)) r) ⌝ }
 {
@@ -293,7 +291,14 @@ fn merge_turn(pool: &mut [u32], free: usize, tail: usize, a: usize, b: usize) ->
 }
 
 // The ordered product of two chains, made of their own records; what cancels is given back.
-fn multiply(pool: &mut [u32], free0: usize, a0: usize, na: usize, b0: usize, nb: usize) -> Outcome
+pub(crate) fn multiply(
+    pool: &mut [u32],
+    free0: usize,
+    a0: usize,
+    na: usize,
+    b0: usize,
+    nb: usize,
+) -> Outcome
     requires { ⌜ Operands (now pool) free0 a0 na b0 nb ⌝ }
     ensures { λ r. ⌜ ((g : Operands (now (pool .entry)) free0 a0 na b0 nb) → Multiplied g (now (pool .exit)) (r .head) (r .count) (r .phase) (r .free)) ⌝ }
 {

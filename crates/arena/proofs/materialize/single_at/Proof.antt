@@ -1,0 +1,56 @@
+-- `single_at` meets its contract.
+use mathlib.Core.Path.{refl}
+use native.Mathlib.Omega.{arith}
+use borrow.Author.Needs.{needs}
+use Rattle.pauli.specs.Letters.{pauliOf}
+use Rattle.arena.proofs.ScratchWords.{links-same, links-value}
+use Rattle.arena.proofs.WalkProducts.{no-room, lender, single-made}
+use Rattle.arena.proofs.materialize.single_at.Statement.{statement}
+use Rattle.arena.proofs.materialize.single_at.Tie as tie
+
+not-evaluated-requires : tie.Need-not-evaluated-requires
+not-evaluated-requires c κs = search needs
+
+returns : tie.Need-returns
+returns c = (λ g. record { says = no-room g (c .before .before .before .before .args .qubit) (pauliOf (c .before .before .before .before .args .letter)) _ (c .not-evaluated .ensures) (c .before .if1 .taken) }, links-same refl)
+
+single-requires : tie.Need-single-requires
+single-requires c κs = (lender (c .before .before .before .before .pre .0) (c .before .before .before .before .args .qubit) (pauliOf (c .before .before .before .before .args .letter)) (c .before .if1 .left), c .before .before .before .before .pre .1)
+
+set-value-requires : tie.Need-set-value-requires
+set-value-requires c κs = (
+  c .before .before .before .single .ensures (lender (c .before .before .before .before .before .before .before .before .pre .0) (c .before .before .before .before .before .before .before .before .args .qubit) (pauliOf (c .before .before .before .before .before .before .before .before .args .letter)) (c .before .before .before .before .before .if1 .left)) .chain .0 .counted .low,
+  omega arith,
+  omega arith,
+  omega (arith, c .before .before .before .before .before .before .before .before .pre .0 .rep .scratch .long, c .before .before .before .before .before .before .before .before .pre .0 .low),
+)
+
+sub-t16 : tie.Need-sub-t16
+sub-t16 c = search needs
+
+same-length : tie.Need-same-length
+same-length c = search needs
+
+same-length-2 : tie.Need-same-length-2
+same-length-2 c = search needs
+
+returns-2 : tie.Need-returns-2
+returns-2 c = (
+  λ g. record {
+    says = single-made g (c .before .before .before .before .before .before .before .before .before .before .before .args .qubit) (pauliOf (c .before .before .before .before .before .before .before .before .before .before .before .args .letter)) (c .before .before .before .before .before .before .before .before .if1 .left) (c .before .before .before .before .before .before .single .ensures (lender g (c .before .before .before .before .before .before .before .before .before .before .before .args .qubit) (pauliOf (c .before .before .before .before .before .before .before .before .before .before .before .args .letter)) (c .before .before .before .before .before .before .before .before .if1 .left))) (c .before .before .set-value .ensures);
+  },
+  links-value _ _ (c .before .before .set-value .ensures),
+)
+
+pub single-at-spec : {M : Type 1} → statement M
+single-at-spec =
+    tie.close
+    (tie.spec
+    not-evaluated-requires
+    returns
+    single-requires
+    set-value-requires
+    sub-t16
+    same-length
+    same-length-2
+    returns-2)

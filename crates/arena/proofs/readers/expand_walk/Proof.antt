@@ -1,0 +1,75 @@
+-- `expand_walk` meets its contract: too few cells, a refused walk, or the letters of the chain that is shown.
+use mathlib.Core.Path.{refl, sym, ap, _∙_}
+use Prim.Native.Nat.{_-_}
+use borrow.Author.Needs.{needs}
+use lib.ListN.{length}
+use Rattle.arena.specs.PoolSteps.{capOf}
+use Rattle.arena.specs.Expansion.{expansionOf, ExpansionRefused, lettersLeft}
+use Rattle.arena.proofs.ReaderWalks.{ready-of, expand-low, expand-refused, to-show, expand-answer, expand-letters}
+use Rattle.arena.proofs.readers.expand_walk.Statement.{statement}
+use Rattle.arena.proofs.readers.expand_walk.Tie as tie
+
+cast-n : tie.Need-cast-n
+cast-n c = search needs
+
+cast-count : tie.Need-cast-count
+cast-count c = search needs
+
+returns : tie.Need-returns
+returns c = (sym (ap expansionOf (expand-low (c .before .before .before .before .before .before .before .args .header .qubits) (c .before .before .before .before .before .before .before .args .header .nodes) (c .before .before .before .before .before .before .before .args .nodes .now) (c .before .before .before .before .before .before .before .args .word) (capOf (length (c .before .before .before .before .before .before .before .args .pool .now)) - 1) (c .before .before .before .before .before .before .before .args .cells) (c .if1 .taken))), sym (ap (λ o. lettersLeft o (c .before .before .before .before .before .before .before .args .letters .now)) (expand-low (c .before .before .before .before .before .before .before .args .header .qubits) (c .before .before .before .before .before .before .before .args .header .nodes) (c .before .before .before .before .before .before .before .args .nodes .now) (c .before .before .before .before .before .before .before .args .word) (capOf (length (c .before .before .before .before .before .before .before .args .pool .now)) - 1) (c .before .before .before .before .before .before .before .args .cells) (c .if1 .taken))))
+
+walk-root-requires : tie.Need-walk-root-requires
+walk-root-requires c κs = search needs
+
+walk-error-requires : tie.Need-walk-error-requires
+walk-error-requires c κs = search needs
+
+same-length : tie.Need-same-length
+same-length c = search needs
+
+same-length-2 : tie.Need-same-length-2
+same-length-2 c = search needs
+
+returns-2 : tie.Need-returns-2
+returns-2 c = (ap ExpansionRefused (c .walk-error .ensures) ∙ sym (ap expansionOf (expand-refused (c .before .before .before .before .before .before .before .before .before .before .before .before .before .before .before .before .args .header .qubits) (c .before .before .before .before .before .before .before .before .before .before .before .before .before .before .before .before .args .header .nodes) (c .before .before .before .before .before .before .before .before .before .before .before .before .before .before .before .before .args .nodes .now) (c .before .before .before .before .before .before .before .before .before .before .before .before .before .before .before .before .args .word) (capOf (length (c .before .before .before .before .before .before .before .before .before .before .before .before .before .before .before .before .args .pool .now)) - 1) (c .before .before .before .before .before .before .before .before .before .before .before .before .before .before .before .before .args .cells - c .before .before .before .before .before .before .before .before .before .before .before .before .before .before .before .before .args .header .qubits) (c .before .before .before .before .before .before .walk-root .ensures (ready-of (c .before .before .before .before .before .before .before .before .before .before .before .before .before .before .before .before .args .word) (c .before .before .before .before .before .before .before .before .before .before .before .before .before .before .before .before .pre .0) (c .before .before .before .before .before .before .before .before .before .before .before .before .before .before .before .before .pre .1))) (c .before .before .before .before .before .before .before .before .before .before .before .before .before .before .before .before .args .cells) (c .before .before .before .before .before .before .before .before .before .if1 .left) refl (c .before .if2 .taken))), sym (ap (λ o. lettersLeft o (c .before .before .before .before .before .before .before .before .before .before .before .before .before .before .before .before .args .letters .now)) (expand-refused (c .before .before .before .before .before .before .before .before .before .before .before .before .before .before .before .before .args .header .qubits) (c .before .before .before .before .before .before .before .before .before .before .before .before .before .before .before .before .args .header .nodes) (c .before .before .before .before .before .before .before .before .before .before .before .before .before .before .before .before .args .nodes .now) (c .before .before .before .before .before .before .before .before .before .before .before .before .before .before .before .before .args .word) (capOf (length (c .before .before .before .before .before .before .before .before .before .before .before .before .before .before .before .before .args .pool .now)) - 1) (c .before .before .before .before .before .before .before .before .before .before .before .before .before .before .before .before .args .cells - c .before .before .before .before .before .before .before .before .before .before .before .before .before .before .before .before .args .header .qubits) (c .before .before .before .before .before .before .walk-root .ensures (ready-of (c .before .before .before .before .before .before .before .before .before .before .before .before .before .before .before .before .args .word) (c .before .before .before .before .before .before .before .before .before .before .before .before .before .before .before .before .pre .0) (c .before .before .before .before .before .before .before .before .before .before .before .before .before .before .before .before .pre .1))) (c .before .before .before .before .before .before .before .before .before .before .before .before .before .before .before .before .args .cells) (c .before .before .before .before .before .before .before .before .before .if1 .left) refl (c .before .if2 .taken))))
+
+show-requires : tie.Need-show-requires
+show-requires c κs = (to-show (c .before .before .before .before .before .before .before .before .before .before .before .before .before .before .before .before .before .args .header .qubits) (c .before .before .before .before .before .before .before .before .before .before .before .before .before .before .before .before .before .args .header .nodes) (c .before .before .before .before .before .before .before .before .before .before .before .before .before .before .before .before .before .args .nodes .now) (c .before .before .before .before .before .before .before .before .before .before .before .before .before .before .before .before .before .args .word) (capOf (length (c .before .before .before .before .before .before .before .before .before .before .before .before .before .before .before .before .before .args .pool .now)) - 1) (c .before .before .before .before .before .before .before .before .before .before .before .before .before .before .before .before .before .args .cells - c .before .before .before .before .before .before .before .before .before .before .before .before .before .before .before .before .before .args .header .qubits) (c .before .before .before .before .before .before .before .walk-root .ensures (ready-of (c .before .before .before .before .before .before .before .before .before .before .before .before .before .before .before .before .before .args .word) (c .before .before .before .before .before .before .before .before .before .before .before .before .before .before .before .before .before .pre .0) (c .before .before .before .before .before .before .before .before .before .before .before .before .before .before .before .before .before .pre .1))) (c .before .before .if2 .left), c .before .before .before .before .before .before .before .before .before .before .before .before .before .before .before .before .before .pre .2)
+
+cast-power : tie.Need-cast-power
+cast-power c = search needs
+
+power-requires : tie.Need-power-requires
+power-requires c κs = search needs
+
+same-length-3 : tie.Need-same-length-3
+same-length-3 c = search needs
+
+same-length-4 : tie.Need-same-length-4
+same-length-4 c = search needs
+
+same-length-5 : tie.Need-same-length-5
+same-length-5 c = search needs
+
+returns-3 : tie.Need-returns-3
+returns-3 c = (expand-answer (c .before .before .before .before .before .before .before .before .before .before .before .before .before .before .before .before .before .before .before .before .before .before .args .header .qubits) (c .before .before .before .before .before .before .before .before .before .before .before .before .before .before .before .before .before .before .before .before .before .before .args .header .nodes) (c .before .before .before .before .before .before .before .before .before .before .before .before .before .before .before .before .before .before .before .before .before .before .args .nodes .now) (c .before .before .before .before .before .before .before .before .before .before .before .before .before .before .before .before .before .before .before .before .before .before .args .word) (capOf (length (c .before .before .before .before .before .before .before .before .before .before .before .before .before .before .before .before .before .before .before .before .before .before .args .pool .now)) - 1) (c .before .before .before .before .before .before .before .before .before .before .before .before .before .before .before .before .before .before .before .before .before .before .args .cells - c .before .before .before .before .before .before .before .before .before .before .before .before .before .before .before .before .before .before .before .before .before .before .args .header .qubits) (c .before .before .before .before .before .before .before .before .before .before .before .before .walk-root .ensures (ready-of (c .before .before .before .before .before .before .before .before .before .before .before .before .before .before .before .before .before .before .before .before .before .before .args .word) (c .before .before .before .before .before .before .before .before .before .before .before .before .before .before .before .before .before .before .before .before .before .before .pre .0) (c .before .before .before .before .before .before .before .before .before .before .before .before .before .before .before .before .before .before .before .before .before .before .pre .1))) (c .before .before .before .before .before .before .before .if2 .left) (c .before .before .before .before .before .before .before .before .before .before .before .before .before .before .before .before .before .before .before .before .before .before .args .cells) (c .before .before .before .before .before .before .before .before .before .before .before .before .before .before .before .if1 .left) refl (c .power .ensures), expand-letters (c .before .before .before .before .before .before .before .before .before .before .before .before .before .before .before .before .before .before .before .before .before .before .args .header .qubits) (c .before .before .before .before .before .before .before .before .before .before .before .before .before .before .before .before .before .before .before .before .before .before .args .header .nodes) (c .before .before .before .before .before .before .before .before .before .before .before .before .before .before .before .before .before .before .before .before .before .before .args .nodes .now) (c .before .before .before .before .before .before .before .before .before .before .before .before .before .before .before .before .before .before .before .before .before .before .args .word) (capOf (length (c .before .before .before .before .before .before .before .before .before .before .before .before .before .before .before .before .before .before .before .before .before .before .args .pool .now)) - 1) (c .before .before .before .before .before .before .before .before .before .before .before .before .before .before .before .before .before .before .before .before .before .before .args .cells - c .before .before .before .before .before .before .before .before .before .before .before .before .before .before .before .before .before .before .before .before .before .before .args .header .qubits) (c .before .before .before .before .before .before .before .before .before .before .before .before .walk-root .ensures (ready-of (c .before .before .before .before .before .before .before .before .before .before .before .before .before .before .before .before .before .before .before .before .before .before .args .word) (c .before .before .before .before .before .before .before .before .before .before .before .before .before .before .before .before .before .before .before .before .before .before .pre .0) (c .before .before .before .before .before .before .before .before .before .before .before .before .before .before .before .before .before .before .before .before .before .before .pre .1))) (c .before .before .before .before .before .before .before .if2 .left) (c .before .before .before .before .before .before .before .before .before .before .before .before .before .before .before .before .before .before .before .before .before .before .args .cells) (c .before .before .before .before .before .before .before .before .before .before .before .before .before .before .before .before .before .before .before .before .before .before .args .letters .now) _ (c .before .before .before .before .before .before .before .before .before .before .before .before .before .before .before .if1 .left) refl (c .before .before .before .before .show .ensures (to-show (c .before .before .before .before .before .before .before .before .before .before .before .before .before .before .before .before .before .before .before .before .before .before .args .header .qubits) (c .before .before .before .before .before .before .before .before .before .before .before .before .before .before .before .before .before .before .before .before .before .before .args .header .nodes) (c .before .before .before .before .before .before .before .before .before .before .before .before .before .before .before .before .before .before .before .before .before .before .args .nodes .now) (c .before .before .before .before .before .before .before .before .before .before .before .before .before .before .before .before .before .before .before .before .before .before .args .word) (capOf (length (c .before .before .before .before .before .before .before .before .before .before .before .before .before .before .before .before .before .before .before .before .before .before .args .pool .now)) - 1) (c .before .before .before .before .before .before .before .before .before .before .before .before .before .before .before .before .before .before .before .before .before .before .args .cells - c .before .before .before .before .before .before .before .before .before .before .before .before .before .before .before .before .before .before .before .before .before .before .args .header .qubits) (c .before .before .before .before .before .before .before .before .before .before .before .before .walk-root .ensures (ready-of (c .before .before .before .before .before .before .before .before .before .before .before .before .before .before .before .before .before .before .before .before .before .before .args .word) (c .before .before .before .before .before .before .before .before .before .before .before .before .before .before .before .before .before .before .before .before .before .before .pre .0) (c .before .before .before .before .before .before .before .before .before .before .before .before .before .before .before .before .before .before .before .before .before .before .pre .1))) (c .before .before .before .before .before .before .before .if2 .left))))
+
+pub expand-walk-spec : {M : Type 1} → statement M
+expand-walk-spec =
+    tie.close
+    (tie.spec
+    cast-n
+    cast-count
+    returns
+    walk-root-requires
+    walk-error-requires
+    same-length
+    same-length-2
+    returns-2
+    show-requires
+    cast-power
+    power-requires
+    same-length-3
+    same-length-4
+    same-length-5
+    returns-3)

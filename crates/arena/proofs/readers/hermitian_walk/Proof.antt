@@ -1,0 +1,72 @@
+-- `hermitian_walk` meets its contract: a refused walk, or the phase that is shown decides.
+use mathlib.Core.Path.{sym, ap, _∙_}
+use Prim.Native.Nat.{_-_}
+use borrow.Author.Needs.{needs}
+use lib.ListN.{length}
+use Rattle.arena.specs.References.{PauliRef, axisOf}
+use Rattle.arena.specs.PoolSteps.{capOf}
+use Rattle.arena.specs.Expansion.{hermitianOf, HermitianMade, HermitianRefused}
+use Rattle.arena.proofs.ReaderWalks.{ready-of, axis-refused, axis-odd, axis-even}
+use Rattle.arena.proofs.readers.hermitian_walk.Statement.{statement}
+use Rattle.arena.proofs.readers.hermitian_walk.Tie as tie
+
+cast-count : tie.Need-cast-count
+cast-count c = search needs
+
+cast-walk-root : tie.Need-cast-walk-root
+cast-walk-root c = search needs
+
+walk-root-requires : tie.Need-walk-root-requires
+walk-root-requires c κs = search needs
+
+walk-error-requires : tie.Need-walk-error-requires
+walk-error-requires c κs = search needs
+
+same-length : tie.Need-same-length
+same-length c = search needs
+
+same-length-2 : tie.Need-same-length-2
+same-length-2 c = search needs
+
+returns : tie.Need-returns
+returns c = ap HermitianRefused (c .walk-error .ensures) ∙ sym (ap (hermitianOf (c .before .before .before .before .before .before .before .before .before .before .before .before .before .before .args .reference)) (axis-refused (c .before .before .before .before .before .before .before .before .before .before .before .before .before .before .args .header .qubits) (c .before .before .before .before .before .before .before .before .before .before .before .before .before .before .args .header .nodes) (c .before .before .before .before .before .before .before .before .before .before .before .before .before .before .args .nodes .now) (c .before .before .before .before .before .before .before .before .before .before .before .before .before .before .args .reference .word) (capOf (length (c .before .before .before .before .before .before .before .before .before .before .before .before .before .before .args .pool .now)) - 1) (c .before .before .before .before .before .before .before .before .before .before .before .before .before .before .args .limit) (c .before .before .before .before .before .before .walk-root .ensures (ready-of (c .before .before .before .before .before .before .before .before .before .before .before .before .before .before .args .reference .word) (c .before .before .before .before .before .before .before .before .before .before .before .before .before .before .pre .0) (c .before .before .before .before .before .before .before .before .before .before .before .before .before .before .pre .1))) (c .before .if1 .taken)))
+
+same-length-3 : tie.Need-same-length-3
+same-length-3 c = search needs
+
+same-length-4 : tie.Need-same-length-4
+same-length-4 c = search needs
+
+returns-2 : tie.Need-returns-2
+returns-2 c = sym (ap (hermitianOf (c .before .before .before .before .before .before .before .before .before .before .before .before .before .before .before .args .reference)) (axis-odd (c .before .before .before .before .before .before .before .before .before .before .before .before .before .before .before .args .header .qubits) (c .before .before .before .before .before .before .before .before .before .before .before .before .before .before .before .args .header .nodes) (c .before .before .before .before .before .before .before .before .before .before .before .before .before .before .before .args .nodes .now) (c .before .before .before .before .before .before .before .before .before .before .before .before .before .before .before .args .reference .word) (capOf (length (c .before .before .before .before .before .before .before .before .before .before .before .before .before .before .before .args .pool .now)) - 1) (c .before .before .before .before .before .before .before .before .before .before .before .before .before .before .before .args .limit) (c .before .before .before .before .before .before .before .walk-root .ensures (ready-of (c .before .before .before .before .before .before .before .before .before .before .before .before .before .before .before .args .reference .word) (c .before .before .before .before .before .before .before .before .before .before .before .before .before .before .before .pre .0) (c .before .before .before .before .before .before .before .before .before .before .before .before .before .before .before .pre .1))) (c .before .before .if1 .left) (c .if2 .taken)))
+
+assume-hermitian-requires : tie.Need-assume-hermitian-requires
+assume-hermitian-requires c κs = search needs
+
+same-length-5 : tie.Need-same-length-5
+same-length-5 c = search needs
+
+same-length-6 : tie.Need-same-length-6
+same-length-6 c = search needs
+
+returns-3 : tie.Need-returns-3
+returns-3 c = ap (λ (r : PauliRef). HermitianMade (axisOf r) (c .before .before .before .before .before .before .before .before .walk-root .result .work)) (c .assume-hermitian .ensures) ∙ sym (ap (hermitianOf (c .before .before .before .before .before .before .before .before .before .before .before .before .before .before .before .before .args .reference)) (axis-even (c .before .before .before .before .before .before .before .before .before .before .before .before .before .before .before .before .args .header .qubits) (c .before .before .before .before .before .before .before .before .before .before .before .before .before .before .before .before .args .header .nodes) (c .before .before .before .before .before .before .before .before .before .before .before .before .before .before .before .before .args .nodes .now) (c .before .before .before .before .before .before .before .before .before .before .before .before .before .before .before .before .args .reference .word) (capOf (length (c .before .before .before .before .before .before .before .before .before .before .before .before .before .before .before .before .args .pool .now)) - 1) (c .before .before .before .before .before .before .before .before .before .before .before .before .before .before .before .before .args .limit) (c .before .before .before .before .before .before .before .before .walk-root .ensures (ready-of (c .before .before .before .before .before .before .before .before .before .before .before .before .before .before .before .before .args .reference .word) (c .before .before .before .before .before .before .before .before .before .before .before .before .before .before .before .before .pre .0) (c .before .before .before .before .before .before .before .before .before .before .before .before .before .before .before .before .pre .1))) (c .before .before .before .if1 .left) (c .before .if2 .left)))
+
+pub hermitian-walk-spec : {M : Type 1} → statement M
+hermitian-walk-spec =
+    tie.close
+    (tie.spec
+    cast-count
+    cast-walk-root
+    walk-root-requires
+    walk-error-requires
+    same-length
+    same-length-2
+    returns
+    same-length-3
+    same-length-4
+    returns-2
+    assume-hermitian-requires
+    same-length-5
+    same-length-6
+    returns-3)

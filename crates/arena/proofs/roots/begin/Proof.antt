@@ -1,0 +1,58 @@
+-- `begin` meets its contract: the reachable nodes are counted, and the charge passes or not.
+use borrow.Author.Needs.{needs}
+use Rattle.arena.proofs.RootWalks.{counting, begin-dear, begun}
+use Rattle.arena.proofs.roots.begin.Statement.{statement}
+use Rattle.arena.proofs.roots.begin.Tie as tie
+
+scan-uses-requires : tie.Need-scan-uses-requires
+scan-uses-requires c κs = counting (c .before .before .before .before .pre)
+
+room-of-requires : tie.Need-room-of-requires
+room-of-requires c κs = search needs
+
+init-requires : tie.Need-init-requires
+init-requires c κs = search needs
+
+add-if1 : tie.Need-add-if1
+add-if1 c = search needs
+
+not-evaluated-requires : tie.Need-not-evaluated-requires
+not-evaluated-requires c κs = search needs
+
+same-length : tie.Need-same-length
+same-length c = search needs
+
+same-length-2 : tie.Need-same-length-2
+same-length-2 c = search needs
+
+returns : tie.Need-returns
+returns c = λ g. begin-dear g (c .before .before .before .before .before .before .before .before .before .scan-uses .ensures .0 (counting g)) (c .before .before .before .before .before .before .before .before .before .scan-uses .ensures .1 .0) (c .before .before .before .before .before .before .before .before .before .scan-uses .kept .1 .0) (c .before .before .before .before .before .before .before .before .before .before .before .before .before .before .args .limit) _ (c .not-evaluated .ensures) (c .before .if1 .taken)
+
+add-t12 : tie.Need-add-t12
+add-t12 c = search needs
+
+same-length-3 : tie.Need-same-length-3
+same-length-3 c = search needs
+
+same-length-4 : tie.Need-same-length-4
+same-length-4 c = search needs
+
+returns-2 : tie.Need-returns-2
+returns-2 c = λ g. begun g (c .before .before .before .before .before .before .before .before .scan-uses .ensures .0 (counting g)) (c .before .before .before .before .before .before .before .before .scan-uses .ensures .1 .0) (c .before .before .before .before .before .before .before .before .scan-uses .kept .1 .0) (c .before .before .before .before .before .before .before .before .before .before .before .before .before .args .limit) (c .before .before .before .init .ensures) (c .before .before .before .before .before .room-of .ensures) (c .if1 .left)
+
+pub begin-spec : {M : Type 1} → statement M
+begin-spec =
+    tie.close
+    (tie.spec
+    scan-uses-requires
+    room-of-requires
+    init-requires
+    add-if1
+    not-evaluated-requires
+    same-length
+    same-length-2
+    returns
+    add-t12
+    same-length-3
+    same-length-4
+    returns-2)

@@ -1,0 +1,54 @@
+-- `walk_root` meets its contract: the use counted, the walk begun, the root shown, or a refusal on the way.
+use borrow.Author.Needs.{needs}
+use Rattle.arena.proofs.RootWalks.{add-fits, rootable, walk-refused, rooted, walk-shown}
+use Rattle.arena.proofs.roots.walk_root.Statement.{statement}
+use Rattle.arena.proofs.roots.walk_root.Tie as tie
+
+zero-all-requires : tie.Need-zero-all-requires
+zero-all-requires c κs = search needs
+
+add-use-requires : tie.Need-add-use-requires
+add-use-requires c κs = add-fits (c .before .before .before .before .before .before .before .before .pre) (c .before .before .before .zero-all .ensures)
+
+begin-requires : tie.Need-begin-requires
+begin-requires c κs = rootable (c .before .before .before .before .before .before .before .before .before .before .before .before .before .pre) (c .before .before .before .before .before .before .before .before .zero-all .ensures) (c .before .before .before .before .add-use .ensures)
+
+not-shown-requires : tie.Need-not-shown-requires
+not-shown-requires c κs = search needs
+
+same-length : tie.Need-same-length
+same-length c = search needs
+
+same-length-2 : tie.Need-same-length-2
+same-length-2 c = search needs
+
+returns : tie.Need-returns
+returns c = λ g. walk-refused g (c .before .before .before .before .before .before .before .before .before .before .before .before .before .before .before .zero-all .ensures) (c .before .before .before .before .before .before .before .before .before .before .before .add-use .ensures) (c .before .before .before .before .before .before .before .before .before .before .before .before .before .before .before .before .before .before .before .before .args .pool .now) (c .before .before .before .before .before .before .begin .ensures (rootable g (c .before .before .before .before .before .before .before .before .before .before .before .before .before .before .before .zero-all .ensures) (c .before .before .before .before .before .before .before .before .before .before .before .add-use .ensures))) _ (c .not-shown .ensures) (c .before .if1 .taken)
+
+show-root-requires : tie.Need-show-root-requires
+show-root-requires c κs = rooted (c .before .before .before .before .before .before .before .before .before .before .before .before .before .before .before .before .before .before .before .before .before .pre) (c .before .before .before .before .before .before .before .before .before .before .before .before .before .before .before .before .zero-all .ensures) (c .before .before .before .before .before .before .before .before .before .before .before .before .add-use .ensures) (c .before .before .before .before .before .before .before .before .before .before .before .before .before .before .before .before .before .before .before .before .before .args .pool .now) (c .before .before .before .before .before .before .before .begin .ensures (rootable (c .before .before .before .before .before .before .before .before .before .before .before .before .before .before .before .before .before .before .before .before .before .pre) (c .before .before .before .before .before .before .before .before .before .before .before .before .before .before .before .before .zero-all .ensures) (c .before .before .before .before .before .before .before .before .before .before .before .before .add-use .ensures))) (c .before .before .if1 .left)
+
+same-length-3 : tie.Need-same-length-3
+same-length-3 c = search needs
+
+same-length-4 : tie.Need-same-length-4
+same-length-4 c = search needs
+
+returns-2 : tie.Need-returns-2
+returns-2 c = λ g. walk-shown g (c .before .before .before .before .before .before .before .before .before .before .before .before .before .before .before .before .before .before .before .before .before .zero-all .ensures) (c .before .before .before .before .before .before .before .before .before .before .before .before .before .before .before .before .before .add-use .ensures) (c .before .before .before .before .before .before .before .before .before .before .before .before .before .before .before .before .before .before .before .before .before .before .before .before .before .before .args .pool .now) (c .before .before .before .before .before .before .before .before .before .before .before .before .begin .ensures (rootable g (c .before .before .before .before .before .before .before .before .before .before .before .before .before .before .before .before .before .before .before .before .before .zero-all .ensures) (c .before .before .before .before .before .before .before .before .before .before .before .before .before .before .before .before .before .add-use .ensures))) (c .before .before .before .before .before .before .before .if1 .left) (c .before .before .before .before .show-root .ensures (rooted g (c .before .before .before .before .before .before .before .before .before .before .before .before .before .before .before .before .before .before .before .before .before .zero-all .ensures) (c .before .before .before .before .before .before .before .before .before .before .before .before .before .before .before .before .before .add-use .ensures) (c .before .before .before .before .before .before .before .before .before .before .before .before .before .before .before .before .before .before .before .before .before .before .before .before .before .before .args .pool .now) (c .before .before .before .before .before .before .before .before .before .before .before .before .begin .ensures (rootable g (c .before .before .before .before .before .before .before .before .before .before .before .before .before .before .before .before .before .before .before .before .before .zero-all .ensures) (c .before .before .before .before .before .before .before .before .before .before .before .before .before .before .before .before .before .add-use .ensures))) (c .before .before .before .before .before .before .before .if1 .left)))
+
+pub walk-root-spec : {M : Type 1} → statement M
+walk-root-spec =
+    tie.close
+    (tie.spec
+    zero-all-requires
+    add-use-requires
+    begin-requires
+    not-shown-requires
+    same-length
+    same-length-2
+    returns
+    show-root-requires
+    same-length-3
+    same-length-4
+    returns-2)

@@ -1,0 +1,65 @@
+-- `count_node` meets its contract.
+use mathlib.Core.Path.{refl, _∙_}
+use native.Mathlib.Omega.{arith}
+use borrow.Author.Needs.{needs}
+use Rattle.arena.proofs.ScratchWords.{values-use, values-same, values-then}
+use Rattle.arena.proofs.UsesInWords.{visit-room, visit-words, visit-none, visit-leaf, left-fits, right-fits, visit-product}
+use Rattle.arena.proofs.scratch.count_node.Statement.{statement}
+use Rattle.arena.proofs.scratch.count_node.Tie as tie
+
+use-of-requires : tie.Need-use-of-requires
+use-of-requires c κs = visit-room (c .before .before .before .pre)
+
+same-length : tie.Need-same-length
+same-length c = refl
+
+returns : tie.Need-returns
+returns c = (λ g. visit-none g (c .before .use-of .ensures) (c .if1 .taken), values-same)
+
+first-word-requires : tie.Need-first-word-requires
+first-word-requires c κs = omega (arith, visit-words (c .before .before .before .before .before .pre))
+
+same-length-2 : tie.Need-same-length-2
+same-length-2 c = refl
+
+returns-2 : tie.Need-returns-2
+returns-2 c = (λ g. visit-leaf g (c .before .before .before .use-of .ensures) (c .before .first-word .ensures) (c .before .before .if1 .left) (c .if2 .taken), values-same)
+
+second-word-requires : tie.Need-second-word-requires
+second-word-requires c κs = visit-words (c .before .before .before .before .before .before .before .pre)
+
+wide-requires : tie.Need-wide-requires
+wide-requires c κs = search needs
+
+add-use-requires : tie.Need-add-use-requires
+add-use-requires c κs = rw (c .wide .ensures) (left-fits (c .before .before .before .before .before .before .before .before .before .before .pre) (c .before .before .before .before .before .before .use-of .ensures) (c .before .before .before .before .first-word .ensures) (c .before .before .before .if2 .left) (c .before .before .second-word .ensures))
+
+wide-requires-2 : tie.Need-wide-requires-2
+wide-requires-2 c κs = search needs
+
+add-use-requires-2 : tie.Need-add-use-requires-2
+add-use-requires-2 c κs = rw (c .wide2 .ensures) (right-fits (c .before .before .before .before .before .before .before .before .before .before .before .before .before .before .before .pre) (c .before .before .before .before .before .before .before .before .before .before .before .use-of .ensures) (c .before .before .before .before .before .before .before .before .before .first-word .ensures) (c .before .before .before .before .before .before .before .before .if2 .left) (c .before .before .before .before .before .before .before .second-word .ensures) (rw (c .before .before .before .before .before .wide .ensures) at (c .before .before .before .before .add-use .ensures)))
+
+same-length-3 : tie.Need-same-length-3
+same-length-3 c = c .before .before .add-use2 .kept .0 ∙ c .before .before .before .before .before .before .before .add-use .kept .0
+
+returns-3 : tie.Need-returns-3
+returns-3 c = (λ g. visit-product g (c .before .before .before .before .before .before .before .before .before .before .before .before .before .before .use-of .ensures) (c .before .before .before .before .before .before .before .before .before .before .before .before .first-word .ensures) (c .before .before .before .before .before .before .before .before .before .before .before .if2 .left) (c .before .before .before .before .before .before .before .before .before .before .second-word .ensures) (rw (c .before .before .before .before .before .before .before .before .wide .ensures) at (c .before .before .before .before .before .before .before .add-use .ensures)) (c .before .before .before .before .before .before .before .before .before .before .before .before .before .if1 .left) (rw (c .before .before .before .wide2 .ensures) at (c .before .before .add-use2 .ensures)), values-then (values-use _ _ (c .before .before .before .before .before .before .before .add-use .ensures)) (values-use _ _ (c .before .before .add-use2 .ensures)))
+
+pub count-node-spec : {M : Type 1} → statement M
+count-node-spec =
+    tie.close
+    (tie.spec
+    use-of-requires
+    same-length
+    returns
+    first-word-requires
+    same-length-2
+    returns-2
+    second-word-requires
+    wide-requires
+    add-use-requires
+    wide-requires-2
+    add-use-requires-2
+    same-length-3
+    returns-3)

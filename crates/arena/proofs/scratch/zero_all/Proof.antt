@@ -1,0 +1,61 @@
+-- `zero_all` meets its contract: after i words the first i are zero.
+use mathlib.Core.Path.{_≡_, refl, ap, _∙_}
+use mathlib.Core.List.{List, _++_}
+use Prim.Native.Nat.{ℕ, _-_, _≤_}
+use native.Mathlib.Omega.{arith}
+use lib.ListN.{length, set, replicate, drop, length-set}
+use borrow.Author.Needs.{needs}
+use borrow.Author.Fill.{fill-none, fill-more}
+use Rattle.arena.proofs.ScratchWords.{fill-all}
+use Rattle.arena.proofs.scratch.zero_all.Statement.{statement}
+use Rattle.arena.proofs.scratch.zero_all.Tie as tie
+
+abbrev Inv-loop : tie.InvT-loop
+Inv-loop s₀ i₀ s i = (i ≤ length s₀) × (length s ≡ length s₀) × (s ≡ replicate i 0 ++ drop i s₀)
+
+abbrev μ-loop : tie.MeasureT-loop
+μ-loop s₀ i₀ s i = length s₀ - i
+
+loop-holds : tie.Need-loop-holds Inv-loop μ-loop
+loop-holds c = (omega arith, refl, fill-none _ 0)
+
+mul-s : tie.Need-mul-s Inv-loop μ-loop
+mul-s c = search needs
+
+slice-write-s : tie.Need-slice-write-s Inv-loop μ-loop
+slice-write-s c = omega (arith, c .loop-test .taken)
+
+add-i : tie.Need-add-i Inv-loop μ-loop
+add-i c = record { fits = omega (arith, c .loop-test .taken) }
+
+loop-less : tie.Need-loop-less Inv-loop μ-loop
+loop-less c = omega (arith, c .loop-test .taken, c .before .loop .inv .1)
+
+loop-again : tie.Need-loop-again Inv-loop μ-loop
+loop-again c =
+    let v = c .before .loop .inv in (
+      omega (arith, c .loop-test .taken, v .1),
+      length-set (c .before .loop .s) (c .before .loop .i) 0 ∙ v .1,
+      ap (λ (p : List ℕ). set p (c .before .loop .i) 0) (v .2) ∙ fill-more (c .before .loop .i) 0 (c .before .before .args .s .now) (omega (arith, c .loop-test .taken, v .1)),
+    )
+
+same-length : tie.Need-same-length Inv-loop μ-loop
+same-length c = c .before .loop .inv .1
+
+returns : tie.Need-returns Inv-loop μ-loop
+returns c = let v = c .before .loop .inv in v .2 ∙ fill-all (c .before .before .args .s .now) (c .before .loop .i) (omega (arith, v .0, v .1, c .loop-test .left))
+
+pub zero-all-spec : {M : Type 1} → statement M
+zero-all-spec =
+    tie.close
+    (tie.spec
+    Inv-loop
+    μ-loop
+    loop-holds
+    mul-s
+    slice-write-s
+    add-i
+    loop-less
+    loop-again
+    same-length
+    returns)

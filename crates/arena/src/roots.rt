@@ -1,0 +1,252 @@
+//! The roots of a walk: counted, shown in turn, released. What the private functions ask and promise: specs/Roots.antt.
+
+use crate::error::PbcError;
+use crate::materialize::Evaluated;
+use crate::materialize::eval_root;
+use crate::materialize::not_evaluated;
+use crate::pool::cap_of;
+use crate::pool::clear;
+use crate::pool::give_back;
+use crate::pool::init;
+use crate::pool::letter_of;
+use crate::pool::next_of;
+use crate::pool::qubit_of;
+use crate::pool::wide;
+use crate::scratch::add_use;
+use crate::scratch::count_in;
+use crate::scratch::head_in;
+use crate::scratch::phase_in;
+use crate::scratch::scan_uses;
+use crate::scratch::set_use;
+use crate::scratch::use_of;
+use crate::scratch::value_of;
+use crate::scratch::zero_all;
+ghost use mathlib.Core.Path.{_≡_};
+ghost use mathlib.Core.List.{[], _∷_, _++_};
+ghost use Prim.Native.Nat.{_+_, _-_, _≤_, _<_};
+ghost use lib.ListN.{length, replicate, drop};
+ghost use Rattle.arena.specs.References.{nodeIn};
+ghost use Rattle.arena.specs.Nodes.{nodeAt};
+ghost use Rattle.arena.specs.Walk.{charge, begin as started, walkNodes};
+ghost use Rattle.arena.specs.PoolSteps.{capOf, cleared};
+ghost use Rattle.arena.specs.WalkWords.{Says, Rooted, Ready, Showing, lettersWritten, CellReady, CellRead, ShowReady};
+ghost use Rattle.arena.specs.Roots.{Rootable, tallyOf, Begun, showRoot, RootShown, Releasable, Released, walkError};
+
+// ---- the start
+
+// The records that can be lent of a pool of so many words.
+fn room_of(words: usize) -> usize
+    ensures { λ r. ⌜ r ≡ capOf words - 1 ⌝ }
+{
+    let c = cap_of(words);
+    if c == 0 { 0 } else { c - 1 }
+}
+
+// The uses of all roots are counted in the scratch. They are counted on to the nodes that are reachable, the pool is made ready, and roots and nodes are charged.
+pub(crate) fn begin(
+    nodes: &[u32],
+    s: &mut [u32],
+    pool: &mut [u32],
+    count: usize,
+    limit: usize,
+    roots: usize,
+) -> Evaluated
+    requires { ⌜ Rootable (now nodes) (now s) count roots ⌝ }
+    ensures { λ r. ⌜ ((g : Rootable (now (nodes .entry)) (now (s .entry)) count roots) → Says (charge limit (length (g .ws) + tallyOf g .reached) (started (tallyOf g))) (r .status) (Begun g limit (capOf (length (now (pool .entry))) - 1) (now (s .exit)) (now (pool .exit)) (r .free) (r .spare) (r .work))) ⌝ }
+{
+    let reached = scan_uses(nodes, s, count);
+    let room = room_of(pool.len());
+    let free = init(pool);
+    if limit < roots + reached {
+        return not_evaluated(17);
+    }
+    Evaluated {
+        status: 0,
+        free,
+        spare: room,
+        work: roots + reached,
+    }
+}
+
+// ---- a root
+
+// The status, the chain, factors and phase of what is shown, and what is then left.
+pub struct Shown {
+    pub status: usize,
+    pub head: usize,
+    pub factors: usize,
+    pub phase: usize,
+    pub free: usize,
+    pub spare: usize,
+    pub work: usize,
+}
+
+fn not_shown(status: usize) -> Shown
+    ensures { λ r. ⌜ r .status ≡ status ⌝ }
+{
+    Shown {
+        status,
+        head: 0,
+        factors: 0,
+        phase: 0,
+        free: 0,
+        spare: 0,
+        work: 0,
+    }
+}
+
+// The root w is evaluated, and its factors are charged.
+pub(crate) fn show_root(
+    nodes: &[u32],
+    s: &mut [u32],
+    pool: &mut [u32],
+    count: usize,
+    limit: usize,
+    w: usize,
+    free: usize,
+    spare: usize,
+    work: usize,
+) -> Shown
+    requires { ⌜ Rooted (now nodes) (now s) (now pool) count limit (nodeIn w) free spare work ⌝ }
+    ensures { λ r. ⌜ ((g : Rooted (now (nodes .entry)) (now (s .entry)) (now (pool .entry)) count limit (nodeIn w) free spare work) → Says (showRoot limit (g .at .room) (nodeAt (g .at .n) (now (nodes .entry))) count (nodeIn w) (g .at .s)) (r .status) (RootShown w g (now (s .exit)) (now (pool .exit)) (r .head) (r .factors) (r .phase) (r .free) (r .spare) (r .work))) ⌝ }
+{
+    let j = w / 4;
+    let o = eval_root(nodes, s, pool, count, limit, j, free, spare, work);
+    let st = o.status;
+    if st != 0 {
+        return not_shown(st);
+    }
+    let m = value_of(s, j);
+    let k = count_in(m);
+    if limit - o.work < k {
+        return not_shown(17);
+    }
+    Shown {
+        status: 0,
+        head: head_in(m),
+        factors: k,
+        phase: (w % 4 + phase_in(m)) % 4,
+        free: o.free,
+        spare: o.spare,
+        work: o.work + k,
+    }
+}
+
+// The free list, and the records in it.
+pub struct Freed {
+    pub free: usize,
+    pub spare: usize,
+}
+
+// A root is given up: with its last use its records are given back.
+pub(crate) fn release(
+    s: &mut [u32],
+    pool: &mut [u32],
+    j: usize,
+    head: usize,
+    factors: usize,
+    free: usize,
+    spare: usize,
+) -> Freed
+    requires { ⌜ Releasable (now s) (now pool) j head factors free spare ⌝ }
+    ensures { λ r. ⌜ ((g : Releasable (now (s .entry)) (now (pool .entry)) j head factors free spare) → Released g (now (s .exit)) (now (pool .exit)) (r .free) (r .spare)) ⌝ }
+{
+    let u = use_of(s, j);
+    set_use(s, j, u - 1);
+    if u != 1 {
+        return Freed { free, spare };
+    }
+    let back = give_back(pool, free, head, factors);
+    Freed {
+        free: back,
+        spare: spare + factors,
+    }
+}
+
+// ---- one root
+
+// The root w is walked: its use is counted, and it is shown. The scratch and the pool are left as they are then.
+pub(crate) fn walk_root(
+    nodes: &[u32],
+    s: &mut [u32],
+    pool: &mut [u32],
+    count: usize,
+    limit: usize,
+    w: usize,
+) -> Shown
+    requires { ⌜ Ready (now nodes) (now s) count w ⌝ }
+    ensures { λ r. ⌜ ((g : Ready (now (nodes .entry)) (now (s .entry)) count w) → Says (walkNodes limit (capOf (length (now (pool .entry))) - 1) (nodeAt (g .n) (now (nodes .entry))) count (w ∷ [])) (r .status) (Showing (now (pool .exit)) (r .head) (r .phase) (r .work))) ⌝ }
+{
+    zero_all(s);
+    add_use(s, w / 4);
+    let b = begin(nodes, s, pool, count, limit, 1);
+    let st = b.status;
+    if st != 0 {
+        return not_shown(st);
+    }
+    show_root(nodes, s, pool, count, limit, w, b.free, b.spare, b.work)
+}
+
+// ---- the end
+
+// The refusal that a status stands for.
+pub(crate) fn walk_error(status: usize) -> PbcError
+    ensures { λ r. ⌜ r ≡ walkError status ⌝ }
+{
+    if status == 17 {
+        return PbcError::ExpansionLimit;
+    }
+    PbcError::NoPool
+}
+
+// The first scratch words and every counted record are zero.
+pub(crate) fn wipe(s: &mut [u32], pool: &mut [u32], used: usize)
+    requires { ⌜ used ≤ length (now s) ⌝ }
+    ensures { λ _. ⌜ (now (s .exit) ≡ replicate used 0 ++ drop used (now (s .entry))) × (now (pool .exit) ≡ cleared (now (pool .entry))) ⌝ }
+{
+    zero_all(&mut s[..used]);
+    clear(pool);
+}
+
+// ---- letters
+
+// A letter, and where the chain goes on.
+pub struct Cell {
+    pub letter: u8,
+    pub next: usize,
+}
+
+// The letter of qubit q, of a chain from a on whose qubits are q or more; and where the chain goes on.
+fn cell_at(pool: &[u32], a: usize, q: usize) -> Cell
+    requires { ⌜ CellReady (now pool) a q ⌝ }
+    ensures { λ r. ⌜ ((g : CellReady (now (pool .entry)) a q) → CellRead g (r .letter) (r .next)) ⌝ }
+{
+    if a == 0 {
+        return Cell { letter: 0, next: 0 };
+    }
+    let k = wide(qubit_of(pool, a));
+    if k != q {
+        return Cell { letter: 0, next: a };
+    }
+    let l = letter_of(pool, a);
+    let next = next_of(pool, a);
+    Cell {
+        letter: l as u8,
+        next,
+    }
+}
+
+// The letters of the first n qubits are written.
+pub(crate) fn show(letters: &mut [u8], pool: &[u32], n: usize, head: usize)
+    requires { ⌜ ShowReady (now pool) head × (n ≤ length (now letters)) ⌝ }
+    ensures { λ _. ⌜ ((g : ShowReady (now (pool .entry)) head) → now (letters .exit) ≡ lettersWritten n (g .fs) (now (letters .entry))) ⌝ }
+{
+    let mut a = head;
+    let mut q = 0;
+    while q < n {
+        let c = cell_at(pool, a, q);
+        letters[q] = c.letter;
+        a = c.next;
+        q += 1;
+    }
+}
