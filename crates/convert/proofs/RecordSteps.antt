@@ -14,7 +14,7 @@ use Rattle.convert.specs.Frame.{gateNodes, total, frameRun}
 use Rattle.convert.specs.Words.{Words, flushWords, write, wordStep, wordRun}
 use Rattle.convert.specs.Needs.{Needs, writtenNodes, writtenOps, elementNodes, elementOps, needStep, needRun}
 use Rattle.convert.specs.Raw.{recordGates, testsOf, anyExceeds, needed, costOf, costs, countFor, needsOf, measuresOf}
-use Rattle.convert.specs.declared.frame_gate.planes.count.Needed.{Needed}
+use Rattle.convert.specs.declared.count.Needed.{Needed}
 
 -- ---- joined lists
 

@@ -15,7 +15,7 @@ use Rattle.convert.specs.Plain.{Plain, begin, plainRun}
 use Rattle.convert.specs.Needs.{Needs, needRun}
 use Rattle.convert.specs.RawPlanes.{Wide}
 use Rattle.convert.specs.Raw.{recordAt, restOf, planesFor, Decided, costOf, costs, needed, countFor, needsOf}
-use Rattle.convert.specs.declared.frame_gate.planes.count.Needed.{Needed}
+use Rattle.convert.specs.declared.count.Needed.{Needed}
 use Rattle.convert.proofs.Packed.{wide-step}
 use Rattle.convert.proofs.CountLaws.{wide-start}
 use Rattle.convert.proofs.RecordSteps.{run-append, need-append, Went, one-record, count-one}

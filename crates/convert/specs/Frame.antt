@@ -14,7 +14,7 @@ use Rattle.arena.specs.Store.{breaksLimit, exceedsNodes, noNodeRoom}
 use Rattle.arena.specs.Builder.{Step, decided, Lent, overlay, withNodes, startNodes, startFrame}
 use Rattle.convert.specs.Types.{Phase, One, PlusI, MinusOne, MinusI, Header, BadStore, NonCliffordFrameGate, QubitOutOfRange, RepeatedOperand, NoFrame, NoNodes, Checked, Fine}
 use Rattle.convert.specs.Records.{GateKind, KindH, KindX, KindZ, KindS, KindSdg, KindT, KindTdg, KindCnot, KindCz, KindCcx, KindCcz, KindMeasure, KindY, KindSx, KindSwap, KindCy, Unsupported, arityOf, kindOf}
-pub use Rattle.convert.specs.declared.frame_gate.FramePushed.the-variants.{the-data as FramePushed, Made as FramePushedMade, Refused as FramePushedRefused}
+pub use Rattle.convert.specs.declared.frame.FramePushed.the-variants.{the-data as FramePushed, Made as FramePushedMade, Refused as FramePushedRefused}
 
 -- ---- a gate's work on used nodes and frame words
 

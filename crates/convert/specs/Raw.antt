@@ -22,7 +22,7 @@ use Rattle.convert.specs.Plain.{Plain, begin, exceeds, plainRun}
 use Rattle.convert.specs.Needs.{Needs, writtenNodes, writtenOps, needRun}
 use Rattle.convert.specs.Planes.{packed}
 use Rattle.convert.specs.RawPlanes.{Wide, planeReset}
-use Rattle.convert.specs.declared.frame_gate.planes.count.Needed.{Needed}
+use Rattle.convert.specs.declared.count.Needed.{Needed}
 use Rattle.convert.specs.Frame.{Arena, stored, word, gateNodes, total}
 
 -- ---- kinds

@@ -119,7 +119,7 @@ fn all_sound(n: u32, cbits: u32, gates: &[u32]) -> bool
 }
 
 // Every gate of the list, the first faulty one deciding. Where none is faulty, that is seen faster.
-pub(crate) fn check_records(before: Checked, n: u32, cbits: u32, gates: &[u32]) -> Checked
+fn check_records(before: Checked, n: u32, cbits: u32, gates: &[u32]) -> Checked
     ensures { λ r. ⌜ r ≡ recordsChecked before n cbits 0 (records (now (gates .entry))) ⌝ }
 {
     if all_sound(n, cbits, gates) {
@@ -159,7 +159,7 @@ fn any_doubly(gates: &[u32]) -> bool
 }
 
 // Cap 0, or cap 1 or 2 with a ccx or ccz.
-pub(crate) fn cap_too_small(cap: Cap, gates: &[u32]) -> bool
+fn cap_too_small(cap: Cap, gates: &[u32]) -> bool
     ensures { λ r. ⌜ r ≡ capTooSmall cap (records (now (gates .entry))) ⌝ }
 {
     match cap {
@@ -185,7 +185,7 @@ pub(crate) fn part_words(n: u32) -> usize
 }
 
 // Fewer than 4nL plane words under a cap.
-pub(crate) fn planes_too_few(cap: Cap, n: u32, planes: usize) -> bool
+fn planes_too_few(cap: Cap, n: u32, planes: usize) -> bool
     ensures { λ r. ⌜ r ≡ planesTooFew cap n planes ⌝ }
 {
     match cap {

@@ -1,6 +1,8 @@
-//! The kinds of gates, by what a record's first word names. Every function is O(1).
+//! The kinds of gates, by what a record's first word names, and the words of a record. Every function is O(1).
 
 ghost use mathlib.Core.Path.{_≡_};
+ghost use Prim.Native.Nat.{_+_, _*_, _/_, _<_};
+ghost use lib.ListN.{length, getD};
 ghost use Rattle.convert.specs.Records.{kindOf, arityOf};
 ghost use Rattle.convert.specs.Raw.{testsOf, isFrame, frameNodes};
 
@@ -150,4 +152,26 @@ impl GateKind {
             GateKind::Unsupported => 0,
         }
     }
+}
+
+fn wide(x: u32) -> usize
+    ensures { λ r. ⌜ r ≡ x ⌝ }
+{
+    x as usize
+}
+
+// The kind of record i.
+pub(crate) fn kind_at(gates: &[u32], i: usize) -> GateKind
+    requires { ⌜ i < length (now gates) / 4 ⌝ }
+    ensures { λ r. ⌜ r ≡ kindOf (getD (now (gates .entry)) (4 * i) 0) ⌝ }
+{
+    GateKind::of(gates[4 * i])
+}
+
+// Operand j of record i, from 1 on.
+pub(crate) fn operand_at(gates: &[u32], i: usize, j: usize) -> usize
+    requires { ⌜ (i < length (now gates) / 4) × (j < 4) ⌝ }
+    ensures { λ r. ⌜ r ≡ getD (now (gates .entry)) (4 * i + j) 0 ⌝ }
+{
+    wide(gates[4 * i + j])
 }

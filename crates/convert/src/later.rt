@@ -2,9 +2,9 @@
 
 use crate::cap::Cap;
 use crate::convert::Converted;
-use crate::frame_gate::FramePushed;
-use crate::frame_gate::planes::count::flush::write::conversion::to_pbc;
-use crate::frame_gate::push_output_clifford;
+use crate::convert::to_pbc;
+use crate::frame::FramePushed;
+use crate::frame::push_output_clifford;
 use arena::Header;
 use arena::MeasId;
 use arena::Measured;

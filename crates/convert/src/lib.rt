@@ -3,15 +3,19 @@
 mod cap;
 mod checks;
 mod convert;
-mod frame_gate;
+mod count;
+mod flush;
+mod frame;
 mod gate;
 mod later;
+mod planes;
+mod write;
 
 pub use cap::Cap;
 pub use convert::Converted;
-pub use frame_gate::FramePushed;
-pub use frame_gate::planes::count::flush::write::conversion::to_pbc;
-pub use frame_gate::push_output_clifford;
+pub use convert::to_pbc;
+pub use frame::FramePushed;
+pub use frame::push_output_clifford;
 pub use gate::GateKind;
 pub use later::convert_and_run;
 pub use later::run_calls;

@@ -1,0 +1,49 @@
+use Prim.Native.Nat.{_-_}
+use Rattle.convert.proofs.FrameLaws.{x-ran}
+use borrow.Author.Needs.{needs}
+use Rattle.convert.proofs.frame.gate_x.Statement.{statement}
+use Rattle.convert.proofs.frame.gate_x.Tie as tie
+use Rattle.convert.proofs.frame.gate_x.Reads as reads
+use Rattle.convert.proofs.frame.gate_x.Lts as lts
+use Rattle.convert.proofs.frame.minus.Reads as minus-reads
+
+add-w : tie.Need-add-w
+add-w c = search needs
+
+mul-w : tie.Need-mul-w
+mul-w c = search needs
+
+slice-read-w : tie.Need-slice-read-w
+slice-read-w c = search needs
+
+minus-requires : tie.Need-minus-requires
+minus-requires c κs = search needs
+
+add-frame : tie.Need-add-frame
+add-frame c = search needs
+
+mul-frame : tie.Need-mul-frame
+mul-frame c = search needs
+
+slice-write-frame : tie.Need-slice-write-frame
+slice-write-frame c = search needs
+
+same-length : tie.Need-same-length
+same-length c = search needs
+
+returns : tie.Need-returns
+returns c = x-ran (c .before .before .before .before .pre) _ (c .minus .ensures)
+
+pub gate-x-spec : {M : Type 1} → statement M
+gate-x-spec =
+    tie.close
+    (tie.spec
+    add-w
+    mul-w
+    slice-read-w
+    minus-requires
+    add-frame
+    mul-frame
+    slice-write-frame
+    same-length
+    returns)

@@ -1,0 +1,44 @@
+use borrow.Author.Tests.{not-true, not-false}
+use Rattle.convert.proofs.FlushLaws.{not-flushed, is-flushed}
+use borrow.Author.Needs.{needs}
+use Rattle.convert.proofs.write.flush_if.Statement.{statement}
+use Rattle.convert.proofs.write.flush_if.Tie as tie
+use Rattle.convert.proofs.write.flush_if.Reads as reads
+use Rattle.convert.proofs.write.flush_if.Lts as lts
+
+returns : tie.Need-returns
+returns c = not-flushed (c .before .before .before .before .before .args .n) _ (not-true (c .before .before .before .before .before .args .flushed) (c .if1 .taken))
+
+cast-start-frame : tie.Need-cast-start-frame
+cast-start-frame c = search needs
+
+start-frame-requires : tie.Need-start-frame-requires
+start-frame-requires c κs = search needs
+
+flush-records-requires : tie.Need-flush-records-requires
+flush-records-requires c κs = (c .before .before .before .before .before .before .before .before .before .before .before .pre .0 (not-false (c .before .before .before .before .before .before .before .before .before .before .before .args .flushed) (c .before .before .before .before .before .before .if1 .left)), c .before .before .before .before .before .before .before .before .before .before .before .pre .1 .0)
+
+same-length : tie.Need-same-length
+same-length c = search needs
+
+same-length-2 : tie.Need-same-length-2
+same-length-2 c = search needs
+
+same-length-3 : tie.Need-same-length-3
+same-length-3 c = search needs
+
+returns-2 : tie.Need-returns-2
+returns-2 c = is-flushed (c .before .before .before .before .before .before .before .before .before .before .before .before .before .before .before .before .args .n) (not-false (c .before .before .before .before .before .before .before .before .before .before .before .before .before .before .before .before .args .flushed) (c .before .before .before .before .before .before .before .before .before .before .before .if1 .left)) (c .before .before .before .before .flush-records .ensures) (c .before .before .before .before .before .before .before .before .before .start-frame .ensures)
+
+pub flush-if-spec : {M : Type 1} → statement M
+flush-if-spec =
+    tie.close
+    (tie.spec
+    returns
+    cast-start-frame
+    start-frame-requires
+    flush-records-requires
+    same-length
+    same-length-2
+    same-length-3
+    returns-2)

@@ -1,0 +1,72 @@
+use native.Mathlib.Omega.{arith}
+use Prim.Native.Nat.{_≤_, _+_, _-_}
+use mathlib.Core.Path.{_≡_, refl}
+use mathlib.Core.List.{[]}
+use lib.ListN.{length}
+use Rattle.convert.specs.Raw.{writing, putRows}
+use Rattle.convert.proofs.SevenLaws.{rows-none, rows-more}
+use borrow.Author.Needs.{needs}
+use Rattle.convert.proofs.write.put_rows.Statement.{statement}
+use Rattle.convert.proofs.write.put_rows.Tie as tie
+use Rattle.convert.proofs.write.put_rows.Reads as reads
+use Rattle.convert.proofs.write.put_rows.Lts as lts
+
+abbrev Inv-loop : tie.InvT-loop
+Inv-loop index operations₀ a b d joint next₀ row₀ operations next row = (row ≤ 7) × (length operations ≡ length operations₀) × (next ≡ next₀ + row) × (putRows row a b d joint (writing 0 [] next₀ operations₀) ≡ writing 0 [] next operations)
+
+abbrev μ-loop : tie.MeasureT-loop
+μ-loop index operations₀ a b d joint next₀ row₀ operations next row = 7 - row
+
+loop-holds : tie.Need-loop-holds Inv-loop μ-loop
+loop-holds c = (omega arith, refl, omega arith, rows-none (c .before .args .a) (c .before .args .b) (c .before .args .d) (c .before .args .joint) (c .before .args .index) (c .before .args .operations .now))
+
+row-subset-requires : tie.Need-row-subset-requires Inv-loop μ-loop
+row-subset-requires c κs = c .loop-test .taken
+
+subset-word-requires : tie.Need-subset-word-requires Inv-loop μ-loop
+subset-word-requires c κs = c .before .before .before .before .pre .0
+
+row-angle-requires : tie.Need-row-angle-requires Inv-loop μ-loop
+row-angle-requires c κs = c .before .before .before .loop-test .taken
+
+put-rotation-requires : tie.Need-put-rotation-requires Inv-loop μ-loop
+put-rotation-requires c κs = (omega (arith, c .before .before .before .before .before .loop .inv .2, c .before .before .before .before .loop-test .taken, c .before .before .before .before .before .before .before .pre .1), omega (arith, c .before .before .before .before .before .loop .inv .2, c .before .before .before .before .before .loop .inv .1, c .before .before .before .before .loop-test .taken, c .before .before .before .before .before .before .before .pre .2), c .row-angle .ensures .1)
+
+add-row : tie.Need-add-row Inv-loop μ-loop
+add-row c = search needs
+
+loop-less : tie.Need-loop-less Inv-loop μ-loop
+loop-less c = search needs
+
+loop-again : tie.Need-loop-again Inv-loop μ-loop
+loop-again c = (
+  omega (arith, c .before .before .before .before .before .before .before .loop-test .taken),
+  omega (arith, c .before .before .put-rotation .kept, c .before .before .before .before .before .before .before .before .loop .inv .1),
+  omega (arith, c .before .before .put-rotation .ensures .0, c .before .before .before .before .before .before .before .before .loop .inv .2),
+  rows-more (c .before .before .before .before .before .before .before .before .loop .row) (c .before .before .before .before .before .before .before .before .before .before .args .a) (c .before .before .before .before .before .before .before .before .before .before .args .b) (c .before .before .before .before .before .before .before .before .before .before .args .d) (c .before .before .before .before .before .before .before .before .before .before .args .joint) (c .before .before .before .before .before .before .before .before .before .before .args .index) (c .before .before .before .before .before .before .before .before .before .before .args .operations .now) _ _ _ _ _ _ _ (c .before .before .before .before .before .before .before .before .loop .inv .3) (c .before .before .before .before .before .before .row-subset .ensures) (c .before .before .before .before .before .subset-word .ensures) (c .before .before .before .row-angle .ensures .0) (c .before .before .put-rotation .ensures),
+)
+
+same-length : tie.Need-same-length Inv-loop μ-loop
+same-length c = search needs
+
+returns : tie.Need-returns Inv-loop μ-loop
+returns c =
+    let e : c .before .loop .row ≡ 7 = omega (arith, c .before .loop .inv .0, c .loop-test .left) in
+    (omega (arith, c .before .loop .inv .2, e), rw e at (c .before .loop .inv .3))
+
+pub put-rows-spec : {M : Type 1} → statement M
+put-rows-spec =
+    tie.close
+    (tie.spec
+    Inv-loop
+    μ-loop
+    loop-holds
+    row-subset-requires
+    subset-word-requires
+    row-angle-requires
+    put-rotation-requires
+    add-row
+    loop-less
+    loop-again
+    same-length
+    returns)

@@ -1,0 +1,35 @@
+use Rattle.convert.proofs.SevenLaws.{seven-put}
+use borrow.Author.Needs.{needs}
+use Rattle.convert.proofs.write.put_seven.Statement.{statement}
+use Rattle.convert.proofs.write.put_seven.Tie as tie
+use Rattle.convert.proofs.write.put_seven.Reads as reads
+use Rattle.convert.proofs.write.put_seven.Lts as lts
+
+put-four-requires : tie.Need-put-four-requires
+put-four-requires c κs = search needs
+
+put-rows-requires : tie.Need-put-rows-requires
+put-rows-requires c κs = search needs
+
+made-requires : tie.Need-made-requires
+made-requires c κs = search needs
+
+same-length : tie.Need-same-length
+same-length c = search needs
+
+same-length-2 : tie.Need-same-length-2
+same-length-2 c = search needs
+
+returns : tie.Need-returns
+returns c = seven-put (c .before .before .before .before .before .before .before .before .before .before .before .args .w .nodes) (c .before .before .before .before .before .before .before .before .before .before .before .args .nodes .now) (c .before .before .before .before .before .before .before .before .before .before .before .args .w .operations) (c .before .before .before .before .before .before .before .before .before .before .before .args .operations .now) (c .before .before .before .before .before .before .before .before .before .before .before .args .a) (c .before .before .before .before .before .before .before .before .before .before .before .args .b) (c .before .before .before .before .before .before .before .before .before .before .before .args .d) _ _ _ _ _ _ (c .before .before .before .before .before .before .before .put-four .ensures) (c .before .before .before .put-rows .ensures) (c .made .ensures)
+
+pub put-seven-spec : {M : Type 1} → statement M
+put-seven-spec =
+    tie.close
+    (tie.spec
+    put-four-requires
+    put-rows-requires
+    made-requires
+    same-length
+    same-length-2
+    returns)

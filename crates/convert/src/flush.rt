@@ -1,0 +1,251 @@
+//! A flush: the pending gates are written in order as rotations on identity images, then the frame starts again.
+
+use crate::frame::push;
+use crate::gate::GateKind;
+use crate::gate::kind_at;
+use crate::gate::operand_at;
+use arena::OPERATION_WORDS;
+ghost use mathlib.Core.Path.{_≡_};
+ghost use mathlib.Core.List.{[], _∷_};
+ghost use Prim.Native.Nat.{_+_, _*_, _/_, _<_, _≤_};
+ghost use lib.ListN.{length};
+ghost use lib.Seq.{sets};
+ghost use Rattle.pauli.specs.Gates.{gateH, gateX, gateZ, gateS, gateSdg, gateCnot, gateCz};
+ghost use Rattle.arena.specs.Limits.{operationWords};
+ghost use Rattle.arena.specs.Operations.{rotateWords};
+ghost use Rattle.arena.specs.Builder.{overlay, imageWords, startFrame};
+ghost use Rattle.convert.specs.Words.{idX, idZ};
+ghost use Rattle.convert.specs.Raw.{writing, putJoint, FlushReady, Flushed, recordGates, gatesOver};
+
+/// The nodes and operations used.
+pub struct Used {
+    pub nodes: u32,
+    pub operations: u32,
+}
+
+pub(crate) fn made(nodes: u32, operations: u32) -> Used
+    ensures { λ r. ⌜ (r .nodes ≡ nodes) × (r .operations ≡ operations) ⌝ }
+{
+    Used { nodes, operations }
+}
+
+// The words of an operation; the count after it.
+pub(crate) fn put_operation(
+    operations: &mut [u32],
+    index: u32,
+    first: u32,
+    axis: u32,
+    measurement: u32,
+    target: u32,
+) -> u32
+    requires { ⌜ (index < 65536) × (4 * index + 4 ≤ length (now operations)) ⌝ }
+    ensures { λ r. ⌜ (r ≡ index + 1) × (now (operations .exit) ≡ sets (now (operations .entry)) (operationWords * index) (first ∷ axis ∷ measurement ∷ target ∷ [])) ⌝ }
+{
+    let at = OPERATION_WORDS * (index as usize);
+    operations[at] = first;
+    operations[at + 1] = axis;
+    operations[at + 2] = measurement;
+    operations[at + 3] = target;
+    index + 1
+}
+
+// A rotation by so many eighths.
+pub(crate) fn put_rotation(operations: &mut [u32], index: u32, axis: u32, angle: u32) -> u32
+    requires { ⌜ (index < 65536) × (4 * index + 4 ≤ length (now operations)) × (angle < 8) ⌝ }
+    ensures { λ r. ⌜ (r ≡ index + 1) × (now (operations .exit) ≡ sets (now (operations .entry)) (operationWords * index) (rotateWords axis angle)) ⌝ }
+{
+    put_operation(operations, index, 4 * angle, axis, 0, 0)
+}
+
+// The word of the node X of qubit q.
+fn id_x(q: usize) -> u32
+    requires { ⌜ q < 256 ⌝ }
+    ensures { λ r. ⌜ r ≡ idX q ⌝ }
+{
+    4 * (1 + 2 * (q as u32))
+}
+
+// The word of the node Z of qubit q.
+fn id_z(q: usize) -> u32
+    requires { ⌜ q < 256 ⌝ }
+    ensures { λ r. ⌜ r ≡ idZ q ⌝ }
+{
+    4 * (2 + 2 * (q as u32))
+}
+
+// Two words and their product, turned about by 2, 2 and -2.
+fn put_joint(w: Used, nodes: &mut [u32], operations: &mut [u32], left: u32, right: u32) -> Used
+    requires { ⌜ (w .nodes < 65536) × (2 * w .nodes + 2 ≤ length (now nodes)) × (w .operations + 3 ≤ 65536) × (4 * (w .operations + 3) ≤ length (now operations)) × (left < 262144) ⌝ }
+    ensures { λ r. ⌜ writing (r .nodes) (now (nodes .exit)) (r .operations) (now (operations .exit)) ≡ putJoint left right (writing (w .nodes) (now (nodes .entry)) (w .operations) (now (operations .entry))) ⌝ }
+{
+    let joint = 4 * w.nodes;
+    let count = push(w.nodes, nodes, left, right);
+    let first = put_rotation(operations, w.operations, left, 2);
+    let second = put_rotation(operations, first, right, 2);
+    made(count, put_rotation(operations, second, joint, 6))
+}
+
+// ---- one gate: h as z 2, x 2, z 2; x as x 4; z as z 4; s as z 2; sdg as z -2; cnot and cz with their joint node
+
+fn flush_h(w: Used, nodes: &mut [u32], operations: &mut [u32], n: usize, q: usize) -> Used
+    requires { ⌜ FlushReady n (gateH q ∷ []) (w .nodes) (now nodes) (w .operations) (now operations) ⌝ }
+    ensures { λ r. ⌜ Flushed (gateH q ∷ []) (w .nodes) (now (nodes .entry)) (w .operations) (now (operations .entry)) (r .nodes) (now (nodes .exit)) (r .operations) (now (operations .exit)) ⌝ }
+{
+    let z = id_z(q);
+    let first = put_rotation(operations, w.operations, z, 2);
+    let second = put_rotation(operations, first, id_x(q), 2);
+    made(w.nodes, put_rotation(operations, second, z, 2))
+}
+
+fn flush_x(w: Used, nodes: &mut [u32], operations: &mut [u32], n: usize, q: usize) -> Used
+    requires { ⌜ FlushReady n (gateX q ∷ []) (w .nodes) (now nodes) (w .operations) (now operations) ⌝ }
+    ensures { λ r. ⌜ Flushed (gateX q ∷ []) (w .nodes) (now (nodes .entry)) (w .operations) (now (operations .entry)) (r .nodes) (now (nodes .exit)) (r .operations) (now (operations .exit)) ⌝ }
+{
+    made(w.nodes, put_rotation(operations, w.operations, id_x(q), 4))
+}
+
+fn flush_z(w: Used, nodes: &mut [u32], operations: &mut [u32], n: usize, q: usize) -> Used
+    requires { ⌜ FlushReady n (gateZ q ∷ []) (w .nodes) (now nodes) (w .operations) (now operations) ⌝ }
+    ensures { λ r. ⌜ Flushed (gateZ q ∷ []) (w .nodes) (now (nodes .entry)) (w .operations) (now (operations .entry)) (r .nodes) (now (nodes .exit)) (r .operations) (now (operations .exit)) ⌝ }
+{
+    made(w.nodes, put_rotation(operations, w.operations, id_z(q), 4))
+}
+
+fn flush_s(w: Used, nodes: &mut [u32], operations: &mut [u32], n: usize, q: usize) -> Used
+    requires { ⌜ FlushReady n (gateS q ∷ []) (w .nodes) (now nodes) (w .operations) (now operations) ⌝ }
+    ensures { λ r. ⌜ Flushed (gateS q ∷ []) (w .nodes) (now (nodes .entry)) (w .operations) (now (operations .entry)) (r .nodes) (now (nodes .exit)) (r .operations) (now (operations .exit)) ⌝ }
+{
+    made(w.nodes, put_rotation(operations, w.operations, id_z(q), 2))
+}
+
+fn flush_sdg(w: Used, nodes: &mut [u32], operations: &mut [u32], n: usize, q: usize) -> Used
+    requires { ⌜ FlushReady n (gateSdg q ∷ []) (w .nodes) (now nodes) (w .operations) (now operations) ⌝ }
+    ensures { λ r. ⌜ Flushed (gateSdg q ∷ []) (w .nodes) (now (nodes .entry)) (w .operations) (now (operations .entry)) (r .nodes) (now (nodes .exit)) (r .operations) (now (operations .exit)) ⌝ }
+{
+    made(w.nodes, put_rotation(operations, w.operations, id_z(q), 6))
+}
+
+fn flush_cnot(
+    w: Used,
+    nodes: &mut [u32],
+    operations: &mut [u32],
+    n: usize,
+    c: usize,
+    t: usize,
+) -> Used
+    requires { ⌜ FlushReady n (gateCnot c t ∷ []) (w .nodes) (now nodes) (w .operations) (now operations) ⌝ }
+    ensures { λ r. ⌜ Flushed (gateCnot c t ∷ []) (w .nodes) (now (nodes .entry)) (w .operations) (now (operations .entry)) (r .nodes) (now (nodes .exit)) (r .operations) (now (operations .exit)) ⌝ }
+{
+    put_joint(w, nodes, operations, id_z(c), id_x(t))
+}
+
+fn flush_cz(
+    w: Used,
+    nodes: &mut [u32],
+    operations: &mut [u32],
+    n: usize,
+    c: usize,
+    t: usize,
+) -> Used
+    requires { ⌜ FlushReady n (gateCz c t ∷ []) (w .nodes) (now nodes) (w .operations) (now operations) ⌝ }
+    ensures { λ r. ⌜ Flushed (gateCz c t ∷ []) (w .nodes) (now (nodes .entry)) (w .operations) (now (operations .entry)) (r .nodes) (now (nodes .exit)) (r .operations) (now (operations .exit)) ⌝ }
+{
+    put_joint(w, nodes, operations, id_z(c), id_z(t))
+}
+
+// The frame gates of a record.
+fn flush_record(
+    w: Used,
+    nodes: &mut [u32],
+    operations: &mut [u32],
+    n: usize,
+    kind: GateKind,
+    a: usize,
+    b: usize,
+) -> Used
+    requires { ⌜ FlushReady n (recordGates kind a b) (w .nodes) (now nodes) (w .operations) (now operations) ⌝ }
+    ensures { λ r. ⌜ Flushed (recordGates kind a b) (w .nodes) (now (nodes .entry)) (w .operations) (now (operations .entry)) (r .nodes) (now (nodes .exit)) (r .operations) (now (operations .exit)) ⌝ }
+{
+    match kind {
+        GateKind::H => flush_h(w, nodes, operations, n, a),
+        GateKind::X => flush_x(w, nodes, operations, n, a),
+        GateKind::Z => flush_z(w, nodes, operations, n, a),
+        GateKind::S => flush_s(w, nodes, operations, n, a),
+        GateKind::Sdg => flush_sdg(w, nodes, operations, n, a),
+        GateKind::T => w,
+        GateKind::Tdg => w,
+        GateKind::Cnot => flush_cnot(w, nodes, operations, n, a, b),
+        GateKind::Cz => flush_cz(w, nodes, operations, n, a, b),
+        GateKind::Ccx => w,
+        GateKind::Ccz => w,
+        GateKind::Measure => w,
+        GateKind::Y => {
+            let w1 = flush_z(w, nodes, operations, n, a);
+            flush_x(w1, nodes, operations, n, a)
+        }
+        GateKind::Sx => {
+            let w1 = flush_h(w, nodes, operations, n, a);
+            let w2 = flush_s(w1, nodes, operations, n, a);
+            flush_h(w2, nodes, operations, n, a)
+        }
+        GateKind::Swap => {
+            let w1 = flush_cnot(w, nodes, operations, n, a, b);
+            let w2 = flush_cnot(w1, nodes, operations, n, b, a);
+            flush_cnot(w2, nodes, operations, n, a, b)
+        }
+        GateKind::Cy => {
+            let w1 = flush_sdg(w, nodes, operations, n, b);
+            let w2 = flush_cnot(w1, nodes, operations, n, a, b);
+            flush_s(w2, nodes, operations, n, b)
+        }
+        GateKind::Unsupported => w,
+    }
+}
+
+// The frame gates of so many records from one on.
+pub(crate) fn flush_records(
+    w0: Used,
+    nodes: &mut [u32],
+    operations: &mut [u32],
+    n: usize,
+    gates: &[u32],
+    from: usize,
+    count: usize,
+) -> Used
+    requires { ⌜ FlushReady n (gatesOver (now gates) from count) (w0 .nodes) (now nodes) (w0 .operations) (now operations) ⌝ }
+    requires { ⌜ from + count ≤ length (now gates) / 4 ⌝ }
+    ensures { λ r. ⌜ Flushed (gatesOver (now (gates .entry)) from count) (w0 .nodes) (now (nodes .entry)) (w0 .operations) (now (operations .entry)) (r .nodes) (now (nodes .exit)) (r .operations) (now (operations .exit)) ⌝ }
+{
+    let mut w = w0;
+    let mut k: usize = 0;
+    while k < count {
+        let kind = kind_at(gates, from + k);
+        let a = operand_at(gates, from + k, 1);
+        let b = operand_at(gates, from + k, 2);
+        w = flush_record(w, nodes, operations, n, kind, a, b);
+        k += 1;
+    }
+    w
+}
+
+// The words of every other node from `first` on.
+fn image_words(frame: &mut [u32], first: u32, qubits: u32)
+    requires { ⌜ (first ≤ 2) × (qubits ≤ 256) × (qubits ≤ length (now frame)) ⌝ }
+    ensures { λ _. ⌜ now (frame .exit) ≡ overlay (imageWords first qubits) (now (frame .entry)) ⌝ }
+{
+    let mut qubit = 0;
+    while qubit < qubits {
+        frame[qubit as usize] = 4 * (first + 2 * qubit);
+        qubit += 1;
+    }
+}
+
+// The frame as at the start.
+pub(crate) fn start_frame(frame: &mut [u32], qubits: u32)
+    requires { ⌜ (qubits ≤ 256) × (2 * qubits ≤ length (now frame)) ⌝ }
+    ensures { λ _. ⌜ now (frame .exit) ≡ overlay (startFrame qubits) (now (frame .entry)) ⌝ }
+{
+    image_words(frame, 1, qubits);
+    let half = qubits as usize;
+    image_words(&mut frame[half..], 2, qubits);
+}

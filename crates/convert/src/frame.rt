@@ -1,0 +1,246 @@
+//! Frame gates on node words and frame words, from frame.rs and mod.rs. The count of nodes goes by value.
+
+use crate::checks::check_clifford;
+use crate::gate::GateKind;
+use arena::Checked;
+use arena::Header;
+use arena::PbcError;
+ghost use mathlib.Core.Path.{_≡_};
+ghost use mathlib.Core.List.{[], _∷_};
+ghost use Prim.Native.Nat.{_+_, _*_, _<_, _≤_};
+ghost use lib.ListN.{length, getD, set};
+ghost use Rattle.pauli.specs.Gates.{gateH, gateX, gateZ, gateS, gateSdg, gateCnot, gateCz};
+ghost use Rattle.arena.specs.References.{scaledWord};
+ghost use Rattle.convert.specs.Types.{MinusOne};
+ghost use Rattle.arena.specs.Builder.{withNodes};
+ghost use Rattle.convert.specs.Frame.{frameGates, cliffordStep};
+ghost use Rattle.convert.specs.Raw.{Multiplied, Ready, Ran, recordGates};
+
+/// What `push_output_clifford` answers.
+pub enum FramePushed {
+    Made(Header),
+    Refused(PbcError),
+}
+
+/// A frame gate on a circuit's output: the frame images take it up, and the circuit's operations stay. Refuses with 3, 6, 7, 8, 13, 14. O(qubits).
+/// Promise: `cliffordStep`.
+pub fn push_output_clifford(
+    header: Header,
+    nodes: &mut [u32],
+    frame: &mut [u32],
+    kind: u32,
+    a: u32,
+    b: u32,
+) -> FramePushed
+    ensures { λ r. ⌜ r ≡ cliffordStep header (now (nodes .entry)) (now (frame .entry)) kind a b .answer ⌝ }
+    ensures { λ r. ⌜ now (nodes .exit) ≡ cliffordStep header (now (nodes .entry)) (now (frame .entry)) kind a b .words .nodes ⌝ }
+    ensures { λ r. ⌜ now (frame .exit) ≡ cliffordStep header (now (nodes .entry)) (now (frame .entry)) kind a b .words .frame ⌝ }
+{
+    let checked = check_clifford(header, nodes.len(), frame, kind, a, b);
+    if let Checked::Wrong(error) = checked {
+        return FramePushed::Refused(error);
+    }
+    let n = header.qubits as usize;
+    let count = append(
+        header.nodes,
+        nodes,
+        frame,
+        n,
+        GateKind::of(kind),
+        a as usize,
+        b as usize,
+    );
+    FramePushed::Made(with_nodes(header, count))
+}
+
+fn with_nodes(header: Header, nodes: u32) -> Header
+    ensures { λ r. ⌜ r ≡ withNodes nodes header ⌝ }
+{
+    Header {
+        qubits: header.qubits,
+        cbits: header.cbits,
+        owner: header.owner,
+        nodes,
+        operations: header.operations,
+        measurements: header.measurements,
+    }
+}
+
+// A product node; the count after it.
+pub(crate) fn push(count: u32, nodes: &mut [u32], left: u32, right: u32) -> u32
+    requires { ⌜ (count < 65536) × (2 * count + 2 ≤ length (now nodes)) × (left < 262144) ⌝ }
+    ensures { λ r. ⌜ (r ≡ count + 1) × (now (nodes .exit) ≡ set (set (now (nodes .entry)) (2 * count) (2 + 4 * left)) (2 * count + 1) right) ⌝ }
+{
+    let k = 2 * (count as usize);
+    nodes[k] = 2 + 4 * left;
+    nodes[k + 1] = right;
+    count + 1
+}
+
+// The product of the images at left and right, with a phase, goes to place.
+fn multiply(
+    count: u32,
+    nodes: &mut [u32],
+    frame: &mut [u32],
+    place: usize,
+    left: usize,
+    right: usize,
+    phase: u32,
+) -> u32
+    requires { ⌜ (count < 65536) × (2 * count + 2 ≤ length (now nodes)) × (getD (now frame) left 0 < 262144) × (phase < 4) ⌝ }
+    requires { ⌜ (place < length (now frame)) × (left < length (now frame)) × (right < length (now frame)) ⌝ }
+    ensures { λ r. ⌜ Multiplied place left right phase count (now (nodes .entry)) (now (frame .entry)) r (now (nodes .exit)) (now (frame .exit)) ⌝ }
+{
+    let l = frame[left];
+    let r = frame[right];
+    let next = push(count, nodes, l, r);
+    frame[place] = 4 * count + phase;
+    next
+}
+
+fn minus(w: u32) -> u32
+    ensures { λ r. ⌜ r ≡ scaledWord MinusOne w ⌝ }
+{
+    4 * (w / 4) + (w % 4 + 2) % 4
+}
+
+fn gate_h(count: u32, nodes: &mut [u32], frame: &mut [u32], n: usize, q: usize) -> u32
+    requires { ⌜ Ready n (gateH q ∷ []) count (now nodes) (now frame) ⌝ }
+    ensures { λ r. ⌜ Ran n (gateH q ∷ []) count (now (nodes .entry)) (now (frame .entry)) r (now (nodes .exit)) (now (frame .exit)) ⌝ }
+{
+    let x = frame[q];
+    frame[q] = frame[n + q];
+    frame[n + q] = x;
+    count
+}
+
+fn gate_x(count: u32, nodes: &mut [u32], frame: &mut [u32], n: usize, q: usize) -> u32
+    requires { ⌜ Ready n (gateX q ∷ []) count (now nodes) (now frame) ⌝ }
+    ensures { λ r. ⌜ Ran n (gateX q ∷ []) count (now (nodes .entry)) (now (frame .entry)) r (now (nodes .exit)) (now (frame .exit)) ⌝ }
+{
+    let w = frame[n + q];
+    frame[n + q] = minus(w);
+    count
+}
+
+fn gate_z(count: u32, nodes: &mut [u32], frame: &mut [u32], n: usize, q: usize) -> u32
+    requires { ⌜ Ready n (gateZ q ∷ []) count (now nodes) (now frame) ⌝ }
+    ensures { λ r. ⌜ Ran n (gateZ q ∷ []) count (now (nodes .entry)) (now (frame .entry)) r (now (nodes .exit)) (now (frame .exit)) ⌝ }
+{
+    let w = frame[q];
+    frame[q] = minus(w);
+    count
+}
+
+fn gate_s(count: u32, nodes: &mut [u32], frame: &mut [u32], n: usize, q: usize) -> u32
+    requires { ⌜ Ready n (gateS q ∷ []) count (now nodes) (now frame) ⌝ }
+    ensures { λ r. ⌜ Ran n (gateS q ∷ []) count (now (nodes .entry)) (now (frame .entry)) r (now (nodes .exit)) (now (frame .exit)) ⌝ }
+{
+    multiply(count, nodes, frame, q, q, n + q, 3)
+}
+
+fn gate_sdg(count: u32, nodes: &mut [u32], frame: &mut [u32], n: usize, q: usize) -> u32
+    requires { ⌜ Ready n (gateSdg q ∷ []) count (now nodes) (now frame) ⌝ }
+    ensures { λ r. ⌜ Ran n (gateSdg q ∷ []) count (now (nodes .entry)) (now (frame .entry)) r (now (nodes .exit)) (now (frame .exit)) ⌝ }
+{
+    multiply(count, nodes, frame, q, q, n + q, 1)
+}
+
+fn gate_cnot(count: u32, nodes: &mut [u32], frame: &mut [u32], n: usize, c: usize, t: usize) -> u32
+    requires { ⌜ Ready n (gateCnot c t ∷ []) count (now nodes) (now frame) ⌝ }
+    ensures { λ r. ⌜ Ran n (gateCnot c t ∷ []) count (now (nodes .entry)) (now (frame .entry)) r (now (nodes .exit)) (now (frame .exit)) ⌝ }
+{
+    let next = multiply(count, nodes, frame, c, c, t, 0);
+    multiply(next, nodes, frame, n + t, n + c, n + t, 0)
+}
+
+fn gate_cz(count: u32, nodes: &mut [u32], frame: &mut [u32], n: usize, c: usize, t: usize) -> u32
+    requires { ⌜ Ready n (gateCz c t ∷ []) count (now nodes) (now frame) ⌝ }
+    ensures { λ r. ⌜ Ran n (gateCz c t ∷ []) count (now (nodes .entry)) (now (frame .entry)) r (now (nodes .exit)) (now (frame .exit)) ⌝ }
+{
+    let next = multiply(count, nodes, frame, c, c, n + t, 0);
+    multiply(next, nodes, frame, t, n + c, t, 0)
+}
+
+// The frame gate of a kind, as `CliffordFrame::append` of the Rust; a kind that is none changes nothing.
+fn append(
+    count: u32,
+    nodes: &mut [u32],
+    frame: &mut [u32],
+    n: usize,
+    kind: GateKind,
+    a: usize,
+    b: usize,
+) -> u32
+    requires { ⌜ Ready n (frameGates kind a b) count (now nodes) (now frame) ⌝ }
+    ensures { λ r. ⌜ Ran n (frameGates kind a b) count (now (nodes .entry)) (now (frame .entry)) r (now (nodes .exit)) (now (frame .exit)) ⌝ }
+{
+    match kind {
+        GateKind::H => gate_h(count, nodes, frame, n, a),
+        GateKind::X => gate_x(count, nodes, frame, n, a),
+        GateKind::Z => gate_z(count, nodes, frame, n, a),
+        GateKind::S => gate_s(count, nodes, frame, n, a),
+        GateKind::Sdg => gate_sdg(count, nodes, frame, n, a),
+        GateKind::T => count,
+        GateKind::Tdg => count,
+        GateKind::Cnot => gate_cnot(count, nodes, frame, n, a, b),
+        GateKind::Cz => gate_cz(count, nodes, frame, n, a, b),
+        GateKind::Ccx => count,
+        GateKind::Ccz => count,
+        GateKind::Measure => count,
+        GateKind::Y => count,
+        GateKind::Sx => count,
+        GateKind::Swap => count,
+        GateKind::Cy => count,
+        GateKind::Unsupported => count,
+    }
+}
+
+// The frame gates of a record.
+pub(crate) fn frame_record(
+    count: u32,
+    nodes: &mut [u32],
+    frame: &mut [u32],
+    n: usize,
+    kind: GateKind,
+    a: usize,
+    b: usize,
+) -> u32
+    requires { ⌜ Ready n (recordGates kind a b) count (now nodes) (now frame) ⌝ }
+    ensures { λ r. ⌜ Ran n (recordGates kind a b) count (now (nodes .entry)) (now (frame .entry)) r (now (nodes .exit)) (now (frame .exit)) ⌝ }
+{
+    match kind {
+        GateKind::H => gate_h(count, nodes, frame, n, a),
+        GateKind::X => gate_x(count, nodes, frame, n, a),
+        GateKind::Z => gate_z(count, nodes, frame, n, a),
+        GateKind::S => gate_s(count, nodes, frame, n, a),
+        GateKind::Sdg => gate_sdg(count, nodes, frame, n, a),
+        GateKind::T => count,
+        GateKind::Tdg => count,
+        GateKind::Cnot => gate_cnot(count, nodes, frame, n, a, b),
+        GateKind::Cz => gate_cz(count, nodes, frame, n, a, b),
+        GateKind::Ccx => count,
+        GateKind::Ccz => count,
+        GateKind::Measure => count,
+        GateKind::Y => {
+            let c1 = gate_z(count, nodes, frame, n, a);
+            gate_x(c1, nodes, frame, n, a)
+        }
+        GateKind::Sx => {
+            let c1 = gate_h(count, nodes, frame, n, a);
+            let c2 = gate_s(c1, nodes, frame, n, a);
+            gate_h(c2, nodes, frame, n, a)
+        }
+        GateKind::Swap => {
+            let c1 = gate_cnot(count, nodes, frame, n, a, b);
+            let c2 = gate_cnot(c1, nodes, frame, n, b, a);
+            gate_cnot(c2, nodes, frame, n, a, b)
+        }
+        GateKind::Cy => {
+            let c1 = gate_sdg(count, nodes, frame, n, b);
+            let c2 = gate_cnot(c1, nodes, frame, n, a, b);
+            gate_s(c2, nodes, frame, n, b)
+        }
+        GateKind::Unsupported => count,
+    }
+}

@@ -1,0 +1,255 @@
+//! Planes (document 01): for each image l words of x bits and l of z bits. Image 2q is the x image of qubit q, image 2q + 1 its z image.
+//! What the words stand for: specs/Planes.antt; what each loop does to them: specs/RawPlanes.antt.
+
+use crate::gate::GateKind;
+ghost use mathlib.Core.Path.{_≡_};
+ghost use mathlib.Core.List.{List, _++_};
+ghost use Prim.Native.Nat.{ℕ, suc, _+_, _*_, _/_, _%_, _<_, _≤_, _^_};
+ghost use lib.ListN.{length, set};
+ghost use Rattle.pauli.specs.Gates.{AllValid, gateH, gateS, gateCnot, gateCz};
+ghost use Rattle.pauli.specs.Rows.{Row};
+ghost use Rattle.convert.specs.Records.{AtMost, lowerAs, AllProper};
+ghost use Rattle.convert.specs.Planes.{partWords, packed};
+ghost use Rattle.convert.specs.Raw.{recordGates, anyExceeds};
+ghost use Rattle.convert.specs.RawPlanes.{Wide, planeRun, xorTo, swapTo, weightTo, picked, joined, planeStep, planeReset, clearTo, sevenAbove};
+
+fn xor_into(planes: &mut [u64], l: usize, i: usize, j: usize)
+    requires { ⌜ (i * (l + l) + (l + l) ≤ length (now planes)) × (j * (l + l) + (l + l) ≤ length (now planes)) ⌝ }
+    ensures { λ _. ⌜ now (planes .exit) ≡ xorTo (now (planes .entry)) (i * (l + l)) (j * (l + l)) (l + l) ⌝ }
+{
+    let stride = l + l;
+    let target = i * stride;
+    let source = j * stride;
+    let mut k: usize = 0;
+    while k < stride {
+        planes[target + k] = planes[target + k] ^ planes[source + k];
+        k += 1;
+    }
+}
+
+fn exchange(planes: &mut [u64], l: usize, i: usize, j: usize)
+    requires { ⌜ (i * (l + l) + (l + l) ≤ length (now planes)) × (j * (l + l) + (l + l) ≤ length (now planes)) ⌝ }
+    ensures { λ _. ⌜ now (planes .exit) ≡ swapTo (now (planes .entry)) (i * (l + l)) (j * (l + l)) (l + l) ⌝ }
+{
+    let stride = l + l;
+    let one = i * stride;
+    let other = j * stride;
+    let mut k: usize = 0;
+    while k < stride {
+        let w = planes[one + k];
+        planes[one + k] = planes[other + k];
+        planes[other + k] = w;
+        k += 1;
+    }
+}
+
+fn pick(u: u32, w: u64) -> u64
+    ensures { λ r. ⌜ r ≡ picked u w ⌝ }
+{
+    if u == 0 { 0 } else { w }
+}
+
+// The exclusive-or of the picked words at k of three images.
+fn joint(planes: &[u64], ua: u32, ub: u32, ud: u32, a: usize, b: usize, d: usize, k: usize) -> u64
+    requires { ⌜ (a + k < length (now planes)) × (b + k < length (now planes)) × (d + k < length (now planes)) ⌝ }
+    ensures { λ r. ⌜ r ≡ joined (now (planes .entry)) ua ub ud a b d k ⌝ }
+{
+    let x = pick(ua, planes[a + k]);
+    let y = pick(ub, planes[b + k]);
+    let z = pick(ud, planes[d + k]);
+    x ^ y ^ z
+}
+
+// The weight of the product of up to three images: those whose u is not 0.
+fn weigh(planes: &[u64], l: usize, ua: u32, ub: u32, ud: u32, a: usize, b: usize, d: usize) -> u32
+    requires { ⌜ (a * (l + l) + (l + l) ≤ length (now planes)) × (b * (l + l) + (l + l) ≤ length (now planes)) × (d * (l + l) + (l + l) ≤ length (now planes)) × (l ≤ 4096) ⌝ }
+    ensures { λ r. ⌜ r ≡ weightTo (now (planes .entry)) l ua ub ud (a * (l + l)) (b * (l + l)) (d * (l + l)) l ⌝ }
+{
+    let stride = l + l;
+    let one = a * stride;
+    let two = b * stride;
+    let three = d * stride;
+    let mut sum: u32 = 0;
+    let mut k: usize = 0;
+    while k < l {
+        let x = joint(planes, ua, ub, ud, one, two, three, k);
+        let z = joint(planes, ua, ub, ud, one, two, three, l + k);
+        sum += u64::count_ones(x | z);
+        k += 1;
+    }
+    sum
+}
+
+fn plane_h(planes: &mut [u64], n: usize, l: usize, q: usize)
+    requires { ⌜ (q < n) × ((n + n) * (l + l) ≤ length (now planes)) × (n ≤ 256) ⌝ }
+    ensures { λ _. ⌜ now (planes .exit) ≡ planeStep l (gateH q) (now (planes .entry)) ⌝ }
+{
+    exchange(planes, l, q + q, q + q + 1);
+}
+
+// s and sdg
+fn plane_s(planes: &mut [u64], n: usize, l: usize, q: usize)
+    requires { ⌜ (q < n) × ((n + n) * (l + l) ≤ length (now planes)) × (n ≤ 256) ⌝ }
+    ensures { λ _. ⌜ now (planes .exit) ≡ planeStep l (gateS q) (now (planes .entry)) ⌝ }
+{
+    xor_into(planes, l, q + q, q + q + 1);
+}
+
+fn plane_cnot(planes: &mut [u64], n: usize, l: usize, c: usize, t: usize)
+    requires { ⌜ (c < n) × (t < n) × ((n + n) * (l + l) ≤ length (now planes)) × (n ≤ 256) ⌝ }
+    ensures { λ _. ⌜ now (planes .exit) ≡ planeStep l (gateCnot c t) (now (planes .entry)) ⌝ }
+{
+    xor_into(planes, l, c + c, t + t);
+    xor_into(planes, l, t + t + 1, c + c + 1);
+}
+
+fn plane_cz(planes: &mut [u64], n: usize, l: usize, c: usize, t: usize)
+    requires { ⌜ (c < n) × (t < n) × ((n + n) * (l + l) ≤ length (now planes)) × (n ≤ 256) ⌝ }
+    ensures { λ _. ⌜ now (planes .exit) ≡ planeStep l (gateCz c t) (now (planes .entry)) ⌝ }
+{
+    xor_into(planes, l, c + c, t + t + 1);
+    xor_into(planes, l, t + t, c + c + 1);
+}
+
+fn clear(planes: &mut [u64], count: usize)
+    requires { ⌜ count ≤ length (now planes) ⌝ }
+    ensures { λ _. ⌜ now (planes .exit) ≡ clearTo (now (planes .entry)) count ⌝ }
+{
+    let mut k: usize = 0;
+    while k < count {
+        planes[k] = 0;
+        k += 1;
+    }
+}
+
+fn bit(k: usize) -> u64
+    requires { ⌜ k < 64 ⌝ }
+    ensures { λ r. ⌜ r ≡ 2 ^ k ⌝ }
+{
+    1u64 << (k as u32)
+}
+
+// X and Z of qubit q.
+fn mark(planes: &mut [u64], n: usize, l: usize, q: usize)
+    requires { ⌜ (q < n) × (q / 64 < l) × ((n + n) * (l + l) ≤ length (now planes)) × (n ≤ 256) ⌝ }
+    ensures { λ _. ⌜ now (planes .exit) ≡ set (set (now (planes .entry)) ((q + q) * (l + l) + q / 64) (2 ^ (q % 64))) (suc (q + q) * (l + l) + (l + q / 64)) (2 ^ (q % 64)) ⌝ }
+{
+    let w = bit(q % 64);
+    let x = (q + q) * (l + l) + q / 64;
+    let z = (q + q + 1) * (l + l) + (l + q / 64);
+    planes[x] = w;
+    planes[z] = w;
+}
+
+pub(crate) fn reset(planes: &mut [u64], n: usize, l: usize)
+    requires { ⌜ ((n + 63) / 64 ≤ l) × (l ≤ 4) × ((n + n) * (l + l) ≤ length (now planes)) × (n ≤ 256) ⌝ }
+    ensures { λ _. ⌜ now (planes .exit) ≡ planeReset n l (now (planes .entry)) ⌝ }
+{
+    clear(planes, (n + n) * (l + l));
+    let mut q: usize = 0;
+    while q < n {
+        mark(planes, n, l, q);
+        q += 1;
+    }
+}
+
+// Whether one of the seven products of three images weighs more than the cap.
+fn seven(planes: &[u64], l: usize, cap: u32, a: usize, b: usize, d: usize) -> bool
+    requires { ⌜ (a * (l + l) + (l + l) ≤ length (now planes)) × (b * (l + l) + (l + l) ≤ length (now planes)) × (d * (l + l) + (l + l) ≤ length (now planes)) × (l ≤ 4096) ⌝ }
+    ensures { λ r. ⌜ r ≡ sevenAbove (now (planes .entry)) l cap (a * (l + l)) (b * (l + l)) (d * (l + l)) ⌝ }
+{
+    let w1 = weigh(planes, l, 1, 0, 0, a, b, d);
+    let w2 = weigh(planes, l, 0, 1, 0, a, b, d);
+    let w3 = weigh(planes, l, 0, 0, 1, a, b, d);
+    let w4 = weigh(planes, l, 1, 1, 0, a, b, d);
+    let w5 = weigh(planes, l, 1, 0, 1, a, b, d);
+    let w6 = weigh(planes, l, 0, 1, 1, a, b, d);
+    let w7 = weigh(planes, l, 1, 1, 1, a, b, d);
+    (cap < w1)
+        | ((cap < w2) | ((cap < w3) | ((cap < w4) | ((cap < w5) | ((cap < w6) | (cap < w7))))))
+}
+
+// Whether what is tested before a gate weighs more than the cap.
+pub(crate) fn heavy(
+    planes: &[u64],
+    n: usize,
+    l: usize,
+    cap: u32,
+    kind: GateKind,
+    a: usize,
+    b: usize,
+    d: usize,
+) -> bool
+    requires { ⌜ AllProper n (b + 1) (lowerAs kind a b d) ⌝ }
+    requires { ⌜ (l ≡ partWords n) × ((n + n) * (l + l) ≤ length (now planes)) × (n ≤ 256) ⌝ }
+    ensures { λ r. ⌜ ((t : List Row) (rest : List ℕ) → Wide n t → now (planes .entry) ≡ packed n t ++ rest → r ≡ anyExceeds n (AtMost cap) t (lowerAs kind a b d)) ⌝ }
+{
+    let k = kind.tests();
+    if k == 0 {
+        return false;
+    }
+    if k == 1 {
+        let w = weigh(planes, l, 1, 0, 0, a + a + 1, a + a + 1, a + a + 1);
+        return cap < w;
+    }
+    if k == 2 {
+        return seven(planes, l, cap, a + a + 1, b + b + 1, d + d);
+    }
+    seven(planes, l, cap, a + a + 1, b + b + 1, d + d + 1)
+}
+
+// The frame gates of a record.
+pub(crate) fn plane_record(
+    planes: &mut [u64],
+    n: usize,
+    l: usize,
+    kind: GateKind,
+    a: usize,
+    b: usize,
+)
+    requires { ⌜ AllValid n (recordGates kind a b) ⌝ }
+    requires { ⌜ ((n + n) * (l + l) ≤ length (now planes)) × (n ≤ 256) ⌝ }
+    ensures { λ _. ⌜ now (planes .exit) ≡ planeRun l (recordGates kind a b) (now (planes .entry)) ⌝ }
+{
+    match kind {
+        GateKind::H => {
+            plane_h(planes, n, l, a);
+        }
+        GateKind::X => {}
+        GateKind::Z => {}
+        GateKind::S => {
+            plane_s(planes, n, l, a);
+        }
+        GateKind::Sdg => {
+            plane_s(planes, n, l, a);
+        }
+        GateKind::T => {}
+        GateKind::Tdg => {}
+        GateKind::Cnot => {
+            plane_cnot(planes, n, l, a, b);
+        }
+        GateKind::Cz => {
+            plane_cz(planes, n, l, a, b);
+        }
+        GateKind::Ccx => {}
+        GateKind::Ccz => {}
+        GateKind::Measure => {}
+        GateKind::Y => {}
+        GateKind::Sx => {
+            plane_h(planes, n, l, a);
+            plane_s(planes, n, l, a);
+            plane_h(planes, n, l, a);
+        }
+        GateKind::Swap => {
+            plane_cnot(planes, n, l, a, b);
+            plane_cnot(planes, n, l, b, a);
+            plane_cnot(planes, n, l, a, b);
+        }
+        GateKind::Cy => {
+            plane_s(planes, n, l, b);
+            plane_cnot(planes, n, l, a, b);
+            plane_s(planes, n, l, b);
+        }
+        GateKind::Unsupported => {}
+    }
+}

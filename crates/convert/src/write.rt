@@ -1,0 +1,263 @@
+//! The writing pass: what each record writes, once the needs are known to fit.
+
+use crate::cap::Cap;
+use crate::count::decide;
+use crate::count::prepare;
+use crate::flush::Used;
+use crate::flush::flush_records;
+use crate::flush::made;
+use crate::flush::put_operation;
+use crate::flush::put_rotation;
+use crate::flush::start_frame;
+use crate::frame::frame_record;
+use crate::frame::push;
+use crate::gate::GateKind;
+use crate::gate::kind_at;
+use crate::gate::operand_at;
+ghost use mathlib.Core.Path.{_≡_};
+ghost use mathlib.Core.Bool.{true, cond};
+ghost use mathlib.Core.List.{[]};
+ghost use Prim.Native.Nat.{_+_, _*_, _/_, _<_, _≤_};
+ghost use lib.ListN.{length};
+ghost use Rattle.convert.specs.Raw.{writing, rowAt, subsetOf, subsetWord, putRows, putFour, putSeven, putRecord, RecordReady, FlushReady, FlushedIf, gatesOver, planesFor, isCapped, measuresOf, Fits, Room, wordsLast, plainLast};
+ghost use Rattle.arena.specs.Builder.{overlay, startNodes, startFrame};
+ghost use Rattle.convert.specs.Words.{flat};
+ghost use Rattle.convert.specs.Planes.{partWords};
+
+// The seven rows of ccx and ccz: operand subset (a is 1, b is 2, d is 4) and turn in eighths.
+const SEVEN_ROWS: [u32; 14] = [1, 1, 2, 1, 4, 1, 3, 7, 5, 7, 6, 7, 7, 1];
+
+fn row_subset(row: usize) -> u32
+    requires { ⌜ row < 7 ⌝ }
+    ensures { λ r. ⌜ r ≡ subsetOf (rowAt row) ⌝ }
+{
+    SEVEN_ROWS[2 * row]
+}
+
+fn row_angle(row: usize) -> u32
+    requires { ⌜ row < 7 ⌝ }
+    ensures { λ r. ⌜ (r ≡ rowAt row .angle) × (r < 8) ⌝ }
+{
+    SEVEN_ROWS[2 * row + 1]
+}
+
+// The word of the product of the operands in a subset; ab is the node `joint`, and ad, bd, abd follow it.
+fn subset_word(subset: u32, a: u32, b: u32, d: u32, joint: u32) -> u32
+    requires { ⌜ joint + 3 < 65536 ⌝ }
+    ensures { λ r. ⌜ r ≡ subsetWord subset a b d joint ⌝ }
+{
+    match subset {
+        0 => 0,
+        1 => a,
+        2 => b,
+        3 => 4 * joint,
+        4 => d,
+        5 => 4 * (joint + 1),
+        6 => 4 * (joint + 2),
+        _ => 4 * (joint + 3),
+    }
+}
+
+// The rotations by the seven rows.
+fn put_rows(index: u32, operations: &mut [u32], a: u32, b: u32, d: u32, joint: u32) -> u32
+    requires { ⌜ (joint + 3 < 65536) × (index + 7 ≤ 65536) × (4 * (index + 7) ≤ length (now operations)) ⌝ }
+    ensures { λ r. ⌜ (r ≡ index + 7) × (putRows 7 a b d joint (writing 0 [] index (now (operations .entry))) ≡ writing 0 [] r (now (operations .exit))) ⌝ }
+{
+    let mut next = index;
+    let mut row: usize = 0;
+    while row < 7 {
+        let axis = subset_word(row_subset(row), a, b, d, joint);
+        next = put_rotation(operations, next, axis, row_angle(row));
+        row += 1;
+    }
+    next
+}
+
+// The products ab, ad, bd and (ab)d.
+fn put_four(count: u32, nodes: &mut [u32], a: u32, b: u32, d: u32) -> u32
+    requires { ⌜ (count + 4 ≤ 65536) × (2 * (count + 4) ≤ length (now nodes)) × (a < 262144) × (b < 262144) ⌝ }
+    ensures { λ r. ⌜ (r ≡ count + 4) × (putFour a b d (writing count (now (nodes .entry)) 0 []) ≡ writing r (now (nodes .exit)) 0 []) ⌝ }
+{
+    let first = push(count, nodes, a, b);
+    let second = push(first, nodes, a, d);
+    let third = push(second, nodes, b, d);
+    push(third, nodes, 4 * count, d)
+}
+
+fn put_seven(w: Used, nodes: &mut [u32], operations: &mut [u32], a: u32, b: u32, d: u32) -> Used
+    requires { ⌜ (w .nodes + 4 ≤ 65536) × (2 * (w .nodes + 4) ≤ length (now nodes)) × (w .operations + 7 ≤ 65536) × (4 * (w .operations + 7) ≤ length (now operations)) × (a < 262144) × (b < 262144) ⌝ }
+    ensures { λ r. ⌜ writing (r .nodes) (now (nodes .exit)) (r .operations) (now (operations .exit)) ≡ putSeven a b d (writing (w .nodes) (now (nodes .entry)) (w .operations) (now (operations .entry))) ⌝ }
+{
+    let count = put_four(w.nodes, nodes, a, b, d);
+    let next = put_rows(w.operations, operations, a, b, d, w.nodes);
+    made(count, next)
+}
+
+// What a record writes that is no frame gate.
+fn write_record(
+    w: Used,
+    given: u32,
+    nodes: &mut [u32],
+    operations: &mut [u32],
+    frame: &[u32],
+    n: usize,
+    kind: GateKind,
+    a: usize,
+    b: usize,
+    d: usize,
+) -> Used
+    requires { ⌜ RecordReady n given kind a b d (w .nodes) (now nodes) (w .operations) (now operations) (now frame) ⌝ }
+    ensures { λ r. ⌜ writing (r .nodes) (now (nodes .exit)) (r .operations) (now (operations .exit)) ≡ putRecord n given kind a b d (now (frame .entry)) (writing (w .nodes) (now (nodes .entry)) (w .operations) (now (operations .entry))) ⌝ }
+{
+    match kind {
+        GateKind::H => w,
+        GateKind::X => w,
+        GateKind::Z => w,
+        GateKind::S => w,
+        GateKind::Sdg => w,
+        GateKind::T => made(
+            w.nodes,
+            put_rotation(operations, w.operations, frame[n + a], 1),
+        ),
+        GateKind::Tdg => made(
+            w.nodes,
+            put_rotation(operations, w.operations, frame[n + a], 7),
+        ),
+        GateKind::Cnot => w,
+        GateKind::Cz => w,
+        GateKind::Ccx => put_seven(w, nodes, operations, frame[n + a], frame[n + b], frame[d]),
+        GateKind::Ccz => put_seven(
+            w,
+            nodes,
+            operations,
+            frame[n + a],
+            frame[n + b],
+            frame[n + d],
+        ),
+        GateKind::Measure => made(
+            w.nodes,
+            put_operation(
+                operations,
+                w.operations,
+                1,
+                frame[n + a],
+                given,
+                (b as u32) + 1,
+            ),
+        ),
+        GateKind::Y => w,
+        GateKind::Sx => w,
+        GateKind::Swap => w,
+        GateKind::Cy => w,
+        GateKind::Unsupported => w,
+    }
+}
+
+// The pending gates, of so many records from one on, are written; then the frame starts again.
+fn flush_if(
+    flushed: bool,
+    w: Used,
+    nodes: &mut [u32],
+    operations: &mut [u32],
+    frame: &mut [u32],
+    n: usize,
+    gates: &[u32],
+    from: usize,
+    count: usize,
+) -> Used
+    requires { ⌜ (flushed ≡ true → FlushReady n (gatesOver (now gates) from count) (w .nodes) (now nodes) (w .operations) (now operations)) ⌝ }
+    requires { ⌜ (from + count ≤ length (now gates) / 4) × (n ≤ 256) × (2 * n ≤ length (now frame)) ⌝ }
+    ensures { λ r. ⌜ FlushedIf flushed n (gatesOver (now (gates .entry)) from count) (w .nodes) (now (nodes .entry)) (now (frame .entry)) (w .operations) (now (operations .entry)) (r .nodes) (now (nodes .exit)) (now (frame .exit)) (r .operations) (now (operations .exit)) ⌝ }
+{
+    if !flushed {
+        return w;
+    }
+    start_frame(frame, n as u32);
+    flush_records(w, nodes, operations, n, gates, from, count)
+}
+
+/// The nodes, operations and measurements of a circuit.
+pub struct Written {
+    pub nodes: u32,
+    pub operations: u32,
+    pub measurements: u32,
+}
+
+// The place of the last flush.
+fn later(flushed: bool, i: usize, place: usize) -> usize
+    ensures { λ r. ⌜ r ≡ cond flushed i place ⌝ }
+{
+    if flushed {
+        return i;
+    }
+    place
+}
+
+// The measurements that a record gives.
+fn measures(kind: GateKind) -> u32
+    ensures { λ r. ⌜ r ≡ measuresOf kind ⌝ }
+{
+    if kind.arity() == 4 {
+        return 1;
+    }
+    0
+}
+
+// The whole list, where the nodes and the frame are those of the start and the needs fit.
+pub(crate) fn write_records(
+    nodes: &mut [u32],
+    operations: &mut [u32],
+    frame: &mut [u32],
+    planes: &mut [u64],
+    n: usize,
+    l: usize,
+    cap: Cap,
+    gates: &[u32],
+) -> Written
+    requires { ⌜ Fits n (now gates) ⌝ }
+    requires { ⌜ Room n cap (now gates) (now nodes) (now operations) ⌝ }
+    requires { ⌜ (l ≡ partWords n) × (isCapped cap ≡ true → (n + n) * (l + l) ≤ length (now planes)) × (n ≤ 256) × (length (now gates) ≤ 262144) × (n + n ≤ length (now frame)) ⌝ }
+    requires { ⌜ (now nodes ≡ overlay (startNodes n) (now nodes)) × (now frame ≡ overlay (startFrame n) (now frame)) ⌝ }
+    ensures { λ r. ⌜ (r .nodes ≡ wordsLast n cap (now (gates .entry)) .arena .count) × (r .operations ≡ length (wordsLast n cap (now (gates .entry)) .ops)) × (r .measurements ≡ plainLast n cap (now (gates .entry)) .given) ⌝ }
+    ensures { λ r. ⌜ now (nodes .exit) ≡ overlay (wordsLast n cap (now (gates .entry)) .arena .nodes) (now (nodes .entry)) ⌝ }
+    ensures { λ r. ⌜ now (operations .exit) ≡ overlay (flat (wordsLast n cap (now (gates .entry)) .ops)) (now (operations .entry)) ⌝ }
+    ensures { λ r. ⌜ now (frame .exit) ≡ overlay (wordsLast n cap (now (gates .entry)) .arena .frame) (now (frame .entry)) ⌝ }
+    ensures { λ r. ⌜ now (planes .exit) ≡ planesFor cap n (plainLast n cap (now (gates .entry)) .table) (now (planes .entry)) ⌝ }
+    ensures { λ r. ⌜ (length (wordsLast n cap (now (gates .entry)) .arena .nodes) ≡ 2 * wordsLast n cap (now (gates .entry)) .arena .count) × (length (wordsLast n cap (now (gates .entry)) .arena .frame) ≡ n + n) ⌝ }
+{
+    prepare(planes, n, l, cap);
+    let count = gates.len() / 4;
+    let mut w = made(1 + 2 * (n as u32), 0);
+    let mut given: u32 = 0;
+    let mut place: usize = 0;
+    let mut i: usize = 0;
+    while i < count {
+        let kind = kind_at(gates, i);
+        let a = operand_at(gates, i, 1);
+        let b = operand_at(gates, i, 2);
+        let d = operand_at(gates, i, 3);
+        let flushed = decide(planes, n, l, cap, kind, a, b, d);
+        let w1 = flush_if(
+            flushed,
+            w,
+            nodes,
+            operations,
+            frame,
+            n,
+            gates,
+            place,
+            i - place,
+        );
+        let c = frame_record(w1.nodes, nodes, frame, n, kind, a, b);
+        let w2 = made(c, w1.operations);
+        w = write_record(w2, given, nodes, operations, frame, n, kind, a, b, d);
+        given = given + measures(kind);
+        place = later(flushed, i, place);
+        i += 1;
+    }
+    Written {
+        nodes: w.nodes,
+        operations: w.operations,
+        measurements: given,
+    }
+}
