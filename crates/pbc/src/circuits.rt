@@ -1,7 +1,5 @@
 //! The commands that make a circuit current with all its words.
 
-pub mod conversion;
-
 use crate::buffers::FRAME;
 use crate::buffers::NODES;
 use crate::buffers::OPERATIONS;
@@ -30,7 +28,13 @@ pub enum Circuit {
 }
 
 // `new N CBITS`
-fn new(state: State, line: Line, words: &[u32], nodes: &mut [u32], frame: &mut [u32]) -> Reply {
+pub(crate) fn new(
+    state: State,
+    line: Line,
+    words: &[u32],
+    nodes: &mut [u32],
+    frame: &mut [u32],
+) -> Reply {
     if !line.has(2) {
         return state.bad();
     }
@@ -52,7 +56,7 @@ fn new(state: State, line: Line, words: &[u32], nodes: &mut [u32], frame: &mut [
 }
 
 // The three lists of a `store`: where each begins among the numbers of its line, and how many words it has.
-struct Lists {
+pub(crate) struct Lists {
     // The counts fit the buffers and the line.
     fine: bool,
     nodes: usize,
@@ -120,7 +124,7 @@ fn store_words(
 }
 
 // `store N CBITS MEASUREMENTS`, then the three lists, each with its count in front
-fn store(
+pub(crate) fn store(
     state: State,
     line: Line,
     words: &[u32],

@@ -3,7 +3,7 @@
 use crate::builder;
 use crate::builder::Build;
 use crate::circuits::Circuit;
-use crate::circuits::conversion;
+use crate::conversion;
 use crate::fill;
 use crate::line::Line;
 use crate::names;

@@ -1,8 +1,6 @@
 //! A line of input, read byte by byte: a command's name, then numbers, or a buffer's name and numbers, with spaces between them.
 //! Numbers below 2^32 go to a lent slice. No command has more than one number of another range, so that one is kept in the line.
 
-pub mod input;
-
 use crate::buffers::put_word;
 use crate::buffers::wide_at;
 use crate::names::NO_NAME;
@@ -107,7 +105,7 @@ impl Line {
     }
 
     // The line with one byte more, which is no line feed.
-    fn with_byte(self, byte: u8, words: &mut [u32]) -> Line {
+    pub(crate) fn with_byte(self, byte: u8, words: &mut [u32]) -> Line {
         if self.bad {
             return self;
         }
@@ -218,7 +216,7 @@ impl Line {
     }
 
     // The line where the name or number being read has ended.
-    fn ended(self, words: &mut [u32]) -> Line {
+    pub(crate) fn ended(self, words: &mut [u32]) -> Line {
         let token = self.token;
         if token == NUMBER {
             return self.number_ended(words);

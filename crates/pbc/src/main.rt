@@ -1,16 +1,20 @@
 //! The command `pbc`: one command of the library a line on standard input, one answer a line on standard output.
 //! All memory is made here, once, and lent.
 
+mod answers;
 mod buffers;
 mod builder;
 mod circuits;
 mod commands;
+mod conversion;
 mod fill;
+mod input;
 mod line;
 mod names;
 mod output;
 mod plain;
 mod readers;
+mod session;
 mod state;
 
 use buffers::CHUNK;
@@ -22,7 +26,7 @@ use buffers::OPERATIONS;
 use buffers::PLANES;
 use buffers::POOL;
 use buffers::SCRATCH;
-use line::input::session::run;
+use session::run;
 
 fn main() {
     let mut input = [0u8; CHUNK];

@@ -1,8 +1,6 @@
 //! Answers are gathered in a lent buffer, which is written to standard output when it is full and at the end.
 //! Each function takes how many bytes stand there, and answers how many do afterwards.
 
-pub mod answers;
-
 use libc::STDOUT_FILENO;
 
 // A full buffer is written, and begins again.
@@ -23,7 +21,7 @@ fn put(out: &mut [u8], at: usize, byte: u8) -> usize {
     to
 }
 
-fn text(out: &mut [u8], at: usize, bytes: &[u8]) -> usize {
+pub(crate) fn text(out: &mut [u8], at: usize, bytes: &[u8]) -> usize {
     let mut to = at;
     let mut i = 0;
     while i < bytes.len() {
@@ -33,12 +31,12 @@ fn text(out: &mut [u8], at: usize, bytes: &[u8]) -> usize {
     to
 }
 
-fn line_end(out: &mut [u8], at: usize) -> usize {
+pub(crate) fn line_end(out: &mut [u8], at: usize) -> usize {
     put(out, at, 10)
 }
 
 // A space and the number.
-fn number(out: &mut [u8], at: usize, n: u64) -> usize {
+pub(crate) fn number(out: &mut [u8], at: usize, n: u64) -> usize {
     let mut digits = [0u8; 20];
     let k = io::decimal(n, &mut digits);
     let to = put(out, at, 32);
@@ -46,12 +44,12 @@ fn number(out: &mut [u8], at: usize, n: u64) -> usize {
 }
 
 // A space and the word.
-fn word(out: &mut [u8], at: usize, n: u32) -> usize {
+pub(crate) fn word(out: &mut [u8], at: usize, n: u32) -> usize {
     number(out, at, n as u64)
 }
 
 // Every word with a space before it.
-fn words(out: &mut [u8], at: usize, list: &[u32]) -> usize {
+pub(crate) fn words(out: &mut [u8], at: usize, list: &[u32]) -> usize {
     let mut to = at;
     let mut i = 0;
     while i < list.len() {
@@ -62,7 +60,7 @@ fn words(out: &mut [u8], at: usize, list: &[u32]) -> usize {
 }
 
 // The same of 64-bit words.
-fn wide_words(out: &mut [u8], at: usize, list: &[u64]) -> usize {
+pub(crate) fn wide_words(out: &mut [u8], at: usize, list: &[u64]) -> usize {
     let mut to = at;
     let mut i = 0;
     while i < list.len() {
@@ -77,7 +75,7 @@ fn small(out: &mut [u8], at: usize, n: u8) -> usize {
 }
 
 // The same of bytes.
-fn bytes(out: &mut [u8], at: usize, list: &[u8]) -> usize {
+pub(crate) fn bytes(out: &mut [u8], at: usize, list: &[u8]) -> usize {
     let mut to = at;
     let mut i = 0;
     while i < list.len() {

@@ -1,7 +1,5 @@
 //! Standard input, read a chunk at a time and handed out line by line.
 
-pub mod session;
-
 use crate::buffers::byte_part;
 use crate::line::Line;
 use libc::STDIN_FILENO;
@@ -9,7 +7,7 @@ use libc::STDIN_FILENO;
 const LINE_FEED: u8 = 10;
 
 // A proved loop has to end, and nothing says that the input does: a loop counts its turns down from a number that no run uses up.
-const TURNS: u64 = 18446744073709551615;
+pub(crate) const TURNS: u64 = 18446744073709551615;
 
 /// A line, and how far the chunk of input that it ends in was read.
 pub struct Reader {
@@ -25,7 +23,7 @@ pub struct Reader {
 }
 
 // Nothing is read yet.
-fn new_reader() -> Reader {
+pub(crate) fn new_reader() -> Reader {
     Reader {
         line: Line::new(),
         next: 0,
@@ -86,7 +84,7 @@ fn refilled(reader: Reader, input: &mut [u8], words: &mut [u32]) -> Reader {
 }
 
 // The next line, whole; the last counts without its line feed too.
-fn next_line(reader: Reader, input: &mut [u8], words: &mut [u32]) -> Reader {
+pub(crate) fn next_line(reader: Reader, input: &mut [u8], words: &mut [u32]) -> Reader {
     let fresh = Line::new();
     let mut read = read_on(fresh, byte_part(input, 0, reader.count), reader.next, words);
     let mut turns = TURNS;

@@ -1,13 +1,13 @@
 //! The commands of the conversion, and the answer to every command that makes a circuit current.
 
-use super::Circuit;
-use super::new;
-use super::store;
 use crate::buffers::first;
 use crate::buffers::lent;
 use crate::buffers::lent_wide;
 use crate::buffers::rest;
 use crate::buffers::word;
+use crate::circuits::Circuit;
+use crate::circuits::new;
+use crate::circuits::store;
 use crate::line::Line;
 use crate::state::Answer;
 use crate::state::OWNER;

@@ -4,8 +4,8 @@ use Prim.Native.Nat.{_-_}
 use native.Mathlib.Omega.{arith}
 use lib.ListN.{length}
 use borrow.Author.Needs.{needs}
-use Rattle.pbc.proofs.line.input.read_on.Statement.{statement}
-use Rattle.pbc.proofs.line.input.read_on.Tie as tie
+use Rattle.pbc.proofs.input.read_on.Statement.{statement}
+use Rattle.pbc.proofs.input.read_on.Tie as tie
 
 abbrev Inv-loop : tie.InvT-loop
 Inv-loop chunk from words₀ line₀ next₀ words line next = length words ≡ length words₀

@@ -1,17 +1,17 @@
 //! Lines from standard input, each answered in turn.
 
-use super::TURNS;
-use super::new_reader;
-use super::next_line;
+use crate::answers::print;
 use crate::commands::answer;
+use crate::input::TURNS;
+use crate::input::new_reader;
+use crate::input::next_line;
 use crate::line::Line;
-use crate::output::answers::print;
 use crate::state::State;
 use libc::STDOUT_FILENO;
 ghost use Prim.Native.Nat.{_<_};
 
 /// The state, and how many bytes of answers are not yet written.
-struct Session {
+pub(crate) struct Session {
     state: State,
     at: usize,
 }

@@ -3,8 +3,8 @@ use mathlib.Core.Path.{_≡_, refl}
 use Prim.Native.Nat.{_-_}
 use native.Mathlib.Omega.{arith}
 use lib.ListN.{length}
-use Rattle.pbc.proofs.output.answers.kinds_of.Statement.{statement}
-use Rattle.pbc.proofs.output.answers.kinds_of.Tie as tie
+use Rattle.pbc.proofs.answers.kinds_of.Statement.{statement}
+use Rattle.pbc.proofs.answers.kinds_of.Tie as tie
 
 abbrev Inv-loop : tie.InvT-loop
 Inv-loop out₀ at h operations count to₀ k₀ out to k = length out ≡ length out₀

@@ -2,8 +2,8 @@
 use mathlib.Core.Path.{_≡_, refl}
 use native.Mathlib.Omega.{arith}
 use lib.ListN.{length}
-use Rattle.pbc.proofs.line.input.next_line.Statement.{statement}
-use Rattle.pbc.proofs.line.input.next_line.Tie as tie
+use Rattle.pbc.proofs.input.next_line.Statement.{statement}
+use Rattle.pbc.proofs.input.next_line.Tie as tie
 
 abbrev Inv-loop : tie.InvT-loop
 Inv-loop input₀ words₀ read₀ turns₀ input words read turns = (length input ≡ length input₀) × (length words ≡ length words₀)

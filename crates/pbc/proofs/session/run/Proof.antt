@@ -1,8 +1,8 @@
 -- `run` is safe and ends: its turns are counted down.
 use mathlib.Core.Path.{_≡_, refl, _∙_}
 use lib.ListN.{length}
-use Rattle.pbc.proofs.line.input.session.run.Statement.{statement}
-use Rattle.pbc.proofs.line.input.session.run.Tie as tie
+use Rattle.pbc.proofs.session.run.Statement.{statement}
+use Rattle.pbc.proofs.session.run.Tie as tie
 
 abbrev Inv-loop : tie.InvT-loop
 Inv-loop input₀ words₀ nodes₀ operations₀ frame₀ planes₀ scratch₀ pool₀ letters₀ out₀ reader₀ session₀ turns₀ input words nodes operations frame planes scratch pool letters out reader session turns =
