@@ -7,9 +7,9 @@ use lib.Dec.{eqb}
 use lib.ListN.{length}
 use Rattle.arena.specs.References.{nodeIn}
 use Rattle.arena.specs.Nodes.{PauliNode, Identity, Single, Product, Malformed}
-use Rattle.arena.specs.Sparse.{Factor, Sparse, size, Rising, Proper}
+use Rattle.arena.specs.Sparse.{Factor, Sparse, size}
 use Rattle.arena.specs.Walk.{rootUses, scan}
-use Rattle.arena.specs.WalkWords.{sum, edge, edges, owed}
+use Rattle.arena.specs.Code.WalkWords.{sum, edge, edges, owed, Rising, Proper}
 use Rattle.arena.proofs.Fitting.{Fits}
 use Rattle.arena.proofs.Uses.{plus-edge, scan-uses}
 

@@ -10,7 +10,7 @@ use lib.Seq.{drop-cons}
 use Rattle.pauli.proofs.Numbers.{pauliNumber-small}
 use Rattle.arena.specs.Sparse.{Factor, spread}
 use Rattle.arena.specs.Pool.{Who, Chain, nextAt, qubitAt, letterAt}
-use Rattle.arena.specs.WalkWords.{bytes, lettersWritten, CellReady, CellRead, ShowReady}
+use Rattle.arena.specs.Code.WalkWords.{bytes, lettersWritten, CellReady, CellRead, ShowReady}
 
 -- a chain that is not at its end
 pub record CellSafe (p : List ℕ) (a : ℕ) : Type 0 where

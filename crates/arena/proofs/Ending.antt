@@ -13,7 +13,7 @@ use Rattle.arena.specs.References.{nodeIn}
 use Rattle.arena.specs.Nodes.{PauliNode, Identity, Single, Product, Malformed, nodeAt}
 use Rattle.arena.specs.Sparse.{empty, one, size}
 use Rattle.arena.specs.Walk.{Out, fine, update, State, rootUses, scan, worked, lent, less, finish, giveBack, release, begin, Walked, combine, evalNode, evalUnless, eval, showRoots, walkNodes, Named}
-use Rattle.arena.specs.WalkWords.{sum, edge, edges, owed, kept, none, Inv}
+use Rattle.arena.specs.Code.WalkWords.{sum, edge, edges, owed, kept, none, Inv}
 use Rattle.arena.proofs.Outcomes.{Order, below, same, above, order, update-other, update-keeps, Post, post-bind, post-map, post-fine, post-and, charge-then, lend-then}
 use Rattle.arena.proofs.Fitting.{Fits, node-fits}
 use Rattle.arena.proofs.Sums.{sum-zero}

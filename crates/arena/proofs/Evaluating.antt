@@ -10,9 +10,9 @@ use Rattle.pauli.specs.Rows.{_★_, identity}
 use Rattle.arena.specs.Types.{Pauli}
 use Rattle.arena.specs.References.{nodeIn, phaseIn}
 use Rattle.arena.specs.Nodes.{PauliNode, Identity, Single, Product, Malformed, rowOf, rowsTo}
-use Rattle.arena.specs.Sparse.{Sparse, empty, one, turned, size, multiply, Proper, dense}
+use Rattle.arena.specs.Sparse.{Sparse, empty, one, turned, size, multiply, dense}
 use Rattle.arena.specs.Walk.{Out, State, worked, lent, less, finish, Taken, takeAs, takeUse, combine, evalNode, evalUnless, eval}
-use Rattle.arena.specs.WalkWords.{edge, edges, none, Right, Inv}
+use Rattle.arena.specs.Code.WalkWords.{edge, edges, none, Right, Inv, Proper}
 use Rattle.arena.proofs.Reading.{row-is}
 use Rattle.arena.proofs.Outcomes.{update-same, update-other, update-keeps, suc-of, Post, post-bind, post-map, charge-then, lend-then}
 use Rattle.arena.proofs.Fitting.{Fits, fits-older}

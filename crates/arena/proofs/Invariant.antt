@@ -9,9 +9,9 @@ use lib.Dec.{eqb}
 use Rattle.pauli.specs.Rows.{scaled}
 use Rattle.arena.specs.References.{nodeIn, phaseIn}
 use Rattle.arena.specs.Nodes.{PauliNode, imageIn, rowsTo}
-use Rattle.arena.specs.Sparse.{Sparse, turned, size, Proper, dense}
+use Rattle.arena.specs.Sparse.{Sparse, turned, size, dense}
 use Rattle.arena.specs.Walk.{update, State, worked, less, finish}
-use Rattle.arena.specs.WalkWords.{pend, kept, stand, none, Right, Inv, sum, edge, edges, owed}
+use Rattle.arena.specs.Code.WalkWords.{pend, kept, stand, none, Right, Inv, sum, edge, edges, owed, Proper}
 use Rattle.arena.proofs.Outcomes.{update-same, update-other}
 use Rattle.arena.proofs.Merging.{dense-turned}
 use Rattle.arena.proofs.Sums.{sum-at, sum-change}

@@ -9,7 +9,7 @@ use lib.Dec.{eqb}
 use lib.ListN.{length, getD, set}
 use lib.Seq.{getD-set-same, getD-set-other}
 use Rattle.arena.specs.Walk.{update}
-use Rattle.arena.specs.WalkWords.{field, Linked}
+use Rattle.arena.specs.Code.WalkWords.{field, Linked}
 
 -- a field written is the function changed at one place
 pub field-set : (l : List ℕ) (c i v j : ℕ) → 4 * i + c < length l → field c (set l (4 * i + c) v) j ≡ update (field c l) i v j

@@ -12,7 +12,7 @@ use Rattle.arena.specs.References.{nodeIn}
 use Rattle.arena.specs.Nodes.{PauliNode, nodeAt, imageIn, rowsTo, values, image}
 use Rattle.arena.specs.Sparse.{Sparse, size, dense}
 use Rattle.arena.specs.Walk.{fine, State, rootUses, scan, worked, less, giveBack, release, begin, eval, showRoots, walkNodes, Answer, walk, Named}
-use Rattle.arena.specs.WalkWords.{none, Inv}
+use Rattle.arena.specs.Code.WalkWords.{none, Inv}
 use Rattle.arena.proofs.Outcomes.{suc-of, Post, post-bind, post-map, post-fine, charge-then}
 use Rattle.arena.proofs.Fitting.{Fits, node-fits}
 use Rattle.arena.proofs.Merging.{size-weight}

@@ -13,8 +13,9 @@ use Rattle.pauli.specs.Rows.{_★_, scaled, identity, single, products, phases,
 use Rattle.pauli.proofs.Finite.{·-I, phaseOf-I}
 use Rattle.pauli.proofs.Rows.{row-eq}
 use Rattle.arena.specs.Types.{Pauli, I, X, Y, Z, Phase, One}
-use Rattle.arena.specs.Sparse.{Factor, Sparse, factor, empty, one, turned, size, withFactor, withLetter, together, mergeOne, merge, multiply, Rising, Proper, spread, dense}
+use Rattle.arena.specs.Sparse.{Factor, Sparse, factor, empty, one, turned, size, withFactor, withLetter, together, mergeOne, merge, multiply, spread, dense}
 use Rattle.arena.proofs.Outcomes.{Order, below, same, above, order}
+use Rattle.arena.specs.Code.WalkWords.{Rising, Proper}
 
 -- rising from a later qubit on
 lower : (lo lo′ hi : ℕ) (fs : List Factor) → lo′ ≤ lo → Rising lo hi fs → Rising lo′ hi fs

@@ -10,7 +10,7 @@ use Rattle.arena.specs.Nodes.{PauliNode, nodeAt}
 use Rattle.arena.specs.Walk.{Out, State, eval}
 use Rattle.arena.specs.Machine.{Spot, step}
 use Rattle.arena.specs.Pool.{Who}
-use Rattle.arena.specs.WalkWords.{valueAt, Marks, none, Inv, Trail, Wanted, Linked, Says, Rep, Stands, Topped, Landed, Started, Rooted}
+use Rattle.arena.specs.Code.WalkWords.{valueAt, Marks, none, Inv, Trail, Wanted, Linked, Says, Rep, Stands, Topped, Landed, Started, Rooted}
 use Rattle.arena.proofs.Outcomes.{post-fine, bind-fine}
 use Rattle.arena.proofs.Fitting.{node-fits}
 use Rattle.arena.proofs.Stepping.{resume, onward, resume-step, eval-done}

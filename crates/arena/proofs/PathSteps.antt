@@ -13,7 +13,7 @@ use Rattle.arena.specs.Sparse.{empty, one}
 use Rattle.arena.specs.Walk.{Out, fine, refused, bind, State, lend, combine, finish}
 use Rattle.arena.specs.Machine.{Spot, spot, stepProduct, stepNode, stepUnless, step}
 use Rattle.arena.specs.Pool.{Who}
-use Rattle.arena.specs.WalkWords.{field, valueAt, packed, Marks, LinksKept, Linked, Trail, Agrees, Says, Rep, Stands, Combining, Making, Topped, Branched, Landed}
+use Rattle.arena.specs.Code.WalkWords.{field, valueAt, packed, Marks, LinksKept, Linked, Trail, Agrees, Says, Rep, Stands, Combining, Making, Topped, Branched, Landed}
 use Rattle.arena.proofs.Fitting.{Fits, node-fits}
 use Rattle.arena.proofs.Links.{Rises, linked-push}
 use Rattle.arena.proofs.ScratchWords.{uses-set, marks-packed, marked, unmarked}

@@ -6,8 +6,9 @@ use native.Mathlib.Omega.{arith}
 use lib.ListN.{length, set, length-set}
 use lib.Seq.{getD-set-same}
 use Rattle.arena.specs.Pool.{spare, Lendable, Free}
-use Rattle.arena.specs.PoolSteps.{capOf, AllFree}
+use Rattle.arena.specs.PoolSteps.{AllFree}
 use Rattle.arena.proofs.PoolLaws.{Step, put, one-place, counted-step, free-step}
+use Rattle.arena.specs.Limits.{capOf}
 
 -- the records below k are threaded: record r is the r-th of the free list from its end
 pub record Threading (p₀ : List ℕ) (cap : ℕ) (p : List ℕ) (k : ℕ) : Type 0 where

@@ -9,7 +9,19 @@ use lib.Dec.{eqb}
 use borrow.Author.Tests.{eq-eqb, ne-eqb}
 use mathlib.Core.Bool.{cond}
 use Rattle.arena.specs.Sparse.{Factor}
-use Rattle.arena.specs.Pool.{Owner, loose, spare, held, Who, nextAt, qubitAt, letterAt, Lendable, Holds, Chain, Free, Made}
+use Rattle.arena.specs.Pool.{Owner, loose, spare, held, Who, nextAt, qubitAt, letterAt, Lendable, Holds, Chain, Free}
+
+-- e is the last record of a chain that is being made, whose first record is record 0's next: its factors, the last first, fall from below hi.
+-- Record 0, which is never lent, stands before the first; what e's next is, this does not say
+abbrev pub Made : List ℕ → Who → ℕ → ℕ → ℕ → List Factor → Type 0
+Made p who t hi e [] = e ≡ 0
+Made p who t hi e (f ∷ fs) =
+    Holds p who t f e × (f .qubit < hi) × ((d : ℕ) × (nextAt p d ≡ e) × Made p who t (f .qubit) d fs)
+
+-- rs, reversed, before fs
+abbrev pub onto : List Factor → List Factor → List Factor
+onto [] fs = fs
+onto (r ∷ rs) fs = onto rs (r ∷ fs)
 
 -- ---- one record changes
 

@@ -17,10 +17,11 @@ use Rattle.pauli.specs.Letters.{numberProduct, power, phaseOf, phaseNumber, pau
 use Rattle.arena.specs.Types.{Phase, One}
 use Rattle.arena.specs.Sparse.{Factor, Sparse, factor, merge, withFactor, turned, together}
 use Rattle.arena.proofs.PoolLetters.{of-number, number-power, power-one, power-times, together-none, together-some, third-some}
-use Rattle.arena.specs.Pool.{loose, spare, held, Who, nextAt, qubitAt, letterAt, Lendable, Holds, Chain, Free, Made, onto}
-use Rattle.arena.specs.PoolSteps.{Operands, Multiplied, attached, headOf, Meeting, Turn, keptTurn, third, turnBy, metTurn, metPool, mergeTurn, mergePool}
-use Rattle.arena.proofs.PoolLaws.{Step, put, upd, upd-same, upd-other, no-mix, one-tag, counted-step, chain-step, free-step}
+use Rattle.arena.specs.Pool.{loose, spare, held, Who, nextAt, qubitAt, letterAt, Lendable, Holds, Chain, Free}
+use Rattle.arena.specs.PoolSteps.{Operands, Multiplied}
+use Rattle.arena.proofs.PoolLaws.{Step, put, upd, upd-same, upd-other, no-mix, one-tag, counted-step, chain-step, free-step, Made, onto}
 use Rattle.arena.proofs.PoolParts.{Job, Parts, swap, of-loose, append, push, detach, close, chain-lower, chain-own, free-own, retag, retag-same, retag-other, retag-spare, made-put, made-own, last-held, last-room, LastHeld, free-low, chain-low, last-low, last-fits}
+use Rattle.arena.specs.Code.Turns.{attached, headOf, Meeting, keptTurn, third, turnBy, metTurn, metPool, mergeTurn, mergePool, Turn}
 
 -- ---- the merge, one factor at a time
 

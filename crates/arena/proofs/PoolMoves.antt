@@ -10,10 +10,11 @@ use mathlib.Core.Logic.{_≢_}
 use Rattle.pauli.specs.Letters.{pauliNumber}
 use Rattle.arena.specs.Types.{I}
 use Rattle.arena.specs.Sparse.{Factor}
-use Rattle.arena.specs.Pool.{loose, held, Who, nextAt, qubitAt, letterAt, Lendable, Holds, Chain, Free, onto}
-use Rattle.arena.specs.PoolSteps.{Lender, Lent, Source, Copied, Holding, GivenBack, Usable, Used, attached, headOf}
-use Rattle.arena.proofs.PoolLaws.{Step, put, upd, upd-same, give, both, no-mix, one-tag, counted-step, chain-step, free-step}
+use Rattle.arena.specs.Pool.{loose, held, Who, nextAt, qubitAt, letterAt, Lendable, Holds, Chain, Free}
+use Rattle.arena.specs.PoolSteps.{Lender, Lent, Source, Copied, Holding, GivenBack, Usable, Used}
+use Rattle.arena.proofs.PoolLaws.{Step, put, upd, upd-same, give, both, no-mix, one-tag, counted-step, chain-step, free-step, onto}
 use Rattle.arena.proofs.PoolParts.{Job, Parts, of-loose, append, push, pop, detach, advance, close, made-put, last-held, last-room, LastHeld, chain-own, free-own, retag, retag-same, retag-other, retag-spare, free-low, last-low, last-fits}
+use Rattle.arena.specs.Code.Turns.{attached, headOf}
 
 -- a record whose qubit and letter are written
 module _ (p : List ℕ) (x q l : ℕ) where

@@ -12,10 +12,11 @@ use Rattle.pauli.specs.Letters.{_·_}
 use Rattle.arena.specs.Types.{Pauli, I, X, Y, Z}
 use Rattle.arena.specs.Sparse.{Factor, Sparse, withFactor, withLetter, together, mergeOne, merge}
 use Rattle.arena.specs.Pool.{Who, spare, Lendable, Chain, Free}
-use Rattle.arena.specs.PoolSteps.{Lender, Source, Usable, Holding, Operands, capOf}
+use Rattle.arena.specs.PoolSteps.{Lender, Source, Usable, Holding, Operands}
 use Rattle.arena.specs.PoolRuns.{Held, World, factorsHeld, Fresh, Without, Singles, Copies, Uses, Moves, GivesBack, Multiplies, Does, singles, copies, uses, moves, givesBack, multiplies, Begins, Run, lentBy, backBy, lentIn, backIn, Once, InChain, InFree}
 use Rattle.arena.proofs.PoolApart
 use Rattle.arena.proofs.PoolApart.{apart, not-free, chain-once, free-once, chain-counted}
+use Rattle.arena.specs.Limits.{capOf}
 
 -- every chain stands
 abbrev pub Each : List ℕ → Who → List Held → Type 0

@@ -19,13 +19,13 @@ use Rattle.arena.specs.Store.{Header, breaksLimit, exceedsNodes}
 use Rattle.arena.specs.Sparse.{Factor, Sparse, spread, dense}
 use Rattle.arena.specs.Walk.{Out, fine, refused, bind, Walked, walkNodes, answerOf, walk}
 use Rattle.arena.specs.Readers.{firstOf, Expanded, expandWalk, hermitianWalk}
-use Rattle.arena.specs.PoolSteps.{capOf, cleared}
-use Rattle.arena.specs.WalkWords.{Says, Ready, Showing, ShowReady, bytes, lettersWritten}
-use Rattle.arena.specs.Expansion.{expansionOf, ExpansionMade, isMalformed, anyMalformed, badNodes, lettersLeft, scratchLeft, expandCheck, hermitianCheck}
-use Rattle.arena.specs.Roots.{Fit, walkError}
+use Rattle.arena.specs.Code.WalkWords.{Says, Ready, Showing, ShowReady, bytes, lettersWritten}
+use Rattle.arena.specs.Expansion.{expansionOf, ExpansionMade, isMalformed, anyMalformed, badNodes, lettersLeft, scratchLeft, expandCheck, hermitianCheck, cleared}
+use Rattle.arena.specs.Code.Roots.{Fit, walkError}
 use Rattle.arena.proofs.Accepted.{passed-before, test-passed, left-false, right-false, Sound, sound, own}
 use Rattle.arena.proofs.Refusing.{known-walk, refused-as}
 use Rattle.arena.proofs.WalkMoves.{agrees-fine}
+use Rattle.arena.specs.Limits.{capOf}
 
 -- ---- what passed the checks
 

@@ -10,8 +10,8 @@ use Rattle.arena.specs.References.{nodeIn, phaseIn}
 use Rattle.arena.specs.Nodes.{PauliNode, Identity, Single, Product, Malformed}
 use Rattle.arena.specs.Sparse.{Sparse, turned, size}
 use Rattle.arena.specs.Walk.{Out, fine, refused, bind, State, rootUses, scan, worked, lent, charge, lend, less, begin, release, takeAs, takeUse, combine, evalNode, evalUnless, eval, showRoots, walkNodes}
-use Rattle.arena.specs.WalkWords.{Says}
-use Rattle.arena.specs.Roots.{showRoot, walkError}
+use Rattle.arena.specs.Code.WalkWords.{Says}
+use Rattle.arena.specs.Code.Roots.{showRoot, walkError}
 use Rattle.arena.proofs.WalkMoves.{agrees-refused}
 
 abbrev pub Known : {A : Type 0} → Out A → Type 0

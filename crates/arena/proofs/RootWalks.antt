@@ -14,9 +14,9 @@ use Rattle.arena.specs.Nodes.{PauliNode, nodeAt}
 use Rattle.arena.specs.Sparse.{Sparse, turned, size}
 use Rattle.arena.specs.Walk.{Out, fine, refused, bind, update, State, Walked, rootUses, scan, worked, charge, less, giveBack, release, eval, showRoots, begin, walkNodes}
 use Rattle.arena.specs.Pool.{spare, Free}
-use Rattle.arena.specs.PoolSteps.{AllFree, capOf, Holding, GivenBack}
-use Rattle.arena.specs.WalkWords.{Inv, none, kept, usesAt, withUse, valueAt, headIn, countIn, turnIn, Marks, ValuesKept, Counting, CountedUp, Agrees, Says, Stands, Walking, Rooted, Ready, Showing}
-use Rattle.arena.specs.Roots.{Rootable, tallyOf, Begun, showRoot, RootShown, Releasable, Released}
+use Rattle.arena.specs.PoolSteps.{AllFree, Holding, GivenBack}
+use Rattle.arena.specs.Code.WalkWords.{Inv, none, kept, usesAt, withUse, valueAt, headIn, countIn, turnIn, Marks, ValuesKept, Counting, CountedUp, Agrees, Says, Stands, Walking, Rooted, Ready, Showing}
+use Rattle.arena.specs.Code.Roots.{Rootable, tallyOf, Begun, showRoot, RootShown, Releasable, Released}
 use Rattle.arena.proofs.Outcomes.{post-fine, bind-assoc, update-same}
 use Rattle.arena.proofs.Fitting.{node-fits}
 use Rattle.arena.proofs.Bounds.{roots-few}
@@ -29,6 +29,7 @@ use Rattle.arena.proofs.ScratchWords.{length-use, use-value}
 use Rattle.arena.proofs.UsesInWords.{uses-plus}
 use Rattle.arena.proofs.WalkMoves.{word-sum, agrees-fine, agrees-refused, less-rep}
 use Rattle.arena.proofs.WalkProducts.{agrees-at}
+use Rattle.arena.specs.Limits.{capOf}
 
 pub zero-at : (n k : ℕ) → _≡_ {A = ℕ} (getD (replicate n 0) k 0) 0
 zero-at zero k = refl

@@ -9,7 +9,7 @@ use Rattle.arena.specs.References.{nodeIn}
 use Rattle.arena.specs.Nodes.{PauliNode, Identity, Single, Product, Malformed}
 use Rattle.arena.specs.Walk.{fine, bind, update, State, combine, eval}
 use Rattle.arena.specs.Machine.{Spot, spot, stepProduct, stepNode, stepUnless, step, run}
-use Rattle.arena.specs.WalkWords.{Trail, Wanted, sum, edge, edges, none, Inv}
+use Rattle.arena.specs.Code.WalkWords.{Trail, Wanted, sum, edge, edges, none, Inv}
 use Rattle.arena.proofs.Outcomes.{update-same, update-other, Post, post-bind, bind-fine, bind-cong, lend-then}
 use Rattle.arena.proofs.Fitting.{Fits}
 use Rattle.arena.proofs.Sums.{sum-change}

@@ -13,7 +13,7 @@ use Rattle.pauli.specs.Letters.{pauliOf, phaseNumber}
 use Rattle.arena.specs.References.{nodeIn}
 use Rattle.arena.specs.Nodes.{PauliNode, Identity, Single, Product, Malformed, decodeAs, decode, nodeAt}
 use Rattle.arena.specs.Sparse.{Sparse, size}
-use Rattle.arena.specs.WalkWords.{field, usesAt, withUse, valueAt, packed, headIn, countIn, turnIn, Marks, LinksKept, ValuesKept}
+use Rattle.arena.specs.Code.WalkWords.{field, usesAt, withUse, valueAt, packed, headIn, countIn, turnIn, Marks, LinksKept, ValuesKept}
 use Rattle.arena.proofs.Reading.{both-true}
 
 -- ---- uses

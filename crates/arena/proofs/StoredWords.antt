@@ -9,7 +9,8 @@ use lib.Dec.{eqb, ltb}
 use lib.ListN.{length, getD}
 use Rattle.pauli.specs.Angle.{eighthsOf}
 use Rattle.arena.specs.Operations.{PbcOp, Rotate, Measure, ConditionalRotate, Malformed, NoKind, Pi8, Clifford, angleKind, axisKind}
-use Rattle.arena.specs.Expansion.{weighedOf, countsClifford}
+use Rattle.arena.specs.Expansion.{weighedOf}
+use Rattle.arena.specs.Code.Roots.{countsClifford}
 
 pub past-end : (ws : List ℕ) (i : ℕ) → length ws ≤ i → 0 ≡ getD ws i 0
 past-end [] i h = refl

@@ -20,7 +20,6 @@ use Rattle.arena.specs.Readers.{Expanded, expandWalk, hermitianWalk, Wei
 use Rattle.arena.specs.Stats.{Within, Refused, workAfter, answerOf}
 use Rattle.arena.specs.Calls.{Call, Slices, checked, after, KeptSlices}
 use Rattle.arena.specs.Pool.{Lendable}
-use Rattle.arena.specs.PoolSteps.{capOf}
 use Rattle.arena.specs.PoolRuns.{Held, World, factorsHeld, Without, Run, lentIn, backIn, Once, InChain, InFree}
 use Rattle.arena.proofs.Reading
 use Rattle.arena.proofs.Answers
@@ -32,6 +31,7 @@ use Rattle.arena.proofs.Ending
 use Rattle.arena.proofs.Reports
 use Rattle.arena.proofs.Charging
 use Rattle.arena.proofs.PoolSafe
+use Rattle.arena.specs.Limits.{capOf}
 
 -- ---- demand 1, for the calls of this crate
 

@@ -9,7 +9,7 @@ use lib.Dec.{eqb}
 use Rattle.arena.specs.References.{nodeIn}
 use Rattle.arena.specs.Nodes.{PauliNode, Identity, Single, Product, Malformed}
 use Rattle.arena.specs.Walk.{plusOne, childUses, scanNode, scan}
-use Rattle.arena.specs.WalkWords.{edge, edges, owed, sum}
+use Rattle.arena.specs.Code.WalkWords.{edge, edges, owed, sum}
 use Rattle.arena.proofs.Fitting.{Fits}
 
 pub owed-reached : (u k : ℕ) → 0 < u → owed false u k ≡ k

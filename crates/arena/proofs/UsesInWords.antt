@@ -10,7 +10,7 @@ use lib.ListN.{length, getD}
 use Rattle.arena.specs.References.{nodeIn}
 use Rattle.arena.specs.Nodes.{PauliNode, Product, nodeAt}
 use Rattle.arena.specs.Walk.{plusOne, childUses, scan, scanNode}
-use Rattle.arena.specs.WalkWords.{usesAt, withUse, ValuesKept, visit, oneIf, Uses, Visiting, Visited, Counting, CountedUp}
+use Rattle.arena.specs.Code.WalkWords.{usesAt, withUse, ValuesKept, visit, oneIf, Uses, Visiting, Visited, Counting, CountedUp}
 use Rattle.arena.proofs.Fitting.{Fits, node-fits}
 use Rattle.arena.proofs.Uses.{plus-edge, child-edges}
 use Rattle.arena.proofs.Bounds.{edge-few, edges-few}

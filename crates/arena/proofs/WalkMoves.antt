@@ -17,7 +17,7 @@ use Rattle.arena.specs.Sparse.{Factor, Sparse, size}
 use Rattle.arena.specs.Walk.{Out, fine, refused, update, State, Taken, takeUse}
 use Rattle.arena.specs.Pool.{Who, Chain, Free}
 use Rattle.arena.specs.PoolSteps.{Source, Copied}
-use Rattle.arena.specs.WalkWords.{usesAt, withUse, valueAt, headIn, countIn, turnIn, Marks, Agrees, Rep, Takeable, TookRep}
+use Rattle.arena.specs.Code.WalkWords.{usesAt, withUse, valueAt, headIn, countIn, turnIn, Marks, Agrees, Rep, Takeable, TookRep}
 use Rattle.arena.proofs.Outcomes.{update-same, update-other}
 use Rattle.arena.proofs.PoolLetters.{number-power}
 use Rattle.arena.proofs.PoolParts.{chain-own, free-own, retag, retag-same, retag-other, retag-spare}

@@ -12,11 +12,11 @@ use Rattle.arena.specs.Types.{Pauli}
 use Rattle.arena.specs.Errors.{PbcError}
 use Rattle.arena.specs.References.{nodeIn}
 use Rattle.arena.specs.Nodes.{PauliNode, nodeAt}
-use Rattle.arena.specs.Sparse.{Sparse, factor, size, multiply, merge, one, Proper}
+use Rattle.arena.specs.Sparse.{Sparse, factor, size, multiply, merge, one}
 use Rattle.arena.specs.Walk.{Out, fine, refused, bind, State, Taken, charge, lend, takeUse, combine, finish}
 use Rattle.arena.specs.Pool.{Chain, Free}
 use Rattle.arena.specs.PoolSteps.{Operands, Multiplied, Lender, Lent}
-use Rattle.arena.specs.WalkWords.{edge, edges, none, packed, Agrees, Says, Stands, Takeable, TookRep, Walking, Combining, Making}
+use Rattle.arena.specs.Code.WalkWords.{edge, edges, none, packed, Agrees, Says, Stands, Takeable, TookRep, Walking, Combining, Making, Proper}
 use Rattle.arena.proofs.Outcomes.{post-fine}
 use Rattle.arena.proofs.Fitting.{Fits, node-fits}
 use Rattle.arena.proofs.Merging.{product-proper}

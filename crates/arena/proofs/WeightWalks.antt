@@ -17,10 +17,9 @@ use Rattle.arena.specs.Store.{Header, exceedsOperations, foreign}
 use Rattle.arena.specs.Sparse.{turned, size}
 use Rattle.arena.specs.Walk.{Out, fine, refused, bind, State, Walked, rootUses, scan, charge, begin, release, showRoots, walkNodes, answerOf, walk}
 use Rattle.arena.specs.Readers.{Weighed, Weights, weigh, largest, wordsOf, Report, reportWalk}
-use Rattle.arena.specs.PoolSteps.{capOf}
-use Rattle.arena.specs.WalkWords.{Inv, none, edge, usesAt, withUse, valueAt, Uses, Says, Rooted}
+use Rattle.arena.specs.Code.WalkWords.{Inv, none, edge, usesAt, withUse, valueAt, Uses, Says, Rooted}
 use Rattle.arena.specs.Expansion.{maxWeightsOf, WeightsMade, WeightsRefused, opAt, isBadOp, anyBadOp, badNodes, weighedOf, axesTo, reportCheck}
-use Rattle.arena.specs.Roots.{Rootable, Begun, showRoot, RootShown, Releasable, Released, walkError, Fit, axisAt, axesOf, AxesNamed, Countable, AxesCounted, weighRoots, weightsOf, Resting, Weighing}
+use Rattle.arena.specs.Code.Roots.{Rootable, Begun, showRoot, RootShown, Releasable, Released, walkError, Fit, axisAt, axesOf, AxesNamed, Countable, AxesCounted, weighRoots, weightsOf, Resting, Weighing}
 use Rattle.arena.proofs.Outcomes.{bind-assoc}
 use Rattle.arena.proofs.Fitting.{node-fits}
 use Rattle.arena.proofs.Uses.{plus-edge}
@@ -33,6 +32,7 @@ use Rattle.arena.proofs.RootWalks.{zero-at, release-work, show-first, r
 use Rattle.arena.proofs.Accepted.{passed-before, test-passed, left-false, right-false, own}
 use Rattle.arena.proofs.Refusing.{known-charge, known-root, refused-as}
 use Rattle.arena.proofs.ReaderWalks.{Walkable, walkable}
+use Rattle.arena.specs.Limits.{capOf}
 
 -- ---- the axes from the front
 

@@ -6,18 +6,21 @@ use lib.Dec.{ltb, eqb}
 use lib.ListN.{length, getD, replicate, drop}
 use Rattle.pauli.specs.Letters.{pauliNumber}
 use Rattle.pauli.specs.Angle.{eighthsOf}
-use Rattle.arena.specs.Limits.{operationWords}
+use Rattle.arena.specs.Limits.{operationWords, capOf}
 use Rattle.arena.specs.Errors.{BadStore, ForeignPauli, NoScratch, Checked, Fine, Wrong, _⟫_⇒_}
 use Rattle.arena.specs.References.{PauliRef, axisOf}
 use Rattle.arena.specs.Nodes.{PauliNode, Identity, Single, Product, Malformed, nodeAt}
-use Rattle.arena.specs.Operations.{PbcOp, Rotate, Measure, ConditionalRotate, decodeOp, AxisKind, NoKind, Pi8, Clifford, Measurement, Malformed as MalformedOp}
+use Rattle.arena.specs.Operations.{PbcOp, Rotate, Measure, ConditionalRotate, decodeOp, Malformed as MalformedOp}
 use Rattle.arena.specs.Store.{Header, breaksLimit, exceedsNodes, exceedsOperations, foreign, unknown}
-use Rattle.arena.specs.PoolSteps.{capOf, cleared}
 use Rattle.arena.specs.Walk.{Out, fine, refused}
 use Rattle.arena.specs.Readers.{Expanded, expandWalk, hermitianWalk, Weighed, Report, reportWalk}
 pub use Rattle.arena.specs.declared.expansion.Expansion.the-variants.{the-data as Expansion, Made as ExpansionMade, Refused as ExpansionRefused}
 pub use Rattle.arena.specs.declared.expansion.HermitianAxis.the-variants.{the-data as HermitianAxis, Made as HermitianMade, Refused as HermitianRefused}
 pub use Rattle.arena.specs.declared.expansion.MaxAxisWeights.the-variants.{the-data as MaxAxisWeights, Made as WeightsMade, Refused as WeightsRefused}
+
+-- every counted record is zero, and the words after those are as they were
+abbrev pub cleared : List ℕ → List ℕ
+cleared p = replicate (3 * capOf (length p)) 0 ++ drop (3 * capOf (length p)) p
 
 -- ---- the answers of the calls
 
@@ -135,13 +138,6 @@ weighedOf (Rotate x k) = record { word = x .0 .word; clifford = eqb (eighthsOf k
 weighedOf (Measure x m t) = record { word = x .0 .word; clifford = false }
 weighedOf (ConditionalRotate x k m) = record { word = x .0 .word; clifford = eqb (eighthsOf k % 2) 0 }
 weighedOf MalformedOp = record { word = 0; clifford = true }
-
--- the same by the kind of an operation's axis
-abbrev pub countsClifford : AxisKind → Bool
-countsClifford NoKind = true
-countsClifford Pi8 = false
-countsClifford Clifford = true
-countsClifford Measurement = false
 
 -- the axes of the first k operations, in order
 abbrev pub axesTo : (ℕ → PbcOp) → ℕ → List Weighed

@@ -1,5 +1,5 @@
 -- The limits of document 01, and the sizes of what lies in lent words.
-use Prim.Native.Nat.{ℕ}
+use Prim.Native.Nat.{ℕ, _/_, min}
 
 abbrev pub maxQubits : ℕ
 maxQubits = 256
@@ -19,3 +19,7 @@ nodeWords = 2
 
 abbrev pub operationWords : ℕ
 operationWords = 4
+
+-- the records of a pool that count: a third of its words, and at most 65,536
+abbrev pub capOf : ℕ → ℕ
+capOf words = min (words / 3) 65536

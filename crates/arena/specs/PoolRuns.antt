@@ -6,7 +6,8 @@ use Prim.Native.Nat.{ℕ, zero, suc, _+_, _-_, _<_}
 use lib.ListN.{length}
 use Rattle.arena.specs.Sparse.{Factor, merge}
 use Rattle.arena.specs.Pool.{nextAt}
-use Rattle.arena.specs.PoolSteps.{Lender, Lent, Source, Copied, Usable, Used, Holding, GivenBack, Operands, Multiplied, AllFree, capOf}
+use Rattle.arena.specs.PoolSteps.{Lender, Lent, Source, Copied, Usable, Used, Holding, GivenBack, Operands, Multiplied, AllFree}
+use Rattle.arena.specs.Limits.{capOf}
 
 -- a chain that somebody holds: its tag, its first record, its factors
 pub record Held : Type 0 where

@@ -1,8 +1,7 @@
 -- Sparse products (document 01, "Factor pool and work"): a phase, and the letters other than I with their qubits, which rise.
-use mathlib.Core.Logic.{_≢_}
 use mathlib.Core.Bool.{cond}
 use mathlib.Core.List.{List, [], _∷_}
-use Prim.Native.Nat.{ℕ, zero, suc, _≤_, _<_}
+use Prim.Native.Nat.{ℕ, zero, suc}
 use lib.Dec.{ltb, eqb}
 use lib.ListN.{length}
 use Rattle.pauli.specs.Letters.{_⊕_, _·_, phaseOf}
@@ -64,14 +63,6 @@ abbrev pub multiply : Sparse → Sparse → Sparse
 multiply u v = turned (u .phase ⊕ v .phase) (merge (u .factors) (v .factors))
 
 -- ---- what it stands for
-
--- the qubits rise from lo on and stay below hi, and no letter is I
-abbrev pub Rising : ℕ → ℕ → List Factor → Type 0
-Rising lo hi [] = Unit {0}
-Rising lo hi (f ∷ fs) = (lo ≤ f .qubit) × (f .qubit < hi) × (f .pauli ≢ I) × Rising (suc (f .qubit)) hi fs
-
-abbrev pub Proper : ℕ → Sparse → Type 0
-Proper n v = Rising 0 n (v .factors)
 
 -- the letters of the k qubits from `at` on
 abbrev pub spread : ℕ → ℕ → List Factor → List Pauli

@@ -1,5 +1,5 @@
 //! The walk in code: the values of nodes as chains of the pool, made in the order and with the charges of specs/Walk.antt.
-//! What the scratch words stand for: specs/WalkWords.antt.
+//! What the scratch words stand for: specs/Code/WalkWords.antt.
 
 use crate::pool::copy;
 use crate::pool::multiply;
@@ -23,7 +23,7 @@ ghost use Rattle.arena.specs.Nodes.{nodeAt};
 ghost use Rattle.arena.specs.Sparse.{one};
 ghost use Rattle.arena.specs.Walk.{fine, bind, lend, finish, takeUse, combine, eval};
 ghost use Rattle.arena.specs.Machine.{step};
-ghost use Rattle.arena.specs.WalkWords.{LinksKept, Says, Stands, Takeable, TookRep, Combining, Making, Topped, Branched, Started, Landed, Rooted};
+ghost use Rattle.arena.specs.Code.WalkWords.{LinksKept, Says, Stands, Takeable, TookRep, Combining, Making, Topped, Branched, Started, Landed, Rooted};
 
 // ---- values
 

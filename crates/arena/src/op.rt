@@ -4,7 +4,7 @@ use crate::pauli_ref::PauliAxis;
 use crate::pauli_ref::PauliRef;
 use pauli::PauliAngle;
 ghost use mathlib.Core.Path.{_≡_};
-ghost use Rattle.arena.specs.Operations.{measId, targetWord, targetOf, decodeOp, decodeOpAs, angleKind, axisKind};
+ghost use Rattle.arena.specs.Operations.{measId, targetOf, decodeOp, decodeOpAs, angleKind, axisKind};
 
 /// A measurement of one circuit: the owner's number and the measurement's.
 pub struct MeasId(u64, u32);

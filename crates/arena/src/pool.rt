@@ -8,7 +8,10 @@ ghost use lib.ListN.{length, set};
 ghost use Rattle.pauli.specs.Letters.{pauliOf};
 ghost use Rattle.arena.specs.Sparse.{factor};
 ghost use Rattle.arena.specs.Pool.{nextAt, qubitAt, letterAt};
-ghost use Rattle.arena.specs.PoolSteps.{attached, headOf, Meeting, keptTurn, metTurn, metPool, mergeTurn, mergePool, Operands, Multiplied, Lender, Lent, Source, Copied, Holding, GivenBack, Usable, Used, capOf, AllFree, cleared};
+ghost use Rattle.arena.specs.PoolSteps.{Operands, Multiplied, Lender, Lent, Source, Copied, Holding, GivenBack, Usable, Used, AllFree};
+ghost use Rattle.arena.specs.Code.Turns.{attached, headOf, Meeting, keptTurn, metTurn, metPool, mergeTurn, mergePool};
+ghost use Rattle.arena.specs.Limits.{capOf};
+ghost use Rattle.arena.specs.Expansion.{cleared};
 
 // A chain, and the free list after it.
 pub struct Taken {

@@ -20,9 +20,9 @@ ghost use Prim.Native.Nat.{_-_, _≤_, _<_};
 ghost use lib.ListN.{length};
 ghost use Rattle.arena.specs.References.{nodeIn};
 ghost use Rattle.arena.specs.Readers.{expandWalk, hermitianWalk};
-ghost use Rattle.arena.specs.PoolSteps.{capOf};
 ghost use Rattle.arena.specs.Expansion.{expansionOf, hermitianOf, lettersLeft, expandStep, hermitianStep};
-ghost use Rattle.arena.specs.Roots.{Fit};
+ghost use Rattle.arena.specs.Code.Roots.{Fit};
+ghost use Rattle.arena.specs.Limits.{capOf};
 
 // The walk of `expand`, with the scratch and the pool left as they are then.
 fn expand_walk(

@@ -1,4 +1,4 @@
-//! The roots of a walk: counted, shown in turn, released. What the private functions ask and promise: specs/Roots.antt.
+//! The roots of a walk: counted, shown in turn, released. What its functions ask and promise: specs/Code/Roots.antt.
 
 use crate::error::PbcError;
 use crate::materialize::Evaluated;
@@ -28,9 +28,10 @@ ghost use lib.ListN.{length, replicate, drop};
 ghost use Rattle.arena.specs.References.{nodeIn};
 ghost use Rattle.arena.specs.Nodes.{nodeAt};
 ghost use Rattle.arena.specs.Walk.{charge, begin as started, walkNodes};
-ghost use Rattle.arena.specs.PoolSteps.{capOf, cleared};
-ghost use Rattle.arena.specs.WalkWords.{Says, Rooted, Ready, Showing, lettersWritten, CellReady, CellRead, ShowReady};
-ghost use Rattle.arena.specs.Roots.{Rootable, tallyOf, Begun, showRoot, RootShown, Releasable, Released, walkError};
+ghost use Rattle.arena.specs.Code.WalkWords.{Says, Rooted, Ready, Showing, lettersWritten, CellReady, CellRead, ShowReady};
+ghost use Rattle.arena.specs.Code.Roots.{Rootable, tallyOf, Begun, showRoot, RootShown, Releasable, Released, walkError};
+ghost use Rattle.arena.specs.Limits.{capOf};
+ghost use Rattle.arena.specs.Expansion.{cleared};
 
 // ---- the start
 

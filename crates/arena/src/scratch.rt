@@ -1,11 +1,11 @@
 //! The scratch words of a walk: four for each node, its uses left in two words, its value, and the link of the path that is being walked; and the counting of uses.
-//! What these words stand for: specs/WalkWords.antt.
+//! What these words stand for: specs/Code/WalkWords.antt.
 
 use crate::pool::wide;
 ghost use mathlib.Core.Path.{_≡_};
 ghost use Prim.Native.Nat.{_+_, _*_, _-_, _≤_, _<_};
 ghost use lib.ListN.{length, getD, set, replicate};
-ghost use Rattle.arena.specs.WalkWords.{field, usesAt, withUse, valueAt, packed, headIn, countIn, turnIn, ValuesKept, Visiting, Visited, Counting, CountedUp};
+ghost use Rattle.arena.specs.Code.WalkWords.{field, usesAt, withUse, valueAt, packed, headIn, countIn, turnIn, ValuesKept, Visiting, Visited, Counting, CountedUp};
 
 // ---- the words of a node
 

@@ -9,7 +9,8 @@ use crate::op::PbcOp;
 ghost use mathlib.Core.Path.{_≡_};
 ghost use lib.ListN.{getD};
 ghost use Rattle.arena.specs.Nodes.{nodeAt};
-ghost use Rattle.arena.specs.Expansion.{isMalformed, anyMalformed, badNodes, opAt, isBadOp, anyBadOp, badOperations, weighedOf, countsClifford};
+ghost use Rattle.arena.specs.Expansion.{isMalformed, anyMalformed, badNodes, opAt, isBadOp, anyBadOp, badOperations, weighedOf};
+ghost use Rattle.arena.specs.Code.Roots.{countsClifford};
 
 // A word, or 0 past the end.
 fn word_at(words: &[u32], i: usize) -> u32

@@ -21,9 +21,9 @@ ghost use Prim.Native.Nat.{_-_, _≤_, max};
 ghost use lib.ListN.{length};
 ghost use Rattle.arena.specs.Nodes.{nodeAt};
 ghost use Rattle.arena.specs.Readers.{reportWalk};
-ghost use Rattle.arena.specs.PoolSteps.{capOf};
 ghost use Rattle.arena.specs.Expansion.{maxWeightsOf, reportStep};
-ghost use Rattle.arena.specs.Roots.{Fit, axesOf, AxesNamed, Countable, AxesCounted, weighRoots, weightsOf, Weighing};
+ghost use Rattle.arena.specs.Code.Roots.{Fit, axesOf, AxesNamed, Countable, AxesCounted, weighRoots, weightsOf, Weighing};
+ghost use Rattle.arena.specs.Limits.{capOf};
 
 // One use for the axis of each operation.
 fn count_axes(header: Header, operations: &[u32], s: &mut [u32])

@@ -2,7 +2,7 @@
 use mathlib.Core.Path.{refl, _∙_}
 use native.Mathlib.Omega.{arith}
 use borrow.Author.Needs.{needs}
-use Rattle.arena.specs.WalkWords.{Started}
+use Rattle.arena.specs.Code.WalkWords.{Started}
 use Rattle.arena.proofs.PathRuns.{Going, going-begin, going-end, topped, some-left, going-refused, going-on}
 use Rattle.arena.proofs.materialize.run_path.Statement.{statement}
 use Rattle.arena.proofs.materialize.run_path.Tie as tie

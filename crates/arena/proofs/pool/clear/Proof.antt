@@ -6,9 +6,9 @@ use native.Mathlib.Omega.{arith}
 use lib.ListN.{length, set, replicate, drop, length-set}
 use borrow.Author.Needs.{needs}
 use borrow.Author.Fill.{fill-none, fill-more}
-use Rattle.arena.specs.PoolSteps.{capOf}
 use Rattle.arena.proofs.pool.clear.Statement.{statement}
 use Rattle.arena.proofs.pool.clear.Tie as tie
+use Rattle.arena.specs.Limits.{capOf}
 
 abbrev Inv-loop : tie.InvT-loop
 Inv-loop pool₀ words i₀ pool i =

@@ -3,11 +3,11 @@ use mathlib.Core.Path.{refl, sym, ap, _∙_}
 use Prim.Native.Nat.{_-_}
 use borrow.Author.Needs.{needs}
 use lib.ListN.{length}
-use Rattle.arena.specs.PoolSteps.{capOf}
 use Rattle.arena.specs.Expansion.{expansionOf, ExpansionRefused, lettersLeft}
 use Rattle.arena.proofs.ReaderWalks.{ready-of, expand-low, expand-refused, to-show, expand-answer, expand-letters}
 use Rattle.arena.proofs.readers.expand_walk.Statement.{statement}
 use Rattle.arena.proofs.readers.expand_walk.Tie as tie
+use Rattle.arena.specs.Limits.{capOf}
 
 cast-n : tie.Need-cast-n
 cast-n c = search needs

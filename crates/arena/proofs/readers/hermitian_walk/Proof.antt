@@ -4,11 +4,11 @@ use Prim.Native.Nat.{_-_}
 use borrow.Author.Needs.{needs}
 use lib.ListN.{length}
 use Rattle.arena.specs.References.{PauliRef, axisOf}
-use Rattle.arena.specs.PoolSteps.{capOf}
 use Rattle.arena.specs.Expansion.{hermitianOf, HermitianMade, HermitianRefused}
 use Rattle.arena.proofs.ReaderWalks.{ready-of, axis-refused, axis-odd, axis-even}
 use Rattle.arena.proofs.readers.hermitian_walk.Statement.{statement}
 use Rattle.arena.proofs.readers.hermitian_walk.Tie as tie
+use Rattle.arena.specs.Limits.{capOf}
 
 cast-count : tie.Need-cast-count
 cast-count c = search needs

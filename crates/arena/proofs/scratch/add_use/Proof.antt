@@ -2,7 +2,7 @@
 use mathlib.Core.Path.{ap, _∙_}
 use Prim.Native.Nat.{ℕ, _+_}
 use native.Mathlib.Omega.{arith}
-use Rattle.arena.specs.WalkWords.{withUse}
+use Rattle.arena.specs.Code.WalkWords.{withUse}
 use Rattle.arena.proofs.scratch.add_use.Statement.{statement}
 use Rattle.arena.proofs.scratch.add_use.Tie as tie
 

@@ -1,6 +1,6 @@
 -- `scan_uses` meets its contract: what is counted so far, and the nodes still to be looked at, give the whole count.
 use native.Mathlib.Omega.{arith}
-use Rattle.arena.specs.WalkWords.{Counting}
+use Rattle.arena.specs.Code.WalkWords.{Counting}
 use Rattle.arena.proofs.UsesInWords.{Scanning, scan-begin, scan-end, visiting, scan-turn, one-more}
 use Rattle.arena.proofs.scratch.scan_uses.Statement.{statement}
 use Rattle.arena.proofs.scratch.scan_uses.Tie as tie

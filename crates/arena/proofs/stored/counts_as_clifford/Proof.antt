@@ -2,10 +2,10 @@
 use mathlib.Core.Path.{sym, ap, _∙_}
 use Prim.Native.Nat.{_-_}
 use borrow.Author.Needs.{needs}
-use Rattle.arena.specs.Expansion.{countsClifford}
 use Rattle.arena.proofs.StoredWords.{kind-counts}
 use Rattle.arena.proofs.stored.counts_as_clifford.Statement.{statement}
 use Rattle.arena.proofs.stored.counts_as_clifford.Tie as tie
+use Rattle.arena.specs.Code.Roots.{countsClifford}
 
 of-requires : tie.Need-of-requires
 of-requires c κs = search needs

@@ -4,7 +4,7 @@ use Prim.Native.Nat.{_-_}
 use native.Mathlib.Omega.{arith}
 use borrow.Author.Needs.{needs}
 use Rattle.arena.specs.Expansion.{weighedOf}
-use Rattle.arena.specs.Roots.{Countable}
+use Rattle.arena.specs.Code.Roots.{Countable}
 use Rattle.arena.proofs.WeightWalks.{CountAt, count-begin, count-fits, count-turn, count-end}
 use Rattle.arena.proofs.weights.count_axes.Statement.{statement}
 use Rattle.arena.proofs.weights.count_axes.Tie as tie

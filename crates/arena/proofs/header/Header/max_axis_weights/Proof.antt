@@ -6,7 +6,7 @@ use borrow.Author.Needs.{needs}
 use lib.ListN.{length}
 use Rattle.arena.specs.Readers.{reportWalk}
 use Rattle.arena.specs.Expansion.{maxWeightsOf, reportStep}
-use Rattle.arena.specs.Roots.{axesOf}
+use Rattle.arena.specs.Code.Roots.{axesOf}
 use Rattle.arena.proofs.ReaderWalks.{part-long, fit-part, cap-fits, room-same, front-long, left-scratch, left-pool}
 use Rattle.arena.proofs.WeightWalks.{fits-report}
 use Rattle.arena.proofs.header.Header.max_axis_weights.Statement.{statement}

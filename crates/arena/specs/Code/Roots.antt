@@ -1,8 +1,8 @@
 -- The roots of a walk in words: uses counted, a root shown, a root released, the axes of operations weighed.
--- The private functions of src/roots.rt and of its child modules ask and promise what is said here.
+-- The functions of src/roots.rt, readers.rt and weights.rt that are not public ask and promise what is said here.
 use mathlib.Core.Path.{_≡_}
 use mathlib.Core.Logic.{_≢_}
-use mathlib.Core.Bool.{true, cond}
+use mathlib.Core.Bool.{Bool, true, false, cond}
 use mathlib.Core.List.{List, [], _∷_}
 use Prim.Native.Nat.{ℕ, _*_, _-_, _≤_, _<_}
 use lib.Dec.{eqb}
@@ -11,13 +11,21 @@ use Rattle.pauli.specs.Letters.{phaseNumber}
 use Rattle.arena.specs.Errors.{PbcError, ExpansionLimit, NoPool}
 use Rattle.arena.specs.References.{nodeIn, phaseIn}
 use Rattle.arena.specs.Nodes.{PauliNode, Malformed, nodeAt}
+use Rattle.arena.specs.Operations.{AxisKind, NoKind, Pi8, Clifford, Measurement}
 use Rattle.arena.specs.Store.{Header}
 use Rattle.arena.specs.Sparse.{turned, size}
 use Rattle.arena.specs.Walk.{Out, fine, bind, State, Counted, rootUses, scan, charge, eval, release}
 use Rattle.arena.specs.Pool.{Who}
-use Rattle.arena.specs.WalkWords.{Inv, none, valueAt, headIn, Uses, Rep, Rooted}
+use Rattle.arena.specs.Code.WalkWords.{Inv, none, valueAt, headIn, Uses, Rep, Rooted}
 use Rattle.arena.specs.Readers.{Weighed, Weights, weigh, wordsOf, Report}
 use Rattle.arena.specs.Expansion.{opAt, weighedOf, axesTo}
+
+-- whether the report counts an axis of that kind as Clifford
+abbrev pub countsClifford : AxisKind → Bool
+countsClifford NoKind = true
+countsClifford Pi8 = false
+countsClifford Clifford = true
+countsClifford Measurement = false
 
 -- ---- the start
 

@@ -9,14 +9,22 @@ use lib.Dec.{eqb}
 use lib.ListN.{length, getD, set, drop}
 use Rattle.pauli.specs.Letters.{pauliNumber, phaseNumber}
 use Rattle.pauli.specs.Rows.{identity}
-use Rattle.arena.specs.Types.{Pauli}
+use Rattle.arena.specs.Types.{Pauli, I}
 use Rattle.arena.specs.Errors.{refusalIn}
 use Rattle.arena.specs.References.{nodeIn}
 use Rattle.arena.specs.Nodes.{PauliNode, Identity, Single, Product, Malformed, nodeAt, rowsTo}
-use Rattle.arena.specs.Sparse.{Factor, Sparse, size, Proper, dense, spread}
+use Rattle.arena.specs.Sparse.{Factor, Sparse, size, dense, spread}
 use Rattle.arena.specs.Walk.{Out, fine, refused, State, Taken, childUses, scan, Walked}
 use Rattle.arena.specs.Machine.{Spot}
 use Rattle.arena.specs.Pool.{Who, Chain, Free}
+
+-- the qubits rise from lo on and stay below hi, and no letter is I
+abbrev pub Rising : ℕ → ℕ → List Factor → Type 0
+Rising lo hi [] = Unit {0}
+Rising lo hi (f ∷ fs) = (lo ≤ f .qubit) × (f .qubit < hi) × (f .pauli ≢ I) × Rising (suc (f .qubit)) hi fs
+
+abbrev pub Proper : ℕ → Sparse → Type 0
+Proper n v = Rising 0 n (v .factors)
 
 -- ---- the walk's invariant
 
