@@ -11,9 +11,9 @@ use Rattle.pauli.specs.Letters.{pauliNumber}
 use Rattle.arena.specs.Types.{I}
 use Rattle.arena.specs.Sparse.{Factor}
 use Rattle.arena.specs.Pool.{loose, held, Who, nextAt, qubitAt, letterAt, Lendable, Holds, Chain, Free}
-use Rattle.arena.specs.PoolSteps.{Lender, Lent, Source, Copied, Holding, GivenBack, Usable, Used}
+use Rattle.arena.specs.PoolSteps.{Lender, Lent, Source, Copied, Holding, GivenBack}
 use Rattle.arena.proofs.PoolLaws.{Step, put, upd, upd-same, give, both, no-mix, one-tag, counted-step, chain-step, free-step, onto}
-use Rattle.arena.proofs.PoolParts.{Job, Parts, of-loose, append, push, pop, detach, advance, close, made-put, last-held, last-room, LastHeld, chain-own, free-own, retag, retag-same, retag-other, retag-spare, free-low, last-low, last-fits}
+use Rattle.arena.proofs.PoolParts.{Job, Parts, of-loose, append, push, pop, detach, advance, close, made-put, last-held, last-room, LastHeld, free-low, last-low, last-fits}
 use Rattle.arena.specs.Code.Turns.{attached, headOf}
 
 -- a record whose qubit and letter are written
@@ -313,42 +313,3 @@ module _ {p₀ : List ℕ} {free₀ a₀ count : ℕ} (g : Holding p₀ free₀ 
           kept = s .parts .kept;
           long = s .parts .long;
         }
-
--- ---- a use
-
-module _ {p : List ℕ} {free a count last : ℕ} (g : Usable p free a count last) where
-  abbrev pub to-copy : last ≡ 0 → Source p free a count
-  to-copy z =
-      let e : g .n ≡ count + (g .n - count) = omega (arith, g .room z) in
-      record {
-        who = g .who;
-        ta = g .ta;
-        tr = g .tr;
-        a-r = g .a-r;
-        fs = g .fs;
-        n = g .n - count;
-        chain = g .chain;
-        freed = subst (λ (k : ℕ). Free p (g .who) free k) e (g .freed);
-        count-is = g .count-is;
-      }
-
-  pub used-copy : {p′ : List ℕ} {head free′ : ℕ} (z : last ≡ 0) → Copied (to-copy z) p′ head free′ → Used g p′ head free′
-  used-copy {p′} {head} {free′} z m =
-      record {
-        who′ = m .who′;
-        chain = m .chain;
-        freed = rw (eq-eqb last 0 z) (m .freed);
-        kept = λ t lo h fs nr _ c. m .kept t lo h fs nr c;
-        long = m .long;
-      }
-
-  pub used-move : (last ≡ 0 → ⊥) → Used g p a free
-  used-move nz =
-      let who′ : Who = retag (g .ta) (g .tr) (g .who) in
-      record {
-        who′ = who′;
-        chain = chain-own p (g .who) who′ (g .ta) (g .tr) 0 a (g .fs) (retag-same (g .ta) (g .tr) (g .who)) (g .chain);
-        freed = rw (ne-eqb last 0 nz) (free-own p (g .who) who′ free (g .n) (retag-spare (g .ta) (g .tr) (g .who)) (g .freed));
-        kept = λ t lo h fs nr na c. chain-own p (g .who) who′ t t lo h fs (λ r k. retag-other (g .ta) (g .tr) t (g .who) r k (na nz)) c;
-        long = refl;
-      }

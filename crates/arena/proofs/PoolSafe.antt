@@ -5,15 +5,14 @@ use mathlib.Core.List.{List, [], _∷_}
 use Prim.Native.Nat.{ℕ, suc, _+_, _-_, _≤_}
 use native.Mathlib.Omega.{arith}
 use lib.ListN.{length}
-use borrow.Author.Tests.{ne-eqb}
 use mathlib.Core.Bool.{Bool, true, false, cond}
 use lib.Dec.{ltb}
 use Rattle.pauli.specs.Letters.{_·_}
 use Rattle.arena.specs.Types.{Pauli, I, X, Y, Z}
 use Rattle.arena.specs.Sparse.{Factor, Sparse, withFactor, withLetter, together, mergeOne, merge}
 use Rattle.arena.specs.Pool.{Who, spare, Lendable, Chain, Free}
-use Rattle.arena.specs.PoolSteps.{Lender, Source, Usable, Holding, Operands}
-use Rattle.arena.specs.PoolRuns.{Held, World, factorsHeld, Fresh, Without, Singles, Copies, Uses, Moves, GivesBack, Multiplies, Does, singles, copies, uses, moves, givesBack, multiplies, Begins, Run, lentBy, backBy, lentIn, backIn, Once, InChain, InFree}
+use Rattle.arena.specs.PoolSteps.{Lender, Source, Holding, Operands}
+use Rattle.arena.specs.PoolRuns.{Held, World, factorsHeld, Fresh, Without, Singles, Copies, GivesBack, Multiplies, Does, singles, copies, givesBack, multiplies, Begins, Run, lentBy, backBy, lentIn, backIn, Once, InChain, InFree}
 use Rattle.arena.proofs.PoolApart
 use Rattle.arena.proofs.PoolApart.{apart, not-free, chain-once, free-once, chain-counted}
 use Rattle.arena.specs.Limits.{capOf}
@@ -146,67 +145,6 @@ module _ {words : ℕ} {w w′ : World} (s : Sound words w) where
         balance = omega (arith, ap factorsHeld (d .chains-are), d .spares-are, s .balance);
       }
 
-  abbrev usable : (d : Uses w w′) → Usable (w .pool) (w .free) (d .from .head) (length (d .from .factors)) 0
-  usable d =
-      record {
-        who = s .who;
-        ta = d .from .tag;
-        tr = d .tag;
-        a-r = without-fresh (d .tag) (d .from) (w .chains) (d .others) (d .stands) (d .fresh) .0;
-        fs = d .from .factors;
-        n = w .spares;
-        chain = without-each (w .pool) (s .who) (d .from) (w .chains) (d .others) (d .stands) (s .each) .0;
-        freed = s .freed;
-        count-is = refl;
-        room = λ z. omega (arith, d .spares-are);
-      }
-
-  of-use : Uses w w′ → Sound words w′
-  of-use d =
-      let m = d .met (usable d) in
-      let t : ℕ = d .tag in
-      let n-is : w .spares - length (d .from .factors) ≡ w′ .spares = omega (arith, d .spares-are) in
-      record {
-        who = m .who′;
-        freed = subst (λ (n : ℕ). Free (w′ .pool) (m .who′) (w′ .free) n) n-is (m .freed);
-        each = subst (Each (w′ .pool) (m .who′)) (sym (d .chains-are))
-            (m .chain, each-kept (w .pool) (s .who) (w′ .pool) (m .who′) t t t (λ u lo h fs x _ _ c. m .kept u lo h fs x (λ z. absurd (z refl)) c) (w .chains) (d .fresh) (d .fresh) (d .fresh) (s .each));
-        distinct = subst Distinct (sym (d .chains-are)) (d .fresh, s .distinct);
-        balance = omega (arith, ap factorsHeld (d .chains-are), d .spares-are, s .balance);
-      }
-
-  abbrev movable : (d : Moves w w′) → Usable (w .pool) (w .free) (d .from .head) (length (d .from .factors)) (d .last)
-  movable d =
-      record {
-        who = s .who;
-        ta = d .from .tag;
-        tr = d .tag;
-        a-r = without-fresh (d .tag) (d .from) (w .chains) (d .others) (d .stands) (d .fresh) .0;
-        fs = d .from .factors;
-        n = w .spares;
-        chain = without-each (w .pool) (s .who) (d .from) (w .chains) (d .others) (d .stands) (s .each) .0;
-        freed = s .freed;
-        count-is = refl;
-        room = λ z. absurd (d .is-last z);
-      }
-
-  of-move : Moves w w′ → Sound words w′
-  of-move d =
-      let m = d .met (movable d) in
-      let t : ℕ = d .tag in
-      let ta : ℕ = d .from .tag in
-      let fr = without-fresh t (d .from) (w .chains) (d .others) (d .stands) (d .fresh) .1 in
-      let di = without-distinct (d .from) (w .chains) (d .others) (d .stands) (s .distinct) in
-      let e = without-each (w .pool) (s .who) (d .from) (w .chains) (d .others) (d .stands) (s .each) .1 in
-      record {
-        who = m .who′;
-        freed = subst (λ (n : ℕ). Free (w′ .pool) (m .who′) (w′ .free) n) (d .spares-are) (rw (ne-eqb (d .last) 0 (d .is-last)) at (m .freed));
-        each = subst (Each (w′ .pool) (m .who′)) (sym (d .chains-are))
-            (m .chain, each-kept (w .pool) (s .who) (w′ .pool) (m .who′) ta t t (λ u lo h fs x y _ c. m .kept u lo h fs y (λ _. x) c) (d .others) (di .0) fr fr e);
-        distinct = subst Distinct (sym (d .chains-are)) (fr, di .1);
-        balance = omega (arith, ap factorsHeld (d .chains-are), without-sum (d .from) (w .chains) (d .others) (d .stands), d .spares-are, s .balance);
-      }
-
   abbrev holding : (d : GivesBack w w′) → Holding (w .pool) (w .free) (d .from .head) (length (d .from .factors))
   holding d =
       record {
@@ -301,8 +239,6 @@ module _ {words : ℕ} {w w′ : World} (s : Sound words w) where
   pub sound-step : Does w w′ → Sound words w′
   sound-step (singles d) = of-single d
   sound-step (copies d) = of-copy d
-  sound-step (uses d) = of-use d
-  sound-step (moves d) = of-move d
   sound-step (givesBack d) = of-give d
   sound-step (multiplies d) = of-multiply d
 
@@ -331,8 +267,6 @@ records-balance words vs w r = run-sound words vs w r .balance
 step-count : {words : ℕ} {w w′ : World} (s : Sound words w) (d : Does w w′) → factorsHeld (w′ .chains) + backBy d ≡ factorsHeld (w .chains) + lentBy d
 step-count s (singles d) = omega (arith, ap factorsHeld (d .chains-are))
 step-count s (copies d) = omega (arith, ap factorsHeld (d .chains-are))
-step-count s (uses d) = omega (arith, ap factorsHeld (d .chains-are))
-step-count {w = w} s (moves d) = omega (arith, ap factorsHeld (d .chains-are), without-sum (d .from) (w .chains) (d .others) (d .stands))
 step-count {w = w} {w′} s (givesBack d) = omega (arith, without-sum (d .from) (w .chains) (w′ .chains) (d .stands))
 step-count {w = w} s (multiplies d) =
     omega (

@@ -6,7 +6,7 @@ use Prim.Native.Nat.{ℕ, zero, suc, _+_, _-_, _<_}
 use lib.ListN.{length}
 use Rattle.arena.specs.Sparse.{Factor, merge}
 use Rattle.arena.specs.Pool.{nextAt}
-use Rattle.arena.specs.PoolSteps.{Lender, Lent, Source, Copied, Usable, Used, Holding, GivenBack, Operands, Multiplied, AllFree}
+use Rattle.arena.specs.PoolSteps.{Lender, Lent, Source, Copied, Holding, GivenBack, Operands, Multiplied, AllFree}
 use Rattle.arena.specs.Limits.{capOf}
 
 -- a chain that somebody holds: its tag, its first record, its factors
@@ -62,32 +62,6 @@ pub record Copies (w w′ : World) : Type 0 where
   pub spares-are : w .spares ≡ length (from .factors) + w′ .spares
   pub chains-are : w′ .chains ≡ heldAs tag head (from .factors) ∷ w .chains
 
--- `take`, for a use that is not the last
-pub record Uses (w w′ : World) : Type 0 where
-  pub tag : ℕ
-  pub head : ℕ
-  pub from : Held
-  pub others : List Held
-  pub fresh : Fresh tag (w .chains)
-  pub stands : Without from (w .chains) others
-  pub met : (g : Usable (w .pool) (w .free) (from .head) (length (from .factors)) 0) → Used g (w′ .pool) head (w′ .free)
-  pub spares-are : w .spares ≡ length (from .factors) + w′ .spares
-  pub chains-are : w′ .chains ≡ heldAs tag head (from .factors) ∷ w .chains
-
--- `take`, for the last use
-pub record Moves (w w′ : World) : Type 0 where
-  pub tag : ℕ
-  pub head : ℕ
-  pub last : ℕ
-  pub from : Held
-  pub others : List Held
-  pub is-last : last ≡ 0 → ⊥
-  pub fresh : Fresh tag (w .chains)
-  pub stands : Without from (w .chains) others
-  pub met : (g : Usable (w .pool) (w .free) (from .head) (length (from .factors)) last) → Used g (w′ .pool) head (w′ .free)
-  pub spares-are : w .spares ≡ w′ .spares
-  pub chains-are : w′ .chains ≡ heldAs tag head (from .factors) ∷ others
-
 pub record GivesBack (w w′ : World) : Type 0 where
   pub from : Held
   pub stands : Without from (w .chains) (w′ .chains)
@@ -114,8 +88,6 @@ pub record Multiplies (w w′ : World) : Type 0 where
 pub data Does (w w′ : World) : Type 0 where
   singles : Singles w w′ → Does w w′
   copies : Copies w w′ → Does w w′
-  uses : Uses w w′ → Does w w′
-  moves : Moves w w′ → Does w w′
   givesBack : GivesBack w w′ → Does w w′
   multiplies : Multiplies w w′ → Does w w′
 
@@ -138,16 +110,12 @@ Run words (v ∷ vs) w = Run words vs v × Does v w
 abbrev pub lentBy : {w w′ : World} → Does w w′ → ℕ
 lentBy (singles d) = 1
 lentBy (copies d) = length (d .from .factors)
-lentBy (uses d) = length (d .from .factors)
-lentBy (moves d) = 0
 lentBy (givesBack d) = 0
 lentBy (multiplies d) = 0
 
 abbrev pub backBy : {w w′ : World} → Does w w′ → ℕ
 backBy (singles d) = 0
 backBy (copies d) = 0
-backBy (uses d) = 0
-backBy (moves d) = 0
 backBy (givesBack d) = length (d .from .factors)
 backBy (multiplies d) = length (d .left .factors) + length (d .right .factors) - d .count
 

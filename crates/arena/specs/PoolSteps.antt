@@ -2,10 +2,8 @@
 -- what it promises (`Lent`, `Copied`, ..) says who holds what after it, and that every chain of another tag stands as it did.
 use mathlib.Core.Path.{_≡_}
 use mathlib.Core.List.{List, [], _∷_}
-use Prim.Native.Nat.{ℕ, suc, _+_, _-_, _≤_, _<_}
+use Prim.Native.Nat.{ℕ, suc, _+_, _-_, _<_}
 use lib.ListN.{length}
-use lib.Dec.{eqb}
-use mathlib.Core.Bool.{cond}
 use Rattle.pauli.specs.Letters.{phaseNumber}
 use Rattle.arena.specs.Sparse.{Factor, merge}
 use Rattle.arena.specs.Pool.{Who, spare, Chain, Free}
@@ -53,28 +51,6 @@ pub record Copied {p : List ℕ} {free a count : ℕ} (g : Source p free a count
   pub chain : Chain p′ who′ (g .tr) 0 head (g .fs)
   pub freed : Free p′ who′ free′ (g .n)
   pub kept : (t lo h : ℕ) (fs : List Factor) → (t ≡ g .tr → ⊥) → Chain p (g .who) t lo h fs → Chain p′ who′ t lo h fs
-  pub long : length p′ ≡ length p
-
--- ---- a use of a value: the last one moves it, an earlier one copies it
-
-pub record Usable (p : List ℕ) (free a count last : ℕ) : Type 0 where
-  pub who : Who
-  pub ta : ℕ
-  pub tr : ℕ
-  pub a-r : ta ≡ tr → ⊥
-  pub fs : List Factor
-  pub n : ℕ
-  pub chain : Chain p who ta 0 a fs
-  pub freed : Free p who free n
-  pub count-is : count ≡ length fs
-  pub room : last ≡ 0 → count ≤ n
-
--- the value is the chain tr; the chain ta still stands unless this was the last use
-pub record Used {p : List ℕ} {free a count last : ℕ} (g : Usable p free a count last) (p′ : List ℕ) (head free′ : ℕ) : Type 0 where
-  pub who′ : Who
-  pub chain : Chain p′ who′ (g .tr) 0 head (g .fs)
-  pub freed : Free p′ who′ free′ (cond (eqb last 0) (g .n - count) (g .n))
-  pub kept : (t lo h : ℕ) (fs : List Factor) → (t ≡ g .tr → ⊥) → ((last ≡ 0 → ⊥) → t ≡ g .ta → ⊥) → Chain p (g .who) t lo h fs → Chain p′ who′ t lo h fs
   pub long : length p′ ≡ length p
 
 -- ---- a chain given back

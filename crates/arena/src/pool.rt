@@ -8,7 +8,7 @@ ghost use lib.ListN.{length, set};
 ghost use Rattle.pauli.specs.Letters.{pauliOf};
 ghost use Rattle.arena.specs.Sparse.{factor};
 ghost use Rattle.arena.specs.Pool.{nextAt, qubitAt, letterAt};
-ghost use Rattle.arena.specs.PoolSteps.{Operands, Multiplied, Lender, Lent, Source, Copied, Holding, GivenBack, Usable, Used, AllFree};
+ghost use Rattle.arena.specs.PoolSteps.{Operands, Multiplied, Lender, Lent, Source, Copied, Holding, GivenBack, AllFree};
 ghost use Rattle.arena.specs.Code.Turns.{attached, headOf, Meeting, keptTurn, metTurn, metPool, mergeTurn, mergePool};
 ghost use Rattle.arena.specs.Limits.{capOf};
 ghost use Rattle.arena.specs.Expansion.{cleared};
@@ -179,17 +179,6 @@ pub(crate) fn copy(pool: &mut [u32], free0: usize, a0: usize, count: usize) -> T
     }
     let head = attach(pool, tail, 0);
     Taken { head, free }
-}
-
-// A use of a value: the last moves it, an earlier one copies it.
-fn take(pool: &mut [u32], free: usize, a: usize, count: usize, last: usize) -> Taken
-    requires { ⌜ Usable (now pool) free a count last ⌝ }
-    ensures { λ r. ⌜ ((g : Usable (now (pool .entry)) free a count last) → Used g (now (pool .exit)) (r .head) (r .free)) ⌝ }
-{
-    if last == 0 {
-        return copy(pool, free, a, count);
-    }
-    Taken { head: a, free }
 }
 
 // A chain of count factors is given back.
