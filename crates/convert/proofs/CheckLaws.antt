@@ -17,7 +17,7 @@ use Rattle.convert.proofs.RestLaws.{drop-record, no-more}
 use Rattle.convert.specs.Records.{GateKind, KindH, KindX, KindZ, KindS, KindSdg, KindT, KindTdg, KindCnot, KindCz, KindCcx, KindCcz, KindMeasure, KindY, KindSx, KindSwap, KindCy, Unsupported, arityOf, records, kindOf}
 use Rattle.convert.specs.Frame.{qubitsBy, qubitsOf, operandsChecked, namesUnused, frameGates, gateNodes, total, cliffordCheck}
 use Rattle.convert.specs.Conversion.{isDoubly, recordChecked, recordsChecked, anyDoubly}
-use Rattle.convert.specs.Raw.{isFrame, frameNodes, measuresOf, recordOf}
+use Rattle.convert.specs.Code.Raw.{isFrame, frameNodes, measuresOf, recordOf}
 
 no-test : (k : Checked) (e : PbcError) → (k ⟫ false ⇒ e) ≡ k
 unfolding _⟫_⇒_

@@ -16,7 +16,7 @@ use Rattle.arena.proofs.Accepted.{passed-before, test-passed, left-false, right
 use Rattle.convert.specs.Types.{Header, BadStore, NonCliffordFrameGate, Fine}
 use Rattle.convert.specs.Records.{kindOf}
 use Rattle.convert.specs.Frame.{qubitsOf, operandsChecked, namesUnused, frameGates, frameRun, cliffordCheck, opened}
-use Rattle.convert.specs.Raw.{arena, putRun, Small, Ready, Ran}
+use Rattle.convert.specs.Code.Raw.{arena, putRun, Small, Ready, Ran}
 use Rattle.convert.proofs.Accepting.{passed-operands, FitsGate, fits-gate}
 use Rattle.convert.proofs.Laid.{laid, put-run}
 

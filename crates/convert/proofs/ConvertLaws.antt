@@ -26,10 +26,10 @@ use Rattle.convert.specs.Words.{flat, startWords}
 use Rattle.convert.specs.Needs.{Needs}
 use Rattle.convert.specs.Planes.{partWords, packed}
 use Rattle.convert.specs.Conversion.{Input, recordsChecked, capTooSmall, planesTooFew, maxGateWords, limits, gatesCheck, convertCheck, gatesIn, plainEnd, tableEnd, wordEnd, planesAs, planesAfter, convertWithin, convertStep, ConvertedMade, ConvertedRefused, inputOf, gatesChecked, roomChecked}
-use Rattle.convert.specs.Raw.{restOf, isCapped, planesFor, Fits, Room, plainLast, wordsLast, needsLast, needsOf, headerOf}
+use Rattle.convert.specs.Code.Raw.{isCapped, planesFor, Fits, Room, plainLast, wordsLast, needsLast, needsOf, headerOf}
 use Rattle.convert.proofs.Accepting.{bare-placed, proper-records, passed-records}
 use Rattle.convert.proofs.Counting.{needed}
-use Rattle.convert.proofs.RestLaws.{rest-more}
+use Rattle.convert.proofs.RestLaws.{rest-more, restOf}
 use Rattle.convert.proofs.PaperAxes.{table-run}
 use Rattle.convert.proofs.Standing.{length-start}
 use Rattle.convert.proofs.WriteLaws.{need-grows}

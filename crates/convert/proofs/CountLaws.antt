@@ -14,8 +14,8 @@ use Rattle.convert.specs.Types.{Pauli, X, Z}
 use Rattle.convert.specs.Records.{GateKind, KindH, KindX, KindZ, KindS, KindSdg, KindT, KindTdg, KindCnot, KindCz, KindCcx, KindCcz, KindMeasure, KindY, KindSx, KindSwap, KindCy, Unsupported, Cap, NoCap, AtMost, Elementary, lowerAs, AllProper}
 use Rattle.convert.specs.Plain.{tested, exceeds}
 use Rattle.convert.specs.Planes.{partWords, packed}
-use Rattle.convert.specs.RawPlanes.{Wide, planeRun}
-use Rattle.convert.specs.Raw.{testsOf, anyExceeds, isCapped, refreshed, recordGates, planesFor, Decided}
+use Rattle.convert.specs.Code.RawPlanes.{Wide, planeRun}
+use Rattle.convert.specs.Code.Raw.{testsOf, anyExceeds, isCapped, refreshed, recordGates, planesFor, Decided}
 use Rattle.arena.specs.Builder.{overlay}
 use Rattle.convert.proofs.PlaneLaws.{packed-length}
 use Rattle.convert.proofs.Packed.{plane-run, plane-again, plane-reset}

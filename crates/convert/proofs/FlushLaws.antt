@@ -11,7 +11,7 @@ use Rattle.arena.specs.Operations.{rotateWords}
 use Rattle.convert.specs.Records.{kindOf}
 use Rattle.convert.specs.Words.{idX, idZ}
 use Rattle.convert.specs.Needs.{writtenNodes, writtenOps}
-use Rattle.convert.specs.Raw.{Writing, writing, putOp, putNode, putJoint, putFlush, putFlushes, FlushReady, Flushed, FlushedIf, recordGates, gatesOver}
+use Rattle.convert.specs.Code.Raw.{Writing, writing, putOp, putNode, putJoint, putFlush, putFlushes, FlushReady, Flushed, FlushedIf, recordGates, gatesOver}
 use mathlib.Core.Bool.{Bool, true, false}
 use Rattle.arena.specs.Builder.{overlay, startFrame}
 use Rattle.convert.proofs.RecordSteps.{total-append}

@@ -9,7 +9,7 @@ use Rattle.convert.specs.Types.{MinusOne}
 use lib.ListN.{length, getD, set}
 use Rattle.pauli.specs.Gates.{Gate, gateH, gateX, gateZ, gateS, gateSdg, gateCnot, gateCz}
 use Rattle.convert.specs.Frame.{Arena, gateNodes}
-use Rattle.convert.specs.Raw.{arena, putMultiplied, putStep, putRun, Multiplied, Small, Ready, Ran}
+use Rattle.convert.specs.Code.Raw.{arena, putMultiplied, putStep, putRun, Multiplied, Small, Ready, Ran}
 
 getD-set-any : (t : List ℕ) (i j P d : ℕ) → (getD (set t i P) j d ≡ getD t j d) ⊎ (getD (set t i P) j d ≡ P)
 getD-set-any [] i j P d = inl refl

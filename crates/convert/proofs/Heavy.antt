@@ -13,10 +13,11 @@ use Rattle.convert.specs.Types.{Pauli}
 use Rattle.convert.specs.Records.{AtMost, GateKind, KindH, KindX, KindZ, KindS, KindSdg, KindT, KindTdg, KindCnot, KindCz, KindCcx, KindCcz, KindMeasure, KindY, KindSx, KindSwap, KindCy, Unsupported, lowerAs, AllProper}
 use Rattle.convert.specs.Plain.{anyAbove, seven, tested, exceeds}
 use Rattle.convert.specs.Planes.{partWords, packed, images}
-use Rattle.convert.specs.Raw.{testsOf, anyExceeds}
-use Rattle.convert.specs.RawPlanes.{weightTo, chosen, Wide, sevenAbove}
+use Rattle.convert.specs.Code.Raw.{testsOf, anyExceeds}
+use Rattle.convert.specs.Code.RawPlanes.{weightTo, Wide, sevenAbove}
 use Rattle.convert.proofs.PlaneLaws
 use Rattle.convert.proofs.Packed.{plane-weight}
+use Rattle.convert.proofs.PlaneLaws.{chosen}
 
 products-nil : (us : List Pauli) → products us [] ≡ us
 products-nil [] = refl

@@ -13,8 +13,9 @@ use Rattle.pauli.proofs.Rows.{products-comm, width-★}
 use Rattle.pauli.proofs.Table.{holds-start}
 use Rattle.convert.specs.Types.{Pauli, X, Z, PlusI, MinusOne, MinusI}
 use Rattle.convert.specs.Planes.{partWords, rowWords, rowsWords, images, packed}
-use Rattle.convert.specs.RawPlanes.{markTo, weightTo, pickedLetters, chosen, planeStep, planeRun, planeReset, Wide}
+use Rattle.convert.specs.Code.RawPlanes.{markTo, weightTo, planeStep, planeRun, planeReset, Wide}
 use Rattle.convert.proofs.PlaneLaws
+use Rattle.convert.proofs.PlaneLaws.{pickedLetters, chosen}
 
 -- ---- tables of n qubits
 

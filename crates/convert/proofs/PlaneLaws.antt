@@ -18,7 +18,15 @@ use Rattle.pauli.specs.Bits.{xBit, zBit, _xor_}
 use Rattle.pauli.specs.Table.{xRow, zRow}
 use Rattle.convert.specs.Types.{Pauli, I, X, Y, Z}
 use Rattle.convert.specs.Planes.{mask, digits, partWords, rowWords, rowsWords, images, packed}
-use Rattle.convert.specs.RawPlanes.{xorTo, swapTo, clearTo, markTo, picked, pickedLetters, joined, weightTo, chosen}
+use Rattle.convert.specs.Code.RawPlanes.{xorTo, swapTo, clearTo, markTo, picked, joined, weightTo}
+
+abbrev pub pickedLetters : ℕ → List Pauli → List Pauli
+pickedLetters zero us = []
+pickedLetters (suc u) us = us
+
+-- the letters of the product of the picked rows
+abbrev pub chosen : ℕ → ℕ → ℕ → Row → Row → Row → List Pauli
+chosen ua ub ud A B D = products (products (pickedLetters ua (A .letters)) (pickedLetters ub (B .letters))) (pickedLetters ud (D .letters))
 
 pub below : (a b : ℕ) → (a < b) ⊎ (b ≤ a)
 below a zero = inr (omega arith)

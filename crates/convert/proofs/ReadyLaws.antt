@@ -4,7 +4,7 @@ use mathlib.Core.List.{List}
 use native.Mathlib.Omega.{arith}
 use lib.ListN.{length, getD}
 use Rattle.convert.specs.Records.{KindT, KindTdg, KindCcx, KindCcz, KindMeasure, lowerAs}
-use Rattle.convert.specs.Raw.{RecordReady}
+use Rattle.convert.specs.Code.Raw.{RecordReady}
 
 pub read-t : {n given a b d c : ℕ} {ns : List ℕ} {u : ℕ} {os fs : List ℕ} → RecordReady n given KindT a b d c ns u os fs → (n + a < length fs) × (n + a < 512) × (u < 65536) × (4 * u + 4 ≤ length os)
 unfolding lowerAs

@@ -13,12 +13,19 @@ use Rattle.pauli.specs.Rotations.{flush}
 use Rattle.convert.specs.Records.{GateKind, KindH, KindX, KindZ, KindS, KindSdg, KindT, KindTdg, KindCnot, KindCz, KindCcx, KindCcz, KindMeasure, KindY, KindSx, KindSwap, KindCy, Unsupported, Cap, Elementary, Placed, placedFrom, Record, records, kindOf, lower, lowerAs, lowerFrom, lowerAll}
 use Rattle.convert.specs.Plain.{Plain, begin, plainRun}
 use Rattle.convert.specs.Needs.{Needs, needRun}
-use Rattle.convert.specs.RawPlanes.{Wide}
-use Rattle.convert.specs.Raw.{recordAt, restOf, planesFor, Decided, costOf, costs, needed, countFor, needsOf}
+use Rattle.convert.specs.Code.RawPlanes.{Wide}
+use Rattle.convert.specs.Code.Raw.{planesFor, Decided, costOf, costs, needed, countFor, needsOf}
 use Rattle.convert.specs.declared.count.Needed.{Needed}
 use Rattle.convert.proofs.Packed.{wide-step}
 use Rattle.convert.proofs.CountLaws.{wide-start}
 use Rattle.convert.proofs.RecordSteps.{run-append, need-append, Went, one-record, count-one}
+
+abbrev pub recordAt : List ℕ → ℕ → Record
+recordAt gs i = record { kind = getD gs (4 * i) 0; a = getD gs (4 * i + 1) 0; b = getD gs (4 * i + 2) 0; c = getD gs (4 * i + 3) 0 }
+
+-- the elementary gates of the records from i on
+abbrev pub restOf : List ℕ → ℕ → List (Placed Elementary)
+restOf gs i = lowerFrom i (drop i (records gs))
 
 -- the records from i on
 pub drop-record : (gs : List ℕ) (i : ℕ) → i < length gs / 4 → drop i (records gs) ≡ recordAt gs i ∷ drop (suc i) (records gs)

@@ -8,7 +8,7 @@ use lib.ListN.{getD, set}
 use lib.Seq.{sets}
 use Rattle.arena.specs.Limits.{operationWords}
 use Rattle.arena.specs.Operations.{rotateWords}
-use Rattle.convert.specs.Raw.{Writing, writing, putOp, rowAt, subsetOf, subsetWord, putRows, putFour, putSeven}
+use Rattle.convert.specs.Code.Raw.{Writing, writing, putOp, rowAt, subsetOf, subsetWord, putRows, putFour, putSeven}
 
 abbrev pub table : List ℕ
 table = 1 ∷ 1 ∷ 2 ∷ 1 ∷ 4 ∷ 1 ∷ 3 ∷ 7 ∷ 5 ∷ 7 ∷ 6 ∷ 7 ∷ 7 ∷ 1 ∷ []

@@ -17,7 +17,7 @@ use Rattle.convert.specs.Records.{Cap, NoCap, AtMost, placedFrom, Record
 use Rattle.convert.specs.Plain.{Plain, begin, plainRun}
 use Rattle.convert.specs.Needs.{Needs, needRun}
 use Rattle.convert.specs.Conversion.{roomChecked, limits}
-use Rattle.convert.specs.Raw.{anyExceeds, isCapped, costOf, costs, summed, needed, countFor, needsOf, planesFor, plainLast, needsLast, NeedsChecked}
+use Rattle.convert.specs.Code.Raw.{anyExceeds, isCapped, costOf, costs, summed, needed, countFor, needsOf, planesFor, plainLast, needsLast, NeedsChecked}
 use Rattle.convert.specs.declared.count.Needed.{Needed}
 use Rattle.convert.proofs.CountLaws.{never, planes-over}
 use Rattle.convert.proofs.RecordSteps.{run-append, need-append, count-one}

@@ -11,16 +11,16 @@ use Rattle.pauli.specs.Table.{start}
 use Rattle.pauli.specs.Rotations.{flush}
 use Rattle.arena.specs.Builder.{overlay, startNodes, startFrame, imageWords}
 use Rattle.arena.proofs.Overlay.{length-qubitNodes}
-use Rattle.convert.specs.Records.{GateKind, KindH, KindX, KindZ, KindS, KindSdg, KindT, KindTdg, KindCnot, KindCz, KindCcx, KindCcz, KindMeasure, KindY, KindSx, KindSwap, KindCy, Unsupported, Cap, Elementary, Placed, placedFrom, bare, records, kindOf, lowerAs, lowerAll}
+use Rattle.convert.specs.Records.{GateKind, KindH, KindX, KindZ, KindS, KindSdg, KindT, KindTdg, KindCnot, KindCz, KindCcx, KindCcz, KindMeasure, KindY, KindSx, KindSwap, KindCy, Unsupported, Cap, Elementary, Placed, placedFrom, bare, kindOf, lowerAs, lowerAll}
 use Rattle.convert.specs.Plain.{Plain, begin, plainStep, plainRun}
 use Rattle.convert.specs.Frame.{startArena, gateNodes, total}
 use Rattle.convert.specs.Words.{Words, startWords, flushWords, wordRun}
 use Rattle.convert.specs.Needs.{Needs, writtenNodes, writtenOps, needStep, needRun}
-use Rattle.convert.specs.RawPlanes.{Wide}
-use Rattle.convert.specs.Raw.{recordGates, restOf, planesFor, Decided, Fits, Small, Ready, Ran, FlushReady, FlushedIf, RecordReady, gatesOver, anyExceeds, costOf, loneNodes, measuresOf, needsOf, putRecord, putSeven, putFour, putRows, Writing, writing, plainLast, wordsLast, needsLast, Room}
+use Rattle.convert.specs.Code.RawPlanes.{Wide}
+use Rattle.convert.specs.Code.Raw.{recordGates, planesFor, Decided, Fits, Small, Ready, Ran, FlushReady, FlushedIf, RecordReady, gatesOver, anyExceeds, costOf, loneNodes, measuresOf, needsOf, putRecord, putSeven, putFour, putRows, Writing, writing, plainLast, wordsLast, needsLast, Room}
 use Rattle.convert.proofs.CountLaws.{valid-of, wide-start}
 use Rattle.convert.proofs.RecordSteps.{run-append, need-append, word-append, One, one-record, framed, writeRecord, needs-eq}
-use Rattle.convert.proofs.RestLaws.{rest-more, rest-end, wide-went}
+use Rattle.convert.proofs.RestLaws.{rest-more, rest-end, wide-went, restOf}
 use Rattle.convert.proofs.Standing.{Stands, stands-frames, stands-if, stands-record, writeLone, lone-after, length-start}
 
 -- ---- needs only grow

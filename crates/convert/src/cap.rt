@@ -1,7 +1,7 @@
 //! The cap of a conversion.
 
 ghost use mathlib.Core.Path.{_≡_};
-ghost use Rattle.convert.specs.Raw.{isCapped};
+ghost use Rattle.convert.specs.Code.Raw.{isCapped};
 
 /// The most letters other than I that an axis may have, or no such bound.
 pub enum Cap {

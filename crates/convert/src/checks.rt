@@ -23,7 +23,7 @@ ghost use Rattle.convert.specs.Records.{records};
 ghost use Rattle.convert.specs.Frame.{qubitsOf, operandsChecked, namesUnused, cliffordCheck};
 ghost use Rattle.convert.specs.Conversion.{recordChecked, recordsChecked, anyDoubly, capTooSmall, planesTooFew, gatesChecked, roomChecked, limits};
 ghost use Rattle.convert.specs.Planes.{partWords};
-ghost use Rattle.convert.specs.Raw.{recordOf};
+ghost use Rattle.convert.specs.Code.Raw.{recordOf};
 
 /// The most words of a gate list.
 pub const MAX_GATE_WORDS: usize = 262144;

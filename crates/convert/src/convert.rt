@@ -17,7 +17,7 @@ ghost use Prim.Native.Nat.{_+_, _*_, _≤_};
 ghost use lib.ListN.{length};
 ghost use Rattle.convert.specs.Planes.{partWords};
 ghost use Rattle.convert.specs.Conversion.{convertStep, inputOf};
-ghost use Rattle.convert.specs.Raw.{isCapped, Fits, NeedsChecked, headerOf};
+ghost use Rattle.convert.specs.Code.Raw.{isCapped, Fits, NeedsChecked, headerOf};
 
 /// What `to_pbc` answers.
 pub enum Converted {

@@ -14,7 +14,7 @@ ghost use lib.ListN.{length};
 ghost use Rattle.pauli.specs.Table.{start};
 ghost use Rattle.convert.specs.Records.{AtMost, lowerAs, AllProper, records};
 ghost use Rattle.convert.specs.Planes.{partWords};
-ghost use Rattle.convert.specs.Raw.{needed, costOf, costs, isCapped, refreshed, summed, planesFor, Decided, Fits, countFor, plainLast, needsLast};
+ghost use Rattle.convert.specs.Code.Raw.{needed, costOf, costs, isCapped, refreshed, summed, planesFor, Decided, Fits, countFor, plainLast, needsLast};
 
 /// Nodes and operations; and those that a flush of the pending gates writes, its joint nodes and its rotations.
 pub struct Needed {

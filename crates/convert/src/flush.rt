@@ -15,7 +15,7 @@ ghost use Rattle.arena.specs.Limits.{operationWords};
 ghost use Rattle.arena.specs.Operations.{rotateWords};
 ghost use Rattle.arena.specs.Builder.{overlay, imageWords, startFrame};
 ghost use Rattle.convert.specs.Words.{idX, idZ};
-ghost use Rattle.convert.specs.Raw.{writing, putJoint, FlushReady, Flushed, recordGates, gatesOver};
+ghost use Rattle.convert.specs.Code.Raw.{writing, putJoint, FlushReady, Flushed, recordGates, gatesOver};
 
 /// The nodes and operations used.
 pub struct Used {

@@ -14,7 +14,7 @@ ghost use Rattle.arena.specs.References.{scaledWord};
 ghost use Rattle.convert.specs.Types.{MinusOne};
 ghost use Rattle.arena.specs.Builder.{withNodes};
 ghost use Rattle.convert.specs.Frame.{frameGates, cliffordStep};
-ghost use Rattle.convert.specs.Raw.{Multiplied, Ready, Ran, recordGates};
+ghost use Rattle.convert.specs.Code.Raw.{Multiplied, Ready, Ran, recordGates};
 
 /// What `push_output_clifford` answers.
 pub enum FramePushed {

@@ -4,7 +4,7 @@ ghost use mathlib.Core.Path.{_≡_};
 ghost use Prim.Native.Nat.{_+_, _*_, _/_, _<_};
 ghost use lib.ListN.{length, getD};
 ghost use Rattle.convert.specs.Records.{kindOf, arityOf};
-ghost use Rattle.convert.specs.Raw.{testsOf, isFrame, frameNodes};
+ghost use Rattle.convert.specs.Code.Raw.{testsOf, isFrame, frameNodes};
 
 /// What a gate record's first word names. The Rust's names; all numbers that document 01 does not list are `Unsupported`.
 pub enum GateKind {

@@ -1,5 +1,5 @@
 //! Planes (document 01): for each image l words of x bits and l of z bits. Image 2q is the x image of qubit q, image 2q + 1 its z image.
-//! What the words stand for: specs/Planes.antt; what each loop does to them: specs/RawPlanes.antt.
+//! What the words stand for: specs/Planes.antt; what each loop does to them: specs/Code/RawPlanes.antt.
 
 use crate::gate::GateKind;
 ghost use mathlib.Core.Path.{_≡_};
@@ -10,8 +10,8 @@ ghost use Rattle.pauli.specs.Gates.{AllValid, gateH, gateS, gateCnot, gateCz};
 ghost use Rattle.pauli.specs.Rows.{Row};
 ghost use Rattle.convert.specs.Records.{AtMost, lowerAs, AllProper};
 ghost use Rattle.convert.specs.Planes.{partWords, packed};
-ghost use Rattle.convert.specs.Raw.{recordGates, anyExceeds};
-ghost use Rattle.convert.specs.RawPlanes.{Wide, planeRun, xorTo, swapTo, weightTo, picked, joined, planeStep, planeReset, clearTo, sevenAbove};
+ghost use Rattle.convert.specs.Code.Raw.{recordGates, anyExceeds};
+ghost use Rattle.convert.specs.Code.RawPlanes.{Wide, planeRun, xorTo, swapTo, weightTo, picked, joined, planeStep, planeReset, clearTo, sevenAbove};
 
 fn xor_into(planes: &mut [u64], l: usize, i: usize, j: usize)
     requires { ⌜ (i * (l + l) + (l + l) ≤ length (now planes)) × (j * (l + l) + (l + l) ≤ length (now planes)) ⌝ }

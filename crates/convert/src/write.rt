@@ -19,7 +19,7 @@ ghost use mathlib.Core.Bool.{true, cond};
 ghost use mathlib.Core.List.{[]};
 ghost use Prim.Native.Nat.{_+_, _*_, _/_, _<_, _≤_};
 ghost use lib.ListN.{length};
-ghost use Rattle.convert.specs.Raw.{writing, rowAt, subsetOf, subsetWord, putRows, putFour, putSeven, putRecord, RecordReady, FlushReady, FlushedIf, gatesOver, planesFor, isCapped, measuresOf, Fits, Room, wordsLast, plainLast};
+ghost use Rattle.convert.specs.Code.Raw.{writing, rowAt, subsetOf, subsetWord, putRows, putFour, putSeven, putRecord, RecordReady, FlushReady, FlushedIf, gatesOver, planesFor, isCapped, measuresOf, Fits, Room, wordsLast, plainLast};
 ghost use Rattle.arena.specs.Builder.{overlay, startNodes, startFrame};
 ghost use Rattle.convert.specs.Words.{flat};
 ghost use Rattle.convert.specs.Planes.{partWords};

@@ -1,6 +1,6 @@
 use mathlib.Core.Path.{_∙_, ap}
 use Rattle.arena.specs.Store.{noNodeRoom}
-use Rattle.convert.specs.Raw.{isFrame, frameNodes}
+use Rattle.convert.specs.Code.Raw.{isFrame, frameNodes}
 use Rattle.convert.proofs.CheckLaws.{clifford-checked}
 use borrow.Author.Needs.{needs}
 use Rattle.convert.proofs.checks.check_clifford.Statement.{statement}

@@ -4,7 +4,7 @@ use mathlib.Core.Path.{_≡_, ap, _∙_}
 use mathlib.Core.Bool.{false}
 use lib.ListN.{drop}
 use Rattle.convert.specs.Records.{records}
-use Rattle.convert.specs.Raw.{needed, summed}
+use Rattle.convert.specs.Code.Raw.{needed, summed}
 use Rattle.convert.specs.declared.count.Needed.{Needed}
 use Rattle.convert.proofs.RestLaws.{few-cost, costs-few}
 use Rattle.convert.proofs.SumLaws.{sum-more, sum-end}

@@ -1,6 +1,6 @@
 use native.Mathlib.Omega.{arith}
 use Rattle.convert.specs.Records.{lowerAs}
-use Rattle.convert.specs.Raw.{recordGates}
+use Rattle.convert.specs.Code.Raw.{recordGates}
 use Rattle.convert.proofs.FlushLaws.{flush-head, flush-tail, none-flushed, more-flushed}
 use borrow.Author.Needs.{needs}
 use Rattle.convert.proofs.flush.flush_record.Statement.{statement}

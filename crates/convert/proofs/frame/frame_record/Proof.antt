@@ -1,6 +1,6 @@
 use native.Mathlib.Omega.{arith}
 use Rattle.convert.specs.Records.{lowerAs}
-use Rattle.convert.specs.Raw.{recordGates}
+use Rattle.convert.specs.Code.Raw.{recordGates}
 use Rattle.convert.proofs.FrameLaws.{head-ready, tail-ready, none-ran, more-ran}
 use borrow.Author.Needs.{needs}
 use Rattle.convert.proofs.frame.frame_record.Statement.{statement}

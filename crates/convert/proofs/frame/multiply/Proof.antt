@@ -1,5 +1,5 @@
 use Prim.Native.Nat.{_-_}
-use Rattle.convert.specs.Raw.{putMultiplied}
+use Rattle.convert.specs.Code.Raw.{putMultiplied}
 use borrow.Author.Needs.{needs}
 use Rattle.convert.proofs.frame.multiply.Statement.{statement}
 use Rattle.convert.proofs.frame.multiply.Tie as tie

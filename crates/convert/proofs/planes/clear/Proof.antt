@@ -4,7 +4,7 @@ use borrow.Author.Needs.{needs}
 use lib.ListN.{length, length-set}
 use mathlib.Core.Path.{_≡_, refl}
 use Prim.Native.Nat.{_≤_, _-_}
-use Rattle.convert.specs.RawPlanes.{clearTo}
+use Rattle.convert.specs.Code.RawPlanes.{clearTo}
 use Rattle.convert.proofs.planes.clear.Statement.{statement}
 use Rattle.convert.proofs.planes.clear.Tie as tie
 use Rattle.convert.proofs.planes.clear.Reads as reads

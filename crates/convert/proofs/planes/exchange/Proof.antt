@@ -4,7 +4,7 @@ use native.Mathlib.Omega.{arith}
 use native.Mathlib.Numerals.{add-one}
 use borrow.Author.Needs.{needs}
 use lib.ListN.{length, length-set}
-use Rattle.convert.specs.RawPlanes.{swapTo}
+use Rattle.convert.specs.Code.RawPlanes.{swapTo}
 use Rattle.convert.proofs.planes.exchange.Statement.{statement}
 use Rattle.convert.proofs.planes.exchange.Tie as tie
 use Rattle.convert.proofs.planes.exchange.Reads as reads

@@ -3,7 +3,7 @@ use native.Mathlib.Numerals.{add-one}
 use lib.ListN.{length}
 use mathlib.Core.Path.{_∙_}
 use Prim.Native.Nat.{_-_}
-use Rattle.convert.specs.RawPlanes.{planeStep}
+use Rattle.convert.specs.Code.RawPlanes.{planeStep}
 use Rattle.convert.proofs.PlaneLaws.{room-x, room-z}
 use borrow.Author.Needs.{needs}
 use Rattle.convert.proofs.planes.plane_cnot.Statement.{statement}

@@ -1,8 +1,8 @@
 use native.Mathlib.Omega.{arith}
 use mathlib.Core.Path.{_∙_}
-use Rattle.convert.specs.RawPlanes.{planeStep, planeRun}
+use Rattle.convert.specs.Code.RawPlanes.{planeStep, planeRun}
 use Rattle.convert.specs.Records.{lowerAs}
-use Rattle.convert.specs.Raw.{recordGates}
+use Rattle.convert.specs.Code.Raw.{recordGates}
 use borrow.Author.Needs.{needs}
 use Rattle.convert.proofs.planes.plane_record.Statement.{statement}
 use Rattle.convert.proofs.planes.plane_record.Tie as tie

@@ -4,7 +4,7 @@ use borrow.Author.Needs.{needs}
 use lib.ListN.{length}
 use mathlib.Core.Path.{_≡_, refl, _∙_}
 use Prim.Native.Nat.{_≤_, _-_}
-use Rattle.convert.specs.RawPlanes.{markTo, planeReset}
+use Rattle.convert.specs.Code.RawPlanes.{markTo, planeReset}
 use Rattle.convert.proofs.planes.reset.Statement.{statement}
 use Rattle.convert.proofs.planes.reset.Tie as tie
 use Rattle.convert.proofs.planes.reset.Reads as reads

@@ -4,7 +4,7 @@ use native.Mathlib.Omega.{arith}
 use borrow.Author.Needs.{needs}
 use lib.Bits.{or-lt}
 use lib.Count.{ones-le}
-use Rattle.convert.specs.RawPlanes.{weightTo}
+use Rattle.convert.specs.Code.RawPlanes.{weightTo}
 use Rattle.convert.proofs.PlaneLaws.{weight-more}
 use Rattle.convert.proofs.planes.weigh.Statement.{statement}
 use Rattle.convert.proofs.planes.weigh.Tie as tie

@@ -4,7 +4,7 @@ use native.Mathlib.Omega.{arith}
 use native.Mathlib.Numerals.{add-one}
 use borrow.Author.Needs.{needs}
 use lib.ListN.{length, length-set}
-use Rattle.convert.specs.RawPlanes.{xorTo}
+use Rattle.convert.specs.Code.RawPlanes.{xorTo}
 use Rattle.convert.proofs.planes.xor_into.Statement.{statement}
 use Rattle.convert.proofs.planes.xor_into.Tie as tie
 use Rattle.convert.proofs.planes.xor_into.Reads as reads

@@ -3,7 +3,7 @@ use Prim.Native.Nat.{_≤_, _+_, _-_}
 use mathlib.Core.Path.{_≡_, refl}
 use mathlib.Core.List.{[]}
 use lib.ListN.{length}
-use Rattle.convert.specs.Raw.{writing, putRows}
+use Rattle.convert.specs.Code.Raw.{writing, putRows}
 use Rattle.convert.proofs.SevenLaws.{rows-none, rows-more}
 use borrow.Author.Needs.{needs}
 use Rattle.convert.proofs.write.put_rows.Statement.{statement}

@@ -4,7 +4,7 @@ use Prim.Native.Nat.{_+_}
 use lib.ListN.{getD}
 use Rattle.arena.specs.Operations.{rotateWords, measureWords}
 use Rattle.convert.specs.Types.{Bit}
-use Rattle.convert.specs.Raw.{putRecord}
+use Rattle.convert.specs.Code.Raw.{putRecord}
 use Rattle.convert.proofs.SevenLaws.{op-put}
 use Rattle.convert.proofs.ReadyLaws.{read-t, read-tdg, read-measure, read-ccx, read-ccz}
 use borrow.Author.Needs.{needs}

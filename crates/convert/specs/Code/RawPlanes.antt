@@ -7,9 +7,8 @@ use lib.Dec.{ltb}
 use lib.ListN.{length, getD, set}
 use lib.Bits.{bitXor, bitOr}
 use lib.Count.{ones}
-use Rattle.pauli.specs.Rows.{Row, products, identity, Width}
+use Rattle.pauli.specs.Rows.{Row, identity, Width}
 use Rattle.pauli.specs.Gates.{Gate, gateH, gateX, gateZ, gateS, gateSdg, gateCnot, gateCz}
-use Rattle.convert.specs.Types.{Pauli}
 
 -- the first k words at t, each xored with the one at s
 unfoldable pub xorTo : List ℕ → ℕ → ℕ → ℕ → List ℕ
@@ -36,10 +35,6 @@ abbrev pub picked : ℕ → ℕ → ℕ
 picked zero w = 0
 picked (suc u) w = w
 
-abbrev pub pickedLetters : ℕ → List Pauli → List Pauli
-pickedLetters zero us = []
-pickedLetters (suc u) us = us
-
 -- the exclusive-or of the picked words at k of three images
 abbrev pub joined : List ℕ → ℕ → ℕ → ℕ → ℕ → ℕ → ℕ → ℕ → ℕ
 joined p ua ub ud a b d k = bitXor (bitXor (picked ua (getD p (a + k) 0)) (picked ub (getD p (b + k) 0))) (picked ud (getD p (d + k) 0))
@@ -48,10 +43,6 @@ joined p ua ub ud a b d k = bitXor (bitXor (picked ua (getD p (a + k) 0)) (picke
 unfoldable pub weightTo : List ℕ → ℕ → ℕ → ℕ → ℕ → ℕ → ℕ → ℕ → ℕ → ℕ
 weightTo p l ua ub ud a b d zero = 0
 weightTo p l ua ub ud a b d (suc k) = weightTo p l ua ub ud a b d k + ones (bitOr (joined p ua ub ud a b d k) (joined p ua ub ud a b d (l + k)))
-
--- the letters of the product of the picked rows
-abbrev pub chosen : ℕ → ℕ → ℕ → Row → Row → Row → List Pauli
-chosen ua ub ud A B D = products (products (pickedLetters ua (A .letters)) (pickedLetters ub (B .letters))) (pickedLetters ud (D .letters))
 
 -- what a frame gate does to the planes, word by word
 unfoldable pub planeStep : ℕ → Gate → List ℕ → List ℕ

@@ -4,7 +4,7 @@ use mathlib.Core.Bool.{Bool, true, false, not, cond, _||_}
 use mathlib.Core.List.{List, [], _∷_, _++_}
 use Prim.Native.Nat.{ℕ, zero, suc, _+_, _*_, _/_, _<_, _≤_}
 use lib.Seq.{sets}
-use lib.ListN.{length, getD, set, drop}
+use lib.ListN.{length, getD, set}
 use Rattle.pauli.specs.Gates.{Gate, gateH, gateX, gateZ, gateS, gateSdg, gateCnot, gateCz, AllValid}
 use Rattle.arena.specs.References.{scaledWord}
 use Rattle.arena.specs.Builder.{overlay, startFrame}
@@ -13,7 +13,7 @@ use Rattle.convert.specs.Conversion.{isMeasure, isDoubly, roomChecked, l
 use Rattle.arena.specs.Operations.{rotateWords, measureWords}
 use Rattle.convert.specs.Words.{Words, startWords, wordRun, idX, idZ}
 use Rattle.convert.specs.Types.{MinusOne, Bit, PbcError, Checked, Fine, Wrong, Header}
-use Rattle.convert.specs.Records.{GateKind, KindH, KindX, KindZ, KindS, KindSdg, KindT, KindTdg, KindCnot, KindCz, KindCcx, KindCcz, KindMeasure, KindY, KindSx, KindSwap, KindCy, Unsupported, Cap, NoCap, AtMost, Elementary, clifford, elT, elTdg, elCcx, elCcz, elMeasure, Placed, bare, lowerAs, lowerFrom, Record, records, kindOf, AllProper, lowerAll}
+use Rattle.convert.specs.Records.{GateKind, KindH, KindX, KindZ, KindS, KindSdg, KindT, KindTdg, KindCnot, KindCz, KindCcx, KindCcz, KindMeasure, KindY, KindSx, KindSwap, KindCy, Unsupported, Cap, NoCap, AtMost, Elementary, clifford, elT, elTdg, elCcx, elCcz, elMeasure, bare, lowerAs, Record, records, kindOf, AllProper, lowerAll}
 use Rattle.pauli.specs.Rows.{Row, tally}
 use Rattle.pauli.specs.Doubly.{Term, term, sevenRows}
 use Rattle.pauli.specs.Table.{start, run}
@@ -21,7 +21,7 @@ use Rattle.pauli.specs.Rotations.{flush}
 use Rattle.convert.specs.Plain.{Plain, begin, exceeds, plainRun}
 use Rattle.convert.specs.Needs.{Needs, writtenNodes, writtenOps, needRun}
 use Rattle.convert.specs.Planes.{packed}
-use Rattle.convert.specs.RawPlanes.{Wide, planeReset}
+use Rattle.convert.specs.Code.RawPlanes.{Wide, planeReset}
 use Rattle.convert.specs.declared.count.Needed.{Needed}
 use Rattle.convert.specs.Frame.{Arena, stored, word, gateNodes, total}
 
@@ -155,15 +155,8 @@ pub record Ran (n : ℕ) (gs : List Gate) (c : ℕ) (ns fs : List ℕ) (c′ : �
 
 -- ---- records among the words
 
-abbrev pub recordAt : List ℕ → ℕ → Record
-recordAt gs i = record { kind = getD gs (4 * i) 0; a = getD gs (4 * i + 1) 0; b = getD gs (4 * i + 2) 0; c = getD gs (4 * i + 3) 0 }
-
 abbrev pub recordOf : ℕ → ℕ → ℕ → ℕ → Record
 recordOf k a b c = record { kind = k; a = a; b = b; c = c }
-
--- the elementary gates of the records from i on
-abbrev pub restOf : List ℕ → ℕ → List (Placed Elementary)
-restOf gs i = lowerFrom i (drop i (records gs))
 
 -- every record passed the checks: its operands are among the n qubits, and differ
 pub record Fits (n : ℕ) (gs : List ℕ) : Type 0 where

@@ -1,0 +1,3 @@
+-- What the functions that are not public ask of each other: what they do to the lent words, where these lie. No public promise and no theorem cites it.
+pub mod RawPlanes
+pub mod Raw
