@@ -136,7 +136,7 @@ accepted l x e₁₅ =
 -- ---- an accepted frame gate
 
 gate-valid : (s : Checked) (n i : ℕ) (k : GateKind) (a b : ℕ) → operandsChecked s n i [] (qubitsOf k a b 0) ≡ Fine → AllValid n (frameGates k a b)
-unfolding qubitsOf frameGates
+unfolding qubitsOf frameGates lowerAs
 gate-valid s n i KindH a b e = (operand-low s n i [] a [] e, tt)
 gate-valid s n i KindX a b e = (operand-low s n i [] a [] e, tt)
 gate-valid s n i KindZ a b e = (operand-low s n i [] a [] e, tt)

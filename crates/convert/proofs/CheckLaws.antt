@@ -14,7 +14,7 @@ use Rattle.convert.specs.Types.{PbcError, QubitOutOfRange, RepeatedOpera
 use Rattle.arena.specs.Store.{breaksLimit, exceedsNodes, noNodeRoom}
 use Rattle.convert.specs.Planes.{partWords}
 use Rattle.convert.proofs.RestLaws.{drop-record, no-more}
-use Rattle.convert.specs.Records.{GateKind, KindH, KindX, KindZ, KindS, KindSdg, KindT, KindTdg, KindCnot, KindCz, KindCcx, KindCcz, KindMeasure, KindY, KindSx, KindSwap, KindCy, Unsupported, arityOf, records, kindOf}
+use Rattle.convert.specs.Records.{GateKind, KindH, KindX, KindZ, KindS, KindSdg, KindT, KindTdg, KindCnot, KindCz, KindCcx, KindCcz, KindMeasure, KindY, KindSx, KindSwap, KindCy, Unsupported, arityOf, records, kindOf, lowerAs}
 use Rattle.convert.specs.Frame.{qubitsBy, qubitsOf, operandsChecked, namesUnused, frameGates, gateNodes, total, cliffordCheck}
 use Rattle.convert.specs.Conversion.{isDoubly, recordChecked, recordsChecked, anyDoubly}
 use Rattle.convert.specs.Code.Raw.{isFrame, frameNodes, measuresOf, recordOf}
@@ -142,7 +142,7 @@ pub unused-end : (k w i : ℕ) (fs : List ℕ) (f : Bool) → min w (length fs) 
 unused-end k w i fs f h = rw (drop-end w i fs h) (or-false f)
 
 frame-by : (k : GateKind) (a b : ℕ) → eqb (length (frameGates k a b)) 0 ≡ not (isFrame k)
-unfolding frameGates
+unfolding isFrame frameGates lowerAs
 frame-by KindH a b = refl
 frame-by KindX a b = refl
 frame-by KindZ a b = refl
@@ -162,7 +162,7 @@ frame-by KindCy a b = refl
 frame-by Unsupported a b = refl
 
 nodes-by : (k : GateKind) (a b : ℕ) → total gateNodes (frameGates k a b) ≡ frameNodes k
-unfolding frameGates
+unfolding frameNodes frameGates lowerAs
 nodes-by KindH a b = refl
 nodes-by KindX a b = refl
 nodes-by KindZ a b = refl

@@ -3,7 +3,6 @@ use mathlib.Core.Path.{_≡_, refl, sym, ap, _∙_}
 use mathlib.Core.Bool.{Bool, true, false, cond}
 use mathlib.Core.List.{List, [], _∷_, _++_}
 use Prim.Native.Nat.{ℕ, zero, suc, _+_, _*_, _≤_}
-use native.Mathlib.Omega.{arith}
 use lib.ListN.{length, getD, drop, length-append, length-replicate}
 use lib.Seq.{drop-at}
 use Rattle.pauli.specs.Rows.{Row, identity, Width}
@@ -12,13 +11,14 @@ use Rattle.pauli.specs.Table.{start, column, run}
 use Rattle.pauli.proofs.Short.{width-single}
 use Rattle.convert.specs.Types.{Pauli, X, Z}
 use Rattle.convert.specs.Records.{GateKind, KindH, KindX, KindZ, KindS, KindSdg, KindT, KindTdg, KindCnot, KindCz, KindCcx, KindCcz, KindMeasure, KindY, KindSx, KindSwap, KindCy, Unsupported, Cap, NoCap, AtMost, Elementary, lowerAs, AllProper}
-use Rattle.convert.specs.Plain.{tested, exceeds}
+use Rattle.convert.specs.Plain.{exceeds}
 use Rattle.convert.specs.Planes.{partWords, packed}
 use Rattle.convert.specs.Code.RawPlanes.{Wide, planeRun}
 use Rattle.convert.specs.Code.Raw.{testsOf, anyExceeds, isCapped, refreshed, recordGates, planesFor, Decided}
 use Rattle.arena.specs.Builder.{overlay}
 use Rattle.convert.proofs.PlaneLaws.{packed-length}
 use Rattle.convert.proofs.Packed.{plane-run, plane-again, plane-reset}
+use Rattle.convert.proofs.Heavy.{light}
 
 -- without a cap there is no flush
 pub never : (n : ℕ) (t : List Row) (es : List Elementary) → false ≡ anyExceeds n NoCap t es
@@ -71,29 +71,9 @@ valid-of n KindSwap a b d w = w
 valid-of n KindCy a b d w = w
 valid-of n Unsupported a b d w = w
 
--- a record that is not tested is never heavy; one that is has no frame gates
-no-tests : (n most : ℕ) (t : List Row) (k : GateKind) (a b d : ℕ) → testsOf k ≡ 0 → false ≡ anyExceeds n (AtMost most) t (lowerAs k a b d)
-unfolding lowerAs exceeds tested
-no-tests n most t KindH a b d e = refl
-no-tests n most t KindX a b d e = refl
-no-tests n most t KindZ a b d e = refl
-no-tests n most t KindS a b d e = refl
-no-tests n most t KindSdg a b d e = refl
-no-tests n most t KindT a b d e = absurd (omega arith)
-no-tests n most t KindTdg a b d e = absurd (omega arith)
-no-tests n most t KindCnot a b d e = refl
-no-tests n most t KindCz a b d e = refl
-no-tests n most t KindCcx a b d e = absurd (omega arith)
-no-tests n most t KindCcz a b d e = absurd (omega arith)
-no-tests n most t KindMeasure a b d e = absurd (omega arith)
-no-tests n most t KindY a b d e = refl
-no-tests n most t KindSx a b d e = refl
-no-tests n most t KindSwap a b d e = refl
-no-tests n most t KindCy a b d e = refl
-no-tests n most t Unsupported a b d e = refl
-
+-- a record that is tested has no frame gates
 no-gates : (k : GateKind) (a b : ℕ) → (testsOf k ≡ 0 → ⊥) → recordGates k a b ≡ []
-unfolding recordGates lowerAs
+unfolding testsOf recordGates lowerAs
 no-gates KindH a b e = absurd (e refl)
 no-gates KindX a b e = absurd (e refl)
 no-gates KindZ a b e = absurd (e refl)
@@ -133,7 +113,7 @@ decided-by n l most k a b d ps f ps′ el w flag planes = record {
 
 pub decided-untested : (n l most : ℕ) (k : GateKind) (a b d : ℕ) (ps ps′ : List ℕ) → l ≡ partWords n → AllProper n (b + 1) (lowerAs k a b d) → testsOf k ≡ 0
     → ps′ ≡ planeRun l (recordGates k a b) ps → Decided n (AtMost most) k a b d ps false ps′
-decided-untested n l most k a b d ps ps′ el w e planes = decided-by n l most k a b d ps false ps′ el w (λ t rest wd at. no-tests n most t k a b d e) planes
+decided-untested n l most k a b d ps ps′ el w e planes = decided-by n l most k a b d ps false ps′ el w (λ t rest wd at. light n most t k a b d e) planes
 
 pub decided-tested : (n l most : ℕ) (k : GateKind) (a b d : ℕ) (ps : List ℕ) (f : Bool) (ps′ : List ℕ) → l ≡ partWords n → AllProper n (b + 1) (lowerAs k a b d) → (testsOf k ≡ 0 → ⊥)
     → ((t : List Row) (rest : List ℕ) → Wide n t → ps ≡ packed n t ++ rest → f ≡ anyExceeds n (AtMost most) t (lowerAs k a b d)) → ps′ ≡ refreshed f n l ps

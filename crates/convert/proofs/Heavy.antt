@@ -28,7 +28,7 @@ or-false true = refl
 or-false false = refl
 
 pub light : (n cap : ℕ) (t : List Row) (K : GateKind) (a b d : ℕ) → testsOf K ≡ 0 → false ≡ anyExceeds n (AtMost cap) t (lowerAs K a b d)
-unfolding lowerAs exceeds tested
+unfolding testsOf lowerAs exceeds tested
 light n cap t KindH a b d e = refl
 light n cap t KindX a b d e = refl
 light n cap t KindZ a b d e = refl
@@ -49,7 +49,7 @@ light n cap t Unsupported a b d e = refl
 
 z-case : (n cap : ℕ) (t : List Row) (K : GateKind) (a b d : ℕ) → testsOf K ≡ 1 → AllProper n (b + 1) (lowerAs K a b d)
     → (a < n) × (ltb cap (weight (zRow n t a .letters)) ≡ anyExceeds n (AtMost cap) t (lowerAs K a b d))
-unfolding lowerAs exceeds tested
+unfolding testsOf lowerAs exceeds tested
 z-case n cap t KindH a b d e v = absurd (omega arith)
 z-case n cap t KindX a b d e v = absurd (omega arith)
 z-case n cap t KindZ a b d e v = absurd (omega arith)
@@ -70,7 +70,7 @@ z-case n cap t Unsupported a b d e v = absurd (omega arith)
 
 ccx-case : (n cap : ℕ) (t : List Row) (K : GateKind) (a b d : ℕ) → testsOf K ≡ 2 → AllProper n (b + 1) (lowerAs K a b d)
     → (a < n) × (b < n) × (d < n) × (anyAbove cap (seven (zRow n t a) (zRow n t b) (xRow n t d)) ≡ anyExceeds n (AtMost cap) t (lowerAs K a b d))
-unfolding lowerAs exceeds tested
+unfolding testsOf lowerAs exceeds tested
 ccx-case n cap t KindH a b d e v = absurd (omega arith)
 ccx-case n cap t KindX a b d e v = absurd (omega arith)
 ccx-case n cap t KindZ a b d e v = absurd (omega arith)
@@ -91,7 +91,7 @@ ccx-case n cap t Unsupported a b d e v = absurd (omega arith)
 
 ccz-case : (n cap : ℕ) (t : List Row) (K : GateKind) (a b d : ℕ) → testsOf K ≡ 3 → AllProper n (b + 1) (lowerAs K a b d)
     → (a < n) × (b < n) × (d < n) × (anyAbove cap (seven (zRow n t a) (zRow n t b) (zRow n t d)) ≡ anyExceeds n (AtMost cap) t (lowerAs K a b d))
-unfolding lowerAs exceeds tested
+unfolding testsOf lowerAs exceeds tested
 ccz-case n cap t KindH a b d e v = absurd (omega arith)
 ccz-case n cap t KindX a b d e v = absurd (omega arith)
 ccz-case n cap t KindZ a b d e v = absurd (omega arith)
@@ -117,6 +117,7 @@ pub three-qubits : (n : ℕ) (K : GateKind) (a b d : ℕ) → testsOf K ≡ 2 �
 three-qubits n K a b d e v = let r = ccx-case n 0 [] K a b d e v in (r .0, r .1, r .2)
 
 tests-most : (K : GateKind) → testsOf K ≤ 3
+unfolding testsOf lowerAs
 tests-most KindH = omega arith
 tests-most KindX = omega arith
 tests-most KindZ = omega arith

@@ -1,4 +1,5 @@
 -- Laws by subject, from the bottom up; the claims themselves are in Theorems.
+pub mod Arms
 pub mod Outside
 pub mod PlaneLaws
 pub mod Packed

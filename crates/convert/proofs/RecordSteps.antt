@@ -209,7 +209,7 @@ writeRecord n given Unsupported a b d w = framed n (recordGates Unsupported a b)
 
 pub one-record : (n : ℕ) (cap : Cap) (i : ℕ) (kind : GateKind) (a b d : ℕ) (p : Plain) (k : Needs) (w : Words)
     → One n cap i (lowerAs kind a b d) (recordGates kind a b) (measuresOf kind) (costOf kind .nodes) (costOf kind .operations) (writeRecord n (p .given) kind a b d) p k w
-unfolding lowerAs recordGates writeRecord
+unfolding costOf lowerAs recordGates writeRecord
 one-record n cap i KindH a b d p k w = of-frames n cap i (gateH a ∷ []) (costOf KindH .nodes) p k w (omega arith)
 one-record n cap i KindX a b d p k w = of-frames n cap i (gateX a ∷ []) (costOf KindX .nodes) p k w (omega arith)
 one-record n cap i KindZ a b d p k w = of-frames n cap i (gateZ a ∷ []) (costOf KindZ .nodes) p k w (omega arith)
@@ -230,7 +230,7 @@ one-record n cap i Unsupported a b d p k w = of-frames n cap i ([]) (costOf Unsu
 
 -- what its frame gates add to a flush
 pub adds : (kind : GateKind) (a b : ℕ) → (total writtenNodes (recordGates kind a b) ≡ costOf kind .joints) × (total writtenOps (recordGates kind a b) ≡ costOf kind .rotations)
-unfolding recordGates lowerAs
+unfolding costOf recordGates lowerAs
 adds KindH a b = (omega arith, omega arith)
 adds KindX a b = (omega arith, omega arith)
 adds KindZ a b = (omega arith, omega arith)
@@ -250,7 +250,7 @@ adds KindCy a b = (omega arith, omega arith)
 adds Unsupported a b = (omega arith, omega arith)
 
 pub gate-nodes : (kind : GateKind) (a b : ℕ) → testsOf kind ≡ 0 → total gateNodes (recordGates kind a b) ≡ costOf kind .nodes
-unfolding recordGates lowerAs
+unfolding testsOf costOf recordGates lowerAs
 gate-nodes KindH a b e = omega arith
 gate-nodes KindX a b e = omega arith
 gate-nodes KindZ a b e = omega arith

@@ -113,6 +113,7 @@ count-start n cap gs ps₀ ps k h e at = record {
 }
 
 cost-few : (kind : GateKind) → (costOf kind .nodes + costOf kind .joints ≤ 16) × (costOf kind .operations + costOf kind .rotations ≤ 16)
+unfolding costOf lowerAs
 cost-few KindH = (omega arith, omega arith)
 cost-few KindX = (omega arith, omega arith)
 cost-few KindZ = (omega arith, omega arith)

@@ -189,7 +189,7 @@ record-lying : (n given : ℕ) (ns os fs : List ℕ) (kind : GateKind) (a b d : 
     → 2 * (w .arena .count + loneNodes kind) ≤ length ns → 4 * (length (w .ops) + costOf kind .operations) ≤ length os
     → ((i : ℕ) → i < n + n → getD fs i 0 ≡ word (w .arena) i)
     → (putRecord n given kind a b d fs (lying ns os w) ≡ lying ns os (writeLone n given kind a b d w)) × Square (writeLone n given kind a b d w)
-unfolding putRecord writeLone write putAll lowerAs
+unfolding costOf putRecord writeLone write putAll lowerAs
 record-lying n given ns os fs KindH a b d w q v rn ro f = (refl, q)
 record-lying n given ns os fs KindX a b d w q v rn ro f = (refl, q)
 record-lying n given ns os fs KindZ a b d w q v rn ro f = (refl, q)

@@ -92,7 +92,7 @@ counted-if true n gs d = (d .is refl .counted, d .is refl .turned)
 counted-if false n gs d = let k = d .not refl in (omega (arith, k .0), omega (arith, k .3))
 
 node-parts : (kind : GateKind) (a b : ℕ) → total gateNodes (recordGates kind a b) + loneNodes kind ≡ costOf kind .nodes
-unfolding recordGates lowerAs
+unfolding costOf recordGates lowerAs
 node-parts KindH a b = omega arith
 node-parts KindX a b = omega arith
 node-parts KindZ a b = omega arith
@@ -132,7 +132,7 @@ measures-few Unsupported = omega arith
 
 record-counts : (n given : ℕ) (kind : GateKind) (a b d : ℕ) (fs : List ℕ) (c : ℕ) (ns : List ℕ) (u : ℕ) (os : List ℕ) (c′ : ℕ) (ns′ : List ℕ) (u′ : ℕ) (os′ : List ℕ)
     → writing c′ ns′ u′ os′ ≡ putRecord n given kind a b d fs (writing c ns u os) → (c′ ≡ c + loneNodes kind) × (u′ ≡ u + costOf kind .operations)
-unfolding putRecord putSeven putFour putRows
+unfolding costOf lowerAs putRecord putSeven putFour putRows
 record-counts n given KindH a b d fs c ns u os c′ ns′ u′ os′ e = (ap (λ (s : Writing). s .count) e ∙ omega arith, ap (λ (s : Writing). s .used) e ∙ omega arith)
 record-counts n given KindX a b d fs c ns u os c′ ns′ u′ os′ e = (ap (λ (s : Writing). s .count) e ∙ omega arith, ap (λ (s : Writing). s .used) e ∙ omega arith)
 record-counts n given KindZ a b d fs c ns u os c′ ns′ u′ os′ e = (ap (λ (s : Writing). s .count) e ∙ omega arith, ap (λ (s : Writing). s .used) e ∙ omega arith)

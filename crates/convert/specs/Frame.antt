@@ -13,7 +13,7 @@ use Rattle.arena.specs.Nodes.{productWord}
 use Rattle.arena.specs.Store.{breaksLimit, exceedsNodes, noNodeRoom}
 use Rattle.arena.specs.Builder.{Step, decided, Lent, overlay, withNodes, startNodes, startFrame}
 use Rattle.convert.specs.Types.{Phase, One, PlusI, MinusOne, MinusI, Header, BadStore, NonCliffordFrameGate, QubitOutOfRange, RepeatedOperand, NoFrame, NoNodes, Checked, Fine}
-use Rattle.convert.specs.Records.{GateKind, KindH, KindX, KindZ, KindS, KindSdg, KindT, KindTdg, KindCnot, KindCz, KindCcx, KindCcz, KindMeasure, KindY, KindSx, KindSwap, KindCy, Unsupported, arityOf, kindOf}
+use Rattle.convert.specs.Records.{GateKind, arityOf, kindOf, Elementary, clifford, elT, elTdg, elCcx, elCcz, elMeasure, lowerAs}
 pub use Rattle.convert.specs.declared.frame.FramePushed.the-variants.{the-data as FramePushed, Made as FramePushedMade, Refused as FramePushedRefused}
 
 -- ---- a gate's work on used nodes and frame words
@@ -89,25 +89,25 @@ operandsChecked k n i seen (q ∷ qs) =
 
 -- ---- push_output_clifford: 3, 6, 7, 8, 13, 14
 
--- the frame gate of a kind, as a list of one; the other kinds have none
+-- the frame gates among elementary gates
+abbrev pub cliffordsOf : List Elementary → List Gate
+cliffordsOf [] = []
+cliffordsOf (clifford g ∷ es) = g ∷ cliffordsOf es
+cliffordsOf (elT q ∷ es) = cliffordsOf es
+cliffordsOf (elTdg q ∷ es) = cliffordsOf es
+cliffordsOf (elCcx a b d ∷ es) = cliffordsOf es
+cliffordsOf (elCcz a b d ∷ es) = cliffordsOf es
+cliffordsOf (elMeasure q k ∷ es) = cliffordsOf es
+
+-- a list of one; a longer one counts as none
+abbrev pub alone : List Gate → List Gate
+alone [] = []
+alone (g ∷ []) = g ∷ []
+alone (g ∷ h ∷ gs) = []
+
+-- the frame gate of a kind that is lowered to one, as a list; the other kinds have none
 unfoldable pub frameGates : GateKind → ℕ → ℕ → List Gate
-frameGates KindH a b = gateH a ∷ []
-frameGates KindX a b = gateX a ∷ []
-frameGates KindZ a b = gateZ a ∷ []
-frameGates KindS a b = gateS a ∷ []
-frameGates KindSdg a b = gateSdg a ∷ []
-frameGates KindT a b = []
-frameGates KindTdg a b = []
-frameGates KindCnot a b = gateCnot a b ∷ []
-frameGates KindCz a b = gateCz a b ∷ []
-frameGates KindCcx a b = []
-frameGates KindCcz a b = []
-frameGates KindMeasure a b = []
-frameGates KindY a b = []
-frameGates KindSx a b = []
-frameGates KindSwap a b = []
-frameGates KindCy a b = []
-frameGates Unsupported a b = []
+frameGates kind a b = alone (cliffordsOf (lowerAs kind a b 0))
 
 abbrev pub total : (Gate → ℕ) → List Gate → ℕ
 total f [] = 0

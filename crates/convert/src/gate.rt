@@ -58,22 +58,18 @@ impl GateKind {
         ensures { λ r. ⌜ r ≡ arityOf self ⌝ }
     {
         match self {
-            GateKind::H => 1,
-            GateKind::X => 1,
-            GateKind::Z => 1,
-            GateKind::S => 1,
-            GateKind::Sdg => 1,
-            GateKind::T => 1,
-            GateKind::Tdg => 1,
-            GateKind::Cnot => 2,
-            GateKind::Cz => 2,
-            GateKind::Ccx => 3,
-            GateKind::Ccz => 3,
+            GateKind::H
+            | GateKind::X
+            | GateKind::Z
+            | GateKind::S
+            | GateKind::Sdg
+            | GateKind::T
+            | GateKind::Tdg
+            | GateKind::Y
+            | GateKind::Sx => 1,
+            GateKind::Cnot | GateKind::Cz | GateKind::Swap | GateKind::Cy => 2,
+            GateKind::Ccx | GateKind::Ccz => 3,
             GateKind::Measure => 4,
-            GateKind::Y => 1,
-            GateKind::Sx => 1,
-            GateKind::Swap => 2,
-            GateKind::Cy => 2,
             GateKind::Unsupported => 0,
         }
     }
@@ -83,23 +79,10 @@ impl GateKind {
         ensures { λ r. ⌜ r ≡ testsOf self ⌝ }
     {
         match self {
-            GateKind::H => 0,
-            GateKind::X => 0,
-            GateKind::Z => 0,
-            GateKind::S => 0,
-            GateKind::Sdg => 0,
-            GateKind::T => 1,
-            GateKind::Tdg => 1,
-            GateKind::Cnot => 0,
-            GateKind::Cz => 0,
+            GateKind::T | GateKind::Tdg | GateKind::Measure => 1,
             GateKind::Ccx => 2,
             GateKind::Ccz => 3,
-            GateKind::Measure => 1,
-            GateKind::Y => 0,
-            GateKind::Sx => 0,
-            GateKind::Swap => 0,
-            GateKind::Cy => 0,
-            GateKind::Unsupported => 0,
+            _ => 0,
         }
     }
 
@@ -108,23 +91,14 @@ impl GateKind {
         ensures { λ r. ⌜ r ≡ isFrame self ⌝ }
     {
         match self {
-            GateKind::H => true,
-            GateKind::X => true,
-            GateKind::Z => true,
-            GateKind::S => true,
-            GateKind::Sdg => true,
-            GateKind::T => false,
-            GateKind::Tdg => false,
-            GateKind::Cnot => true,
-            GateKind::Cz => true,
-            GateKind::Ccx => false,
-            GateKind::Ccz => false,
-            GateKind::Measure => false,
-            GateKind::Y => false,
-            GateKind::Sx => false,
-            GateKind::Swap => false,
-            GateKind::Cy => false,
-            GateKind::Unsupported => false,
+            GateKind::H
+            | GateKind::X
+            | GateKind::Z
+            | GateKind::S
+            | GateKind::Sdg
+            | GateKind::Cnot
+            | GateKind::Cz => true,
+            _ => false,
         }
     }
 
@@ -133,23 +107,9 @@ impl GateKind {
         ensures { λ r. ⌜ r ≡ frameNodes self ⌝ }
     {
         match self {
-            GateKind::H => 0,
-            GateKind::X => 0,
-            GateKind::Z => 0,
-            GateKind::S => 1,
-            GateKind::Sdg => 1,
-            GateKind::T => 0,
-            GateKind::Tdg => 0,
-            GateKind::Cnot => 2,
-            GateKind::Cz => 2,
-            GateKind::Ccx => 0,
-            GateKind::Ccz => 0,
-            GateKind::Measure => 0,
-            GateKind::Y => 0,
-            GateKind::Sx => 0,
-            GateKind::Swap => 0,
-            GateKind::Cy => 0,
-            GateKind::Unsupported => 0,
+            GateKind::S | GateKind::Sdg => 1,
+            GateKind::Cnot | GateKind::Cz => 2,
+            _ => 0,
         }
     }
 }

@@ -3,6 +3,7 @@ use mathlib.Core.Path.{_≡_}
 use mathlib.Core.Bool.{Bool, true, false, not, cond, _||_}
 use mathlib.Core.List.{List, [], _∷_, _++_}
 use Prim.Native.Nat.{ℕ, zero, suc, _+_, _*_, _/_, _<_, _≤_}
+use lib.Dec.{eqb}
 use lib.Seq.{sets}
 use lib.ListN.{length, getD, set}
 use Rattle.pauli.specs.Gates.{Gate, gateH, gateX, gateZ, gateS, gateSdg, gateCnot, gateCz, AllValid}
@@ -19,82 +20,39 @@ use Rattle.pauli.specs.Doubly.{Term, term, sevenRows}
 use Rattle.pauli.specs.Table.{start, run}
 use Rattle.pauli.specs.Rotations.{flush}
 use Rattle.convert.specs.Plain.{Plain, begin, exceeds, plainRun}
-use Rattle.convert.specs.Needs.{Needs, writtenNodes, writtenOps, needRun}
+use Rattle.convert.specs.Needs.{Needs, elementNodes, elementOps, writtenNodes, writtenOps, needRun}
 use Rattle.convert.specs.Planes.{packed}
 use Rattle.convert.specs.Code.RawPlanes.{Wide, planeReset}
 use Rattle.convert.specs.declared.count.Needed.{Needed}
-use Rattle.convert.specs.Frame.{Arena, stored, word, gateNodes, total}
+use Rattle.convert.specs.Frame.{Arena, stored, word, gateNodes, total, cliffordsOf, frameGates}
 
 -- ---- kinds
 
--- what is tested before a gate: 0 nothing, 1 z of a, 2 the seven products of ccx, 3 those of ccz
-abbrev pub testsOf : GateKind → ℕ
-testsOf KindH = 0
-testsOf KindX = 0
-testsOf KindZ = 0
-testsOf KindS = 0
-testsOf KindSdg = 0
-testsOf KindT = 1
-testsOf KindTdg = 1
-testsOf KindCnot = 0
-testsOf KindCz = 0
-testsOf KindCcx = 2
-testsOf KindCcz = 3
-testsOf KindMeasure = 1
-testsOf KindY = 0
-testsOf KindSx = 0
-testsOf KindSwap = 0
-testsOf KindCy = 0
-testsOf Unsupported = 0
+-- the sum of f over the elementary gates that a kind is lowered to
+abbrev pub over : (Elementary → ℕ) → List Elementary → ℕ
+over f [] = 0
+over f (e ∷ es) = f e + over f es
+
+-- what is tested before an elementary gate: 0 nothing, 1 z of its qubit, 2 the seven products of ccx, 3 those of ccz
+abbrev pub testBefore : Elementary → ℕ
+testBefore (clifford g) = 0
+testBefore (elT q) = 1
+testBefore (elTdg q) = 1
+testBefore (elCcx a b d) = 2
+testBefore (elCcz a b d) = 3
+testBefore (elMeasure q k) = 1
+
+-- and before a record; what is tested stands alone
+unfoldable pub testsOf : GateKind → ℕ
+testsOf kind = over testBefore (lowerAs kind 0 0 0)
 
 -- the seven frame gates
-abbrev pub isFrame : GateKind → Bool
-isFrame KindH = true
-isFrame KindX = true
-isFrame KindZ = true
-isFrame KindS = true
-isFrame KindSdg = true
-isFrame KindT = false
-isFrame KindTdg = false
-isFrame KindCnot = true
-isFrame KindCz = true
-isFrame KindCcx = false
-isFrame KindCcz = false
-isFrame KindMeasure = false
-isFrame KindY = false
-isFrame KindSx = false
-isFrame KindSwap = false
-isFrame KindCy = false
-isFrame Unsupported = false
+unfoldable pub isFrame : GateKind → Bool
+isFrame kind = not (eqb (length (frameGates kind 0 0)) 0)
 
 -- the nodes that they push
-abbrev pub frameNodes : GateKind → ℕ
-frameNodes KindH = 0
-frameNodes KindX = 0
-frameNodes KindZ = 0
-frameNodes KindS = 1
-frameNodes KindSdg = 1
-frameNodes KindT = 0
-frameNodes KindTdg = 0
-frameNodes KindCnot = 2
-frameNodes KindCz = 2
-frameNodes KindCcx = 0
-frameNodes KindCcz = 0
-frameNodes KindMeasure = 0
-frameNodes KindY = 0
-frameNodes KindSx = 0
-frameNodes KindSwap = 0
-frameNodes KindCy = 0
-frameNodes Unsupported = 0
-
-abbrev pub cliffordsOf : List Elementary → List Gate
-cliffordsOf [] = []
-cliffordsOf (clifford g ∷ es) = g ∷ cliffordsOf es
-cliffordsOf (elT q ∷ es) = cliffordsOf es
-cliffordsOf (elTdg q ∷ es) = cliffordsOf es
-cliffordsOf (elCcx a b d ∷ es) = cliffordsOf es
-cliffordsOf (elCcz a b d ∷ es) = cliffordsOf es
-cliffordsOf (elMeasure q k ∷ es) = cliffordsOf es
+unfoldable pub frameNodes : GateKind → ℕ
+frameNodes kind = total gateNodes (frameGates kind 0 0)
 
 -- the frame gates that a record stands for
 unfoldable pub recordGates : GateKind → ℕ → ℕ → List Gate
@@ -191,24 +149,10 @@ pub record Decided (n : ℕ) (cap : Cap) (kind : GateKind) (a b d : ℕ) (ps : L
 abbrev pub needed : ℕ → ℕ → ℕ → ℕ → Needed
 needed a b c d = record { nodes = a; operations = b; joints = c; rotations = d }
 
-abbrev pub costOf : GateKind → Needed
-costOf KindH = needed 0 0 0 3
-costOf KindX = needed 0 0 0 1
-costOf KindZ = needed 0 0 0 1
-costOf KindS = needed 1 0 0 1
-costOf KindSdg = needed 1 0 0 1
-costOf KindT = needed 0 1 0 0
-costOf KindTdg = needed 0 1 0 0
-costOf KindCnot = needed 2 0 1 3
-costOf KindCz = needed 2 0 1 3
-costOf KindCcx = needed 4 7 0 0
-costOf KindCcz = needed 4 7 0 0
-costOf KindMeasure = needed 0 1 0 0
-costOf KindY = needed 0 0 0 2
-costOf KindSx = needed 1 0 0 7
-costOf KindSwap = needed 6 0 3 9
-costOf KindCy = needed 4 0 1 5
-costOf Unsupported = needed 0 0 0 0
+unfoldable pub costOf : GateKind → Needed
+costOf kind =
+    needed (over elementNodes (lowerAs kind 0 0 0)) (over elementOps (lowerAs kind 0 0 0)) (total writtenNodes (cliffordsOf (lowerAs kind 0 0 0)))
+    (total writtenOps (cliffordsOf (lowerAs kind 0 0 0)))
 
 -- the nodes that it pushes where it is no frame gate
 abbrev pub loneNodes : GateKind → ℕ

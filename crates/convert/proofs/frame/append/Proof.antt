@@ -1,3 +1,4 @@
+use Rattle.convert.specs.Records.{lowerAs}
 use Rattle.convert.specs.Frame.{frameGates}
 use Rattle.convert.proofs.FrameLaws.{head-ready, none-ran}
 use borrow.Author.Needs.{needs}
@@ -17,35 +18,35 @@ enum-told : tie.Need-enum-told
 enum-told c = search needs
 
 gate-h-requires : tie.Need-gate-h-requires
-unfolding frameGates
+unfolding frameGates lowerAs
 gate-h-requires c κs = head-ready (rw (c .before .before .enum-told .given .1) at (c .before .before .before .before .before .before .pre))
 
 enum-told-2 : tie.Need-enum-told-2
 enum-told-2 c = search needs
 
 gate-x-requires : tie.Need-gate-x-requires
-unfolding frameGates
+unfolding frameGates lowerAs
 gate-x-requires c κs = head-ready (rw (c .before .before .enum-told2 .given .1) at (c .before .before .before .before .before .before .pre))
 
 enum-told-3 : tie.Need-enum-told-3
 enum-told-3 c = search needs
 
 gate-z-requires : tie.Need-gate-z-requires
-unfolding frameGates
+unfolding frameGates lowerAs
 gate-z-requires c κs = head-ready (rw (c .before .before .enum-told3 .given .1) at (c .before .before .before .before .before .before .pre))
 
 enum-told-4 : tie.Need-enum-told-4
 enum-told-4 c = search needs
 
 gate-s-requires : tie.Need-gate-s-requires
-unfolding frameGates
+unfolding frameGates lowerAs
 gate-s-requires c κs = head-ready (rw (c .before .before .enum-told4 .given .1) at (c .before .before .before .before .before .before .pre))
 
 enum-told-5 : tie.Need-enum-told-5
 enum-told-5 c = search needs
 
 gate-sdg-requires : tie.Need-gate-sdg-requires
-unfolding frameGates
+unfolding frameGates lowerAs
 gate-sdg-requires c κs = head-ready (rw (c .before .before .enum-told5 .given .1) at (c .before .before .before .before .before .before .pre))
 
 enum-told-6 : tie.Need-enum-told-6
@@ -58,14 +59,14 @@ enum-told-8 : tie.Need-enum-told-8
 enum-told-8 c = search needs
 
 gate-cnot-requires : tie.Need-gate-cnot-requires
-unfolding frameGates
+unfolding frameGates lowerAs
 gate-cnot-requires c κs = head-ready (rw (c .before .before .enum-told8 .given .1) at (c .before .before .before .before .before .before .pre))
 
 enum-told-9 : tie.Need-enum-told-9
 enum-told-9 c = search needs
 
 gate-cz-requires : tie.Need-gate-cz-requires
-unfolding frameGates
+unfolding frameGates lowerAs
 gate-cz-requires c κs = head-ready (rw (c .before .before .enum-told9 .given .1) at (c .before .before .before .before .before .before .pre))
 
 enum-told-10 : tie.Need-enum-told-10
@@ -99,7 +100,7 @@ same-length-2 : tie.Need-same-length-2
 same-length-2 c = search needs
 
 returns : tie.Need-returns
-unfolding frameGates
+unfolding frameGates lowerAs
 returns c = rw (c .before .before .before .before .before .before .before .enum-told .given .1) (c .before .before .before .before .gate-h .ensures)
 
 same-length-3 : tie.Need-same-length-3
@@ -109,7 +110,7 @@ same-length-4 : tie.Need-same-length-4
 same-length-4 c = search needs
 
 returns-2 : tie.Need-returns-2
-unfolding frameGates
+unfolding frameGates lowerAs
 returns-2 c = rw (c .before .before .before .before .before .before .before .enum-told2 .given .1) (c .before .before .before .before .gate-x .ensures)
 
 same-length-5 : tie.Need-same-length-5
@@ -119,7 +120,7 @@ same-length-6 : tie.Need-same-length-6
 same-length-6 c = search needs
 
 returns-3 : tie.Need-returns-3
-unfolding frameGates
+unfolding frameGates lowerAs
 returns-3 c = rw (c .before .before .before .before .before .before .before .enum-told3 .given .1) (c .before .before .before .before .gate-z .ensures)
 
 same-length-7 : tie.Need-same-length-7
@@ -129,7 +130,7 @@ same-length-8 : tie.Need-same-length-8
 same-length-8 c = search needs
 
 returns-4 : tie.Need-returns-4
-unfolding frameGates
+unfolding frameGates lowerAs
 returns-4 c = rw (c .before .before .before .before .before .before .before .enum-told4 .given .1) (c .before .before .before .before .gate-s .ensures)
 
 same-length-9 : tie.Need-same-length-9
@@ -139,15 +140,15 @@ same-length-10 : tie.Need-same-length-10
 same-length-10 c = search needs
 
 returns-5 : tie.Need-returns-5
-unfolding frameGates
+unfolding frameGates lowerAs
 returns-5 c = rw (c .before .before .before .before .before .before .before .enum-told5 .given .1) (c .before .before .before .before .gate-sdg .ensures)
 
 returns-6 : tie.Need-returns-6
-unfolding frameGates
+unfolding frameGates lowerAs
 returns-6 c = rw (c .enum-told6 .given .1) (none-ran (rw (c .enum-told6 .given .1) at (c .before .before .before .before .pre)))
 
 returns-7 : tie.Need-returns-7
-unfolding frameGates
+unfolding frameGates lowerAs
 returns-7 c = rw (c .enum-told7 .given .1) (none-ran (rw (c .enum-told7 .given .1) at (c .before .before .before .before .pre)))
 
 same-length-11 : tie.Need-same-length-11
@@ -157,7 +158,7 @@ same-length-12 : tie.Need-same-length-12
 same-length-12 c = search needs
 
 returns-8 : tie.Need-returns-8
-unfolding frameGates
+unfolding frameGates lowerAs
 returns-8 c = rw (c .before .before .before .before .before .before .before .enum-told8 .given .1) (c .before .before .before .before .gate-cnot .ensures)
 
 same-length-13 : tie.Need-same-length-13
@@ -167,39 +168,39 @@ same-length-14 : tie.Need-same-length-14
 same-length-14 c = search needs
 
 returns-9 : tie.Need-returns-9
-unfolding frameGates
+unfolding frameGates lowerAs
 returns-9 c = rw (c .before .before .before .before .before .before .before .enum-told9 .given .1) (c .before .before .before .before .gate-cz .ensures)
 
 returns-10 : tie.Need-returns-10
-unfolding frameGates
+unfolding frameGates lowerAs
 returns-10 c = rw (c .enum-told10 .given .1) (none-ran (rw (c .enum-told10 .given .1) at (c .before .before .before .before .pre)))
 
 returns-11 : tie.Need-returns-11
-unfolding frameGates
+unfolding frameGates lowerAs
 returns-11 c = rw (c .enum-told11 .given .1) (none-ran (rw (c .enum-told11 .given .1) at (c .before .before .before .before .pre)))
 
 returns-12 : tie.Need-returns-12
-unfolding frameGates
+unfolding frameGates lowerAs
 returns-12 c = rw (c .enum-told12 .given .1) (none-ran (rw (c .enum-told12 .given .1) at (c .before .before .before .before .pre)))
 
 returns-13 : tie.Need-returns-13
-unfolding frameGates
+unfolding frameGates lowerAs
 returns-13 c = rw (c .enum-told13 .given .1) (none-ran (rw (c .enum-told13 .given .1) at (c .before .before .before .before .pre)))
 
 returns-14 : tie.Need-returns-14
-unfolding frameGates
+unfolding frameGates lowerAs
 returns-14 c = rw (c .enum-told14 .given .1) (none-ran (rw (c .enum-told14 .given .1) at (c .before .before .before .before .pre)))
 
 returns-15 : tie.Need-returns-15
-unfolding frameGates
+unfolding frameGates lowerAs
 returns-15 c = rw (c .enum-told15 .given .1) (none-ran (rw (c .enum-told15 .given .1) at (c .before .before .before .before .pre)))
 
 returns-16 : tie.Need-returns-16
-unfolding frameGates
+unfolding frameGates lowerAs
 returns-16 c = rw (c .enum-told16 .given .1) (none-ran (rw (c .enum-told16 .given .1) at (c .before .before .before .before .pre)))
 
 returns-17 : tie.Need-returns-17
-unfolding frameGates
+unfolding frameGates lowerAs
 returns-17 c = rw (c .enum-told17 .given .1) (none-ran (rw (c .enum-told17 .given .1) at (c .before .before .before .before .pre)))
 
 pub append-spec : {M : Type 1} → statement M
