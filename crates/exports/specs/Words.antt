@@ -10,7 +10,7 @@ use Rattle.pauli.specs.Angle.{remainder8}
 use Rattle.pauli.specs.Letters.{pauliOf}
 use Rattle.arena.specs.Errors.{refusalIn}
 use Rattle.exports.specs.Types.{Pauli, PauliAngle, Header, PauliRef, PauliAxis, Target, Bit, NoTarget, PbcError}
-pub use Rattle.exports.specs.declared.Reply.the-variants.{the-data as Reply, Accepted, Refused}
+pub use Rattle.exports.specs.declared.words.Reply.the-variants.{the-data as Reply, Accepted, Refused}
 
 -- ---- what is read
 

@@ -1,15 +1,15 @@
 //! The calls that make a circuit and add to it. Each costs what the call below costs.
 
-use crate::Reply;
-use crate::angle_of;
-use crate::axis_of;
-use crate::handle;
-use crate::letter_of;
-use crate::read_header;
-use crate::target_of;
-use crate::too_short;
-use crate::write_answer;
-use crate::write_header;
+use crate::words::Reply;
+use crate::words::angle_of;
+use crate::words::axis_of;
+use crate::words::handle;
+use crate::words::letter_of;
+use crate::words::read_header;
+use crate::words::target_of;
+use crate::words::too_short;
+use crate::words::write_answer;
+use crate::words::write_header;
 use arena::Created;
 use arena::Header;
 use arena::MeasId;

@@ -1,10 +1,10 @@
 //! The conversion of a gate list, and gates on a circuit's output. Each costs what the call below costs.
 
-use crate::Reply;
-use crate::read_header;
-use crate::too_short;
-use crate::write_answer;
-use crate::write_header;
+use crate::words::Reply;
+use crate::words::read_header;
+use crate::words::too_short;
+use crate::words::write_answer;
+use crate::words::write_header;
 use convert::Cap;
 use convert::Converted;
 use convert::FramePushed;

@@ -1,10 +1,10 @@
 //! The functions that read a circuit. The header and the nodes are only read. Each costs what the call below costs.
 
-use crate::Reply;
-use crate::handle;
-use crate::read_header;
-use crate::too_short;
-use crate::write_answer;
+use crate::words::Reply;
+use crate::words::handle;
+use crate::words::read_header;
+use crate::words::too_short;
+use crate::words::write_answer;
 use arena::Expansion;
 use arena::Header;
 use arena::HermitianAxis;

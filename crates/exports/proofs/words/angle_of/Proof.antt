@@ -5,8 +5,8 @@ use mir.Syntax.{w64}
 use mir.ValLaws.{toZ-ofZ}
 use Rattle.pauli.specs.Angle.{remainder8}
 use Rattle.exports.proofs.Laws.{angle-is}
-use Rattle.exports.proofs.angle_of.Statement.{statement}
-use Rattle.exports.proofs.angle_of.Tie as tie
+use Rattle.exports.proofs.words.angle_of.Statement.{statement}
+use Rattle.exports.proofs.words.angle_of.Tie as tie
 
 new-requires : tie.Need-new-requires
 new-requires c κs = search needs

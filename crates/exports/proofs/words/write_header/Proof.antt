@@ -1,8 +1,8 @@
 -- `write_header` meets its contract.
 use borrow.Author.Needs.{needs}
 use Rattle.exports.specs.Words.{headerLeft}
-use Rattle.exports.proofs.write_header.Statement.{statement}
-use Rattle.exports.proofs.write_header.Tie as tie
+use Rattle.exports.proofs.words.write_header.Statement.{statement}
+use Rattle.exports.proofs.words.write_header.Tie as tie
 
 enum-known-reply : tie.Need-enum-known-reply
 enum-known-reply c = search needs

@@ -4,8 +4,8 @@ use mathlib.Core.Path.{ap, _∙_}
 use Rattle.exports.specs.Types.{Bit}
 use Rattle.exports.specs.Words.{targetIn}
 use Rattle.exports.proofs.Laws.{target-is}
-use Rattle.exports.proofs.target_of.Statement.{statement}
-use Rattle.exports.proofs.target_of.Tie as tie
+use Rattle.exports.proofs.words.target_of.Statement.{statement}
+use Rattle.exports.proofs.words.target_of.Tie as tie
 
 returns : tie.Need-returns
 unfolding targetIn

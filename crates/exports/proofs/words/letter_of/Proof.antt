@@ -1,8 +1,8 @@
 -- `letter_of` meets its contract.
 use borrow.Author.Needs.{needs}
 use Rattle.exports.specs.Words.{letterIn}
-use Rattle.exports.proofs.letter_of.Statement.{statement}
-use Rattle.exports.proofs.letter_of.Tie as tie
+use Rattle.exports.proofs.words.letter_of.Statement.{statement}
+use Rattle.exports.proofs.words.letter_of.Tie as tie
 
 or-identity-requires : tie.Need-or-identity-requires
 or-identity-requires c κs = search needs

@@ -2,8 +2,8 @@
 use borrow.Author.Needs.{needs}
 use mathlib.Core.Path.{ap, _∙_}
 use Rattle.arena.specs.References.{axisOf}
-use Rattle.exports.proofs.axis_of.Statement.{statement}
-use Rattle.exports.proofs.axis_of.Tie as tie
+use Rattle.exports.proofs.words.axis_of.Statement.{statement}
+use Rattle.exports.proofs.words.axis_of.Tie as tie
 
 handle-requires : tie.Need-handle-requires
 handle-requires c κs = search needs

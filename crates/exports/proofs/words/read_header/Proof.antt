@@ -1,8 +1,8 @@
 -- `read_header` meets its contract.
 use borrow.Author.Needs.{needs}
 use Rattle.exports.specs.Words.{headerIn}
-use Rattle.exports.proofs.read_header.Statement.{statement}
-use Rattle.exports.proofs.read_header.Tie as tie
+use Rattle.exports.proofs.words.read_header.Statement.{statement}
+use Rattle.exports.proofs.words.read_header.Tie as tie
 
 shared-slice-read-field : tie.Need-shared-slice-read-field
 shared-slice-read-field c = search needs

@@ -4,8 +4,8 @@ use mathlib.Core.Path.{refl, ap₂, _∙_}
 use mathlib.Core.List.{[], _∷_}
 use lib.Seq.{sets}
 use Rattle.exports.specs.Words.{numberIn, answerLeft}
-use Rattle.exports.proofs.write_answer.Statement.{statement}
-use Rattle.exports.proofs.write_answer.Tie as tie
+use Rattle.exports.proofs.words.write_answer.Statement.{statement}
+use Rattle.exports.proofs.words.write_answer.Tie as tie
 
 enum-known-reply : tie.Need-enum-known-reply
 enum-known-reply c = search needs

@@ -2,8 +2,8 @@
 use borrow.Author.Needs.{needs}
 use native.Mathlib.Omega.{arith}
 use lib.ListN.{length-set}
-use Rattle.exports.proofs.put_answer.Statement.{statement}
-use Rattle.exports.proofs.put_answer.Tie as tie
+use Rattle.exports.proofs.words.put_answer.Statement.{statement}
+use Rattle.exports.proofs.words.put_answer.Tie as tie
 
 slice-write-words : tie.Need-slice-write-words
 slice-write-words c = search needs

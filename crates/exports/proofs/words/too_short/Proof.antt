@@ -1,8 +1,8 @@
 -- `too_short` meets its contract.
 use mathlib.Core.Path.{refl}
 use Rattle.exports.specs.Words.{tooShort}
-use Rattle.exports.proofs.too_short.Statement.{statement}
-use Rattle.exports.proofs.too_short.Tie as tie
+use Rattle.exports.proofs.words.too_short.Statement.{statement}
+use Rattle.exports.proofs.words.too_short.Tie as tie
 
 returns : tie.Need-returns
 unfolding tooShort

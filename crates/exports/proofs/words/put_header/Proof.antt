@@ -2,8 +2,8 @@
 use borrow.Author.Needs.{needs}
 use native.Mathlib.Omega.{arith}
 use lib.ListN.{length-set}
-use Rattle.exports.proofs.put_header.Statement.{statement}
-use Rattle.exports.proofs.put_header.Tie as tie
+use Rattle.exports.proofs.words.put_header.Statement.{statement}
+use Rattle.exports.proofs.words.put_header.Tie as tie
 
 cast-words : tie.Need-cast-words
 cast-words c = search needs

@@ -3,8 +3,8 @@ use borrow.Author.Needs.{needs}
 use native.Mathlib.Omega.{arith}
 use borrow.Author.Tests.{lt-ltb, le-ltb}
 use Rattle.exports.specs.Words.{field}
-use Rattle.exports.proofs.field.Statement.{statement}
-use Rattle.exports.proofs.field.Tie as tie
+use Rattle.exports.proofs.words.field.Statement.{statement}
+use Rattle.exports.proofs.words.field.Tie as tie
 
 cast-result : tie.Need-cast-result
 cast-result c = search needs
