@@ -7,7 +7,10 @@ use lib.ListN.{getD, drop}
 use types.Run.{OneOf}
 use denote.Enum.Declared.{tagOf}
 use Rattle.convert.proofs.gate.GateKind.{the-type}
-use Rattle.convert.specs.Records.{GateKind, KindH, KindX, KindZ, KindS, KindSdg, KindT, KindTdg, KindCnot, KindCz, KindCcx, KindCcz, KindMeasure, KindY, KindSx, KindSwap, KindCy, Unsupported}
+use Rattle.convert.specs.Records.{GateKind, KindH, KindX, KindZ, KindS, KindSdg, KindT, KindTdg, KindCnot, KindCz, KindCcx, KindCcz, KindMeasure, KindY, KindSx, KindSwap, KindCy, Unsupported, lowerAs}
+use Rattle.convert.specs.Frame.{frameGates}
+use Rattle.convert.specs.Code.RawPlanes.{planeStep, planeRun}
+use Rattle.convert.specs.Code.Raw.{recordGates, Writing, putRecord}
 
 -- the kinds as they are declared
 abbrev pub kindAt : ℕ → GateKind
@@ -45,3 +48,21 @@ arm f v [] e k o = absurd o
 arm f v (j ∷ []) e k o = at-key f v j [] e k o
 arm f v (j ∷ i ∷ js) e k (inl o) = at-key f v j (i ∷ js) e k o
 arm f v (j ∷ i ∷ js) e k (inr o) = arm f v (i ∷ js) (ap (drop 1) e) k o
+
+-- ---- the kinds for which a dispatch does nothing
+
+pub no-frame : (k : GateKind) (a b : ℕ) → OneOf (5 ∷ 6 ∷ 9 ∷ 10 ∷ 11 ∷ 12 ∷ 13 ∷ 14 ∷ 15 ∷ 16 ∷ []) (tagOf the-type k) → frameGates k a b ≡ []
+unfolding frameGates lowerAs
+no-frame k a b o = sym (arm (λ (k : GateKind). frameGates k a b) [] (5 ∷ 6 ∷ 9 ∷ 10 ∷ 11 ∷ 12 ∷ 13 ∷ 14 ∷ 15 ∷ 16 ∷ []) refl k o)
+
+pub no-gates : (k : GateKind) (a b : ℕ) → OneOf (5 ∷ 6 ∷ 9 ∷ 10 ∷ 11 ∷ 16 ∷ []) (tagOf the-type k) → recordGates k a b ≡ []
+unfolding recordGates lowerAs
+no-gates k a b o = sym (arm (λ (k : GateKind). recordGates k a b) [] (5 ∷ 6 ∷ 9 ∷ 10 ∷ 11 ∷ 16 ∷ []) refl k o)
+
+pub no-planes : (l : ℕ) (k : GateKind) (a b : ℕ) (p : List ℕ) → OneOf (1 ∷ 2 ∷ 5 ∷ 6 ∷ 9 ∷ 10 ∷ 11 ∷ 12 ∷ 16 ∷ []) (tagOf the-type k) → p ≡ planeRun l (recordGates k a b) p
+unfolding planeRun planeStep recordGates lowerAs
+no-planes l k a b p o = arm (λ (k : GateKind). planeRun l (recordGates k a b) p) p (1 ∷ 2 ∷ 5 ∷ 6 ∷ 9 ∷ 10 ∷ 11 ∷ 12 ∷ 16 ∷ []) refl k o
+
+pub no-record : (n given : ℕ) (k : GateKind) (a b d : ℕ) (fs : List ℕ) (s : Writing) → OneOf (0 ∷ 1 ∷ 2 ∷ 3 ∷ 4 ∷ 7 ∷ 8 ∷ 12 ∷ 13 ∷ 14 ∷ 15 ∷ 16 ∷ []) (tagOf the-type k) → s ≡ putRecord n given k a b d fs s
+unfolding putRecord
+no-record n given k a b d fs s o = arm (λ (k : GateKind). putRecord n given k a b d fs s) s (0 ∷ 1 ∷ 2 ∷ 3 ∷ 4 ∷ 7 ∷ 8 ∷ 12 ∷ 13 ∷ 14 ∷ 15 ∷ 16 ∷ []) refl k o

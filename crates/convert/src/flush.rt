@@ -172,13 +172,8 @@ fn flush_record(
         GateKind::Z => flush_z(w, nodes, operations, n, a),
         GateKind::S => flush_s(w, nodes, operations, n, a),
         GateKind::Sdg => flush_sdg(w, nodes, operations, n, a),
-        GateKind::T => w,
-        GateKind::Tdg => w,
         GateKind::Cnot => flush_cnot(w, nodes, operations, n, a, b),
         GateKind::Cz => flush_cz(w, nodes, operations, n, a, b),
-        GateKind::Ccx => w,
-        GateKind::Ccz => w,
-        GateKind::Measure => w,
         GateKind::Y => {
             let w1 = flush_z(w, nodes, operations, n, a);
             flush_x(w1, nodes, operations, n, a)
@@ -198,7 +193,7 @@ fn flush_record(
             let w2 = flush_cnot(w1, nodes, operations, n, a, b);
             flush_s(w2, nodes, operations, n, b)
         }
-        GateKind::Unsupported => w,
+        _ => w,
     }
 }
 

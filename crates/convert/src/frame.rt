@@ -181,18 +181,9 @@ fn append(
         GateKind::Z => gate_z(count, nodes, frame, n, a),
         GateKind::S => gate_s(count, nodes, frame, n, a),
         GateKind::Sdg => gate_sdg(count, nodes, frame, n, a),
-        GateKind::T => count,
-        GateKind::Tdg => count,
         GateKind::Cnot => gate_cnot(count, nodes, frame, n, a, b),
         GateKind::Cz => gate_cz(count, nodes, frame, n, a, b),
-        GateKind::Ccx => count,
-        GateKind::Ccz => count,
-        GateKind::Measure => count,
-        GateKind::Y => count,
-        GateKind::Sx => count,
-        GateKind::Swap => count,
-        GateKind::Cy => count,
-        GateKind::Unsupported => count,
+        _ => count,
     }
 }
 
@@ -215,13 +206,8 @@ pub(crate) fn frame_record(
         GateKind::Z => gate_z(count, nodes, frame, n, a),
         GateKind::S => gate_s(count, nodes, frame, n, a),
         GateKind::Sdg => gate_sdg(count, nodes, frame, n, a),
-        GateKind::T => count,
-        GateKind::Tdg => count,
         GateKind::Cnot => gate_cnot(count, nodes, frame, n, a, b),
         GateKind::Cz => gate_cz(count, nodes, frame, n, a, b),
-        GateKind::Ccx => count,
-        GateKind::Ccz => count,
-        GateKind::Measure => count,
         GateKind::Y => {
             let c1 = gate_z(count, nodes, frame, n, a);
             gate_x(c1, nodes, frame, n, a)
@@ -241,6 +227,6 @@ pub(crate) fn frame_record(
             let c2 = gate_cnot(c1, nodes, frame, n, a, b);
             gate_s(c2, nodes, frame, n, b)
         }
-        GateKind::Unsupported => count,
+        _ => count,
     }
 }

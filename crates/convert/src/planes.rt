@@ -215,26 +215,18 @@ pub(crate) fn plane_record(
         GateKind::H => {
             plane_h(planes, n, l, a);
         }
-        GateKind::X => {}
-        GateKind::Z => {}
         GateKind::S => {
             plane_s(planes, n, l, a);
         }
         GateKind::Sdg => {
             plane_s(planes, n, l, a);
         }
-        GateKind::T => {}
-        GateKind::Tdg => {}
         GateKind::Cnot => {
             plane_cnot(planes, n, l, a, b);
         }
         GateKind::Cz => {
             plane_cz(planes, n, l, a, b);
         }
-        GateKind::Ccx => {}
-        GateKind::Ccz => {}
-        GateKind::Measure => {}
-        GateKind::Y => {}
         GateKind::Sx => {
             plane_h(planes, n, l, a);
             plane_s(planes, n, l, a);
@@ -250,6 +242,6 @@ pub(crate) fn plane_record(
             plane_cnot(planes, n, l, a, b);
             plane_s(planes, n, l, b);
         }
-        GateKind::Unsupported => {}
+        _ => {}
     }
 }

@@ -110,11 +110,6 @@ fn write_record(
     ensures { λ r. ⌜ writing (r .nodes) (now (nodes .exit)) (r .operations) (now (operations .exit)) ≡ putRecord n given kind a b d (now (frame .entry)) (writing (w .nodes) (now (nodes .entry)) (w .operations) (now (operations .entry))) ⌝ }
 {
     match kind {
-        GateKind::H => w,
-        GateKind::X => w,
-        GateKind::Z => w,
-        GateKind::S => w,
-        GateKind::Sdg => w,
         GateKind::T => made(
             w.nodes,
             put_rotation(operations, w.operations, frame[n + a], 1),
@@ -123,8 +118,6 @@ fn write_record(
             w.nodes,
             put_rotation(operations, w.operations, frame[n + a], 7),
         ),
-        GateKind::Cnot => w,
-        GateKind::Cz => w,
         GateKind::Ccx => put_seven(w, nodes, operations, frame[n + a], frame[n + b], frame[d]),
         GateKind::Ccz => put_seven(
             w,
@@ -145,11 +138,7 @@ fn write_record(
                 (b as u32) + 1,
             ),
         ),
-        GateKind::Y => w,
-        GateKind::Sx => w,
-        GateKind::Swap => w,
-        GateKind::Cy => w,
-        GateKind::Unsupported => w,
+        _ => w,
     }
 }
 

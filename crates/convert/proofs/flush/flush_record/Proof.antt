@@ -2,6 +2,7 @@ use native.Mathlib.Omega.{arith}
 use Rattle.convert.specs.Records.{lowerAs}
 use Rattle.convert.specs.Code.Raw.{recordGates}
 use Rattle.convert.proofs.FlushLaws.{flush-head, flush-tail, none-flushed, more-flushed}
+use Rattle.convert.proofs.Arms.{no-gates}
 use borrow.Author.Needs.{needs}
 use Rattle.convert.proofs.flush.flush_record.Statement.{statement}
 use Rattle.convert.proofs.flush.flush_record.Tie as tie
@@ -63,126 +64,108 @@ flush-sdg-requires c κs =
 enum-told-6 : tie.Need-enum-told-6
 enum-told-6 c = search needs
 
-enum-told-7 : tie.Need-enum-told-7
-enum-told-7 c = search needs
-
-enum-told-8 : tie.Need-enum-told-8
-enum-told-8 c = search needs
-
 flush-cnot-requires : tie.Need-flush-cnot-requires
 unfolding recordGates lowerAs
 flush-cnot-requires c κs =
-    let r0 = rw (c .before .before .enum-told8 .given .1) at (c .before .before .before .before .before .before .pre) in
+    let r0 = rw (c .before .before .enum-told6 .given .1) at (c .before .before .before .before .before .before .pre) in
     flush-head r0
 
-enum-told-9 : tie.Need-enum-told-9
-enum-told-9 c = search needs
+enum-told-7 : tie.Need-enum-told-7
+enum-told-7 c = search needs
 
 flush-cz-requires : tie.Need-flush-cz-requires
 unfolding recordGates lowerAs
 flush-cz-requires c κs =
-    let r0 = rw (c .before .before .enum-told9 .given .1) at (c .before .before .before .before .before .before .pre) in
+    let r0 = rw (c .before .before .enum-told7 .given .1) at (c .before .before .before .before .before .before .pre) in
     flush-head r0
 
-enum-told-10 : tie.Need-enum-told-10
-enum-told-10 c = search needs
-
-enum-told-11 : tie.Need-enum-told-11
-enum-told-11 c = search needs
-
-enum-told-12 : tie.Need-enum-told-12
-enum-told-12 c = search needs
-
-enum-told-13 : tie.Need-enum-told-13
-enum-told-13 c = search needs
+enum-told-8 : tie.Need-enum-told-8
+enum-told-8 c = search needs
 
 flush-z-requires-2 : tie.Need-flush-z-requires-2
 unfolding recordGates lowerAs
 flush-z-requires-2 c κs =
-    let r0 = rw (c .before .before .enum-told13 .given .1) at (c .before .before .before .before .before .before .pre) in
+    let r0 = rw (c .before .before .enum-told8 .given .1) at (c .before .before .before .before .before .before .pre) in
     flush-head r0
 
 flush-x-requires-2 : tie.Need-flush-x-requires-2
 unfolding recordGates lowerAs
 flush-x-requires-2 c κs =
-    let r0 = rw (c .before .before .before .before .before .before .before .before .before .enum-told13 .given .1) at (c .before .before .before .before .before .before .before .before .before .before .before .before .before .pre) in
+    let r0 = rw (c .before .before .before .before .before .before .before .before .before .enum-told8 .given .1) at (c .before .before .before .before .before .before .before .before .before .before .before .before .before .pre) in
     let r1 = flush-tail r0 (c .before .before .before .before .before .before .flush-z2 .ensures) (omega (arith, c .before .before .before .before .before .before .flush-z2 .kept)) (omega (arith, c .before .before .before .before .before .before .flush-z2 .kept)) in
     flush-head r1
 
-enum-told-14 : tie.Need-enum-told-14
-enum-told-14 c = search needs
+enum-told-9 : tie.Need-enum-told-9
+enum-told-9 c = search needs
 
 flush-h-requires-2 : tie.Need-flush-h-requires-2
 unfolding recordGates lowerAs
 flush-h-requires-2 c κs =
-    let r0 = rw (c .before .before .enum-told14 .given .1) at (c .before .before .before .before .before .before .pre) in
+    let r0 = rw (c .before .before .enum-told9 .given .1) at (c .before .before .before .before .before .before .pre) in
     flush-head r0
 
 flush-s-requires-2 : tie.Need-flush-s-requires-2
 unfolding recordGates lowerAs
 flush-s-requires-2 c κs =
-    let r0 = rw (c .before .before .before .before .before .before .before .before .before .enum-told14 .given .1) at (c .before .before .before .before .before .before .before .before .before .before .before .before .before .pre) in
+    let r0 = rw (c .before .before .before .before .before .before .before .before .before .enum-told9 .given .1) at (c .before .before .before .before .before .before .before .before .before .before .before .before .before .pre) in
     let r1 = flush-tail r0 (c .before .before .before .before .before .before .flush-h2 .ensures) (omega (arith, c .before .before .before .before .before .before .flush-h2 .kept)) (omega (arith, c .before .before .before .before .before .before .flush-h2 .kept)) in
     flush-head r1
 
 flush-h-requires-3 : tie.Need-flush-h-requires-3
 unfolding recordGates lowerAs
 flush-h-requires-3 c κs =
-    let r0 = rw (c .before .before .before .before .before .before .before .before .before .before .before .before .before .before .before .before .enum-told14 .given .1) at (c .before .before .before .before .before .before .before .before .before .before .before .before .before .before .before .before .before .before .before .before .pre) in
+    let r0 = rw (c .before .before .before .before .before .before .before .before .before .before .before .before .before .before .before .before .enum-told9 .given .1) at (c .before .before .before .before .before .before .before .before .before .before .before .before .before .before .before .before .before .before .before .before .pre) in
     let r1 = flush-tail r0 (c .before .before .before .before .before .before .before .before .before .before .before .before .before .flush-h2 .ensures) (omega (arith, c .before .before .before .before .before .before .before .before .before .before .before .before .before .flush-h2 .kept)) (omega (arith, c .before .before .before .before .before .before .before .before .before .before .before .before .before .flush-h2 .kept)) in
     let r2 = flush-tail r1 (c .before .before .before .before .before .before .flush-s2 .ensures) (omega (arith, c .before .before .before .before .before .before .flush-s2 .kept)) (omega (arith, c .before .before .before .before .before .before .flush-s2 .kept)) in
     flush-head r2
 
-enum-told-15 : tie.Need-enum-told-15
-enum-told-15 c = search needs
+enum-told-10 : tie.Need-enum-told-10
+enum-told-10 c = search needs
 
 flush-cnot-requires-2 : tie.Need-flush-cnot-requires-2
 unfolding recordGates lowerAs
 flush-cnot-requires-2 c κs =
-    let r0 = rw (c .before .before .enum-told15 .given .1) at (c .before .before .before .before .before .before .pre) in
+    let r0 = rw (c .before .before .enum-told10 .given .1) at (c .before .before .before .before .before .before .pre) in
     flush-head r0
 
 flush-cnot-requires-3 : tie.Need-flush-cnot-requires-3
 unfolding recordGates lowerAs
 flush-cnot-requires-3 c κs =
-    let r0 = rw (c .before .before .before .before .before .before .before .before .before .enum-told15 .given .1) at (c .before .before .before .before .before .before .before .before .before .before .before .before .before .pre) in
+    let r0 = rw (c .before .before .before .before .before .before .before .before .before .enum-told10 .given .1) at (c .before .before .before .before .before .before .before .before .before .before .before .before .before .pre) in
     let r1 = flush-tail r0 (c .before .before .before .before .before .before .flush-cnot2 .ensures) (omega (arith, c .before .before .before .before .before .before .flush-cnot2 .kept)) (omega (arith, c .before .before .before .before .before .before .flush-cnot2 .kept)) in
     flush-head r1
 
 flush-cnot-requires-4 : tie.Need-flush-cnot-requires-4
 unfolding recordGates lowerAs
 flush-cnot-requires-4 c κs =
-    let r0 = rw (c .before .before .before .before .before .before .before .before .before .before .before .before .before .before .before .before .enum-told15 .given .1) at (c .before .before .before .before .before .before .before .before .before .before .before .before .before .before .before .before .before .before .before .before .pre) in
+    let r0 = rw (c .before .before .before .before .before .before .before .before .before .before .before .before .before .before .before .before .enum-told10 .given .1) at (c .before .before .before .before .before .before .before .before .before .before .before .before .before .before .before .before .before .before .before .before .pre) in
     let r1 = flush-tail r0 (c .before .before .before .before .before .before .before .before .before .before .before .before .before .flush-cnot2 .ensures) (omega (arith, c .before .before .before .before .before .before .before .before .before .before .before .before .before .flush-cnot2 .kept)) (omega (arith, c .before .before .before .before .before .before .before .before .before .before .before .before .before .flush-cnot2 .kept)) in
     let r2 = flush-tail r1 (c .before .before .before .before .before .before .flush-cnot3 .ensures) (omega (arith, c .before .before .before .before .before .before .flush-cnot3 .kept)) (omega (arith, c .before .before .before .before .before .before .flush-cnot3 .kept)) in
     flush-head r2
 
-enum-told-16 : tie.Need-enum-told-16
-enum-told-16 c = search needs
+enum-told-11 : tie.Need-enum-told-11
+enum-told-11 c = search needs
 
 flush-sdg-requires-2 : tie.Need-flush-sdg-requires-2
 unfolding recordGates lowerAs
 flush-sdg-requires-2 c κs =
-    let r0 = rw (c .before .before .enum-told16 .given .1) at (c .before .before .before .before .before .before .pre) in
+    let r0 = rw (c .before .before .enum-told11 .given .1) at (c .before .before .before .before .before .before .pre) in
     flush-head r0
 
 flush-cnot-requires-5 : tie.Need-flush-cnot-requires-5
 unfolding recordGates lowerAs
 flush-cnot-requires-5 c κs =
-    let r0 = rw (c .before .before .before .before .before .before .before .before .before .enum-told16 .given .1) at (c .before .before .before .before .before .before .before .before .before .before .before .before .before .pre) in
+    let r0 = rw (c .before .before .before .before .before .before .before .before .before .enum-told11 .given .1) at (c .before .before .before .before .before .before .before .before .before .before .before .before .before .pre) in
     let r1 = flush-tail r0 (c .before .before .before .before .before .before .flush-sdg2 .ensures) (omega (arith, c .before .before .before .before .before .before .flush-sdg2 .kept)) (omega (arith, c .before .before .before .before .before .before .flush-sdg2 .kept)) in
     flush-head r1
 
 flush-s-requires-3 : tie.Need-flush-s-requires-3
 unfolding recordGates lowerAs
 flush-s-requires-3 c κs =
-    let r0 = rw (c .before .before .before .before .before .before .before .before .before .before .before .before .before .before .before .before .enum-told16 .given .1) at (c .before .before .before .before .before .before .before .before .before .before .before .before .before .before .before .before .before .before .before .before .pre) in
+    let r0 = rw (c .before .before .before .before .before .before .before .before .before .before .before .before .before .before .before .before .enum-told11 .given .1) at (c .before .before .before .before .before .before .before .before .before .before .before .before .before .before .before .before .before .before .before .before .pre) in
     let r1 = flush-tail r0 (c .before .before .before .before .before .before .before .before .before .before .before .before .before .flush-sdg2 .ensures) (omega (arith, c .before .before .before .before .before .before .before .before .before .before .before .before .before .flush-sdg2 .kept)) (omega (arith, c .before .before .before .before .before .before .before .before .before .before .before .before .before .flush-sdg2 .kept)) in
     let r2 = flush-tail r1 (c .before .before .before .before .before .before .flush-cnot5 .ensures) (omega (arith, c .before .before .before .before .before .before .flush-cnot5 .kept)) (omega (arith, c .before .before .before .before .before .before .flush-cnot5 .kept)) in
     flush-head r2
-
-enum-told-17 : tie.Need-enum-told-17
-enum-told-17 c = search needs
 
 same-length : tie.Need-same-length
 same-length c = search needs
@@ -234,23 +217,15 @@ returns-5 : tie.Need-returns-5
 unfolding recordGates lowerAs
 returns-5 c = rw (c .before .before .before .before .before .before .before .enum-told5 .given .1) (c .before .before .before .before .flush-sdg .ensures)
 
-returns-6 : tie.Need-returns-6
-unfolding recordGates lowerAs
-returns-6 c = rw (c .enum-told6 .given .1) none-flushed
-
-returns-7 : tie.Need-returns-7
-unfolding recordGates lowerAs
-returns-7 c = rw (c .enum-told7 .given .1) none-flushed
-
 same-length-11 : tie.Need-same-length-11
 same-length-11 c = search needs
 
 same-length-12 : tie.Need-same-length-12
 same-length-12 c = search needs
 
-returns-8 : tie.Need-returns-8
+returns-6 : tie.Need-returns-6
 unfolding recordGates lowerAs
-returns-8 c = rw (c .before .before .before .before .before .before .before .enum-told8 .given .1) (c .before .before .before .before .flush-cnot .ensures)
+returns-6 c = rw (c .before .before .before .before .before .before .before .enum-told6 .given .1) (c .before .before .before .before .flush-cnot .ensures)
 
 same-length-13 : tie.Need-same-length-13
 same-length-13 c = search needs
@@ -258,21 +233,9 @@ same-length-13 c = search needs
 same-length-14 : tie.Need-same-length-14
 same-length-14 c = search needs
 
-returns-9 : tie.Need-returns-9
+returns-7 : tie.Need-returns-7
 unfolding recordGates lowerAs
-returns-9 c = rw (c .before .before .before .before .before .before .before .enum-told9 .given .1) (c .before .before .before .before .flush-cz .ensures)
-
-returns-10 : tie.Need-returns-10
-unfolding recordGates lowerAs
-returns-10 c = rw (c .enum-told10 .given .1) none-flushed
-
-returns-11 : tie.Need-returns-11
-unfolding recordGates lowerAs
-returns-11 c = rw (c .enum-told11 .given .1) none-flushed
-
-returns-12 : tie.Need-returns-12
-unfolding recordGates lowerAs
-returns-12 c = rw (c .enum-told12 .given .1) none-flushed
+returns-7 c = rw (c .before .before .before .before .before .before .before .enum-told7 .given .1) (c .before .before .before .before .flush-cz .ensures)
 
 same-length-15 : tie.Need-same-length-15
 same-length-15 c = search needs
@@ -280,9 +243,9 @@ same-length-15 c = search needs
 same-length-16 : tie.Need-same-length-16
 same-length-16 c = search needs
 
-returns-13 : tie.Need-returns-13
+returns-8 : tie.Need-returns-8
 unfolding recordGates lowerAs
-returns-13 c = rw (c .before .before .before .before .before .before .before .before .before .before .before .before .before .before .enum-told13 .given .1) (more-flushed (c .before .before .before .before .before .before .before .before .before .before .before .flush-z2 .ensures) (c .before .before .before .before .flush-x2 .ensures))
+returns-8 c = rw (c .before .before .before .before .before .before .before .before .before .before .before .before .before .before .enum-told8 .given .1) (more-flushed (c .before .before .before .before .before .before .before .before .before .before .before .flush-z2 .ensures) (c .before .before .before .before .flush-x2 .ensures))
 
 same-length-17 : tie.Need-same-length-17
 same-length-17 c = search needs
@@ -290,9 +253,9 @@ same-length-17 c = search needs
 same-length-18 : tie.Need-same-length-18
 same-length-18 c = search needs
 
-returns-14 : tie.Need-returns-14
+returns-9 : tie.Need-returns-9
 unfolding recordGates lowerAs
-returns-14 c = rw (c .before .before .before .before .before .before .before .before .before .before .before .before .before .before .before .before .before .before .before .before .before .enum-told14 .given .1) (more-flushed (c .before .before .before .before .before .before .before .before .before .before .before .before .before .before .before .before .before .before .flush-h2 .ensures) (more-flushed (c .before .before .before .before .before .before .before .before .before .before .before .flush-s2 .ensures) (c .before .before .before .before .flush-h3 .ensures)))
+returns-9 c = rw (c .before .before .before .before .before .before .before .before .before .before .before .before .before .before .before .before .before .before .before .before .before .enum-told9 .given .1) (more-flushed (c .before .before .before .before .before .before .before .before .before .before .before .before .before .before .before .before .before .before .flush-h2 .ensures) (more-flushed (c .before .before .before .before .before .before .before .before .before .before .before .flush-s2 .ensures) (c .before .before .before .before .flush-h3 .ensures)))
 
 same-length-19 : tie.Need-same-length-19
 same-length-19 c = search needs
@@ -300,9 +263,9 @@ same-length-19 c = search needs
 same-length-20 : tie.Need-same-length-20
 same-length-20 c = search needs
 
-returns-15 : tie.Need-returns-15
+returns-10 : tie.Need-returns-10
 unfolding recordGates lowerAs
-returns-15 c = rw (c .before .before .before .before .before .before .before .before .before .before .before .before .before .before .before .before .before .before .before .before .before .enum-told15 .given .1) (more-flushed (c .before .before .before .before .before .before .before .before .before .before .before .before .before .before .before .before .before .before .flush-cnot2 .ensures) (more-flushed (c .before .before .before .before .before .before .before .before .before .before .before .flush-cnot3 .ensures) (c .before .before .before .before .flush-cnot4 .ensures)))
+returns-10 c = rw (c .before .before .before .before .before .before .before .before .before .before .before .before .before .before .before .before .before .before .before .before .before .enum-told10 .given .1) (more-flushed (c .before .before .before .before .before .before .before .before .before .before .before .before .before .before .before .before .before .before .flush-cnot2 .ensures) (more-flushed (c .before .before .before .before .before .before .before .before .before .before .before .flush-cnot3 .ensures) (c .before .before .before .before .flush-cnot4 .ensures)))
 
 same-length-21 : tie.Need-same-length-21
 same-length-21 c = search needs
@@ -310,13 +273,14 @@ same-length-21 c = search needs
 same-length-22 : tie.Need-same-length-22
 same-length-22 c = search needs
 
-returns-16 : tie.Need-returns-16
+returns-11 : tie.Need-returns-11
 unfolding recordGates lowerAs
-returns-16 c = rw (c .before .before .before .before .before .before .before .before .before .before .before .before .before .before .before .before .before .before .before .before .before .enum-told16 .given .1) (more-flushed (c .before .before .before .before .before .before .before .before .before .before .before .before .before .before .before .before .before .before .flush-sdg2 .ensures) (more-flushed (c .before .before .before .before .before .before .before .before .before .before .before .flush-cnot5 .ensures) (c .before .before .before .before .flush-s3 .ensures)))
+returns-11 c = rw (c .before .before .before .before .before .before .before .before .before .before .before .before .before .before .before .before .before .before .before .before .before .enum-told11 .given .1) (more-flushed (c .before .before .before .before .before .before .before .before .before .before .before .before .before .before .before .before .before .before .flush-sdg2 .ensures) (more-flushed (c .before .before .before .before .before .before .before .before .before .before .before .flush-cnot5 .ensures) (c .before .before .before .before .flush-s3 .ensures)))
 
-returns-17 : tie.Need-returns-17
-unfolding recordGates lowerAs
-returns-17 c = rw (c .enum-told17 .given .1) none-flushed
+returns-12 : tie.Need-returns-12
+returns-12 c =
+    let start = c .before .before .before in
+    rw (no-gates (start .args .kind) (start .args .a) (start .args .b) (c .match .keys12)) none-flushed
 
 pub flush-record-spec : {M : Type 1} → statement M
 flush-record-spec =
@@ -333,30 +297,24 @@ flush-record-spec =
     enum-told-5
     flush-sdg-requires
     enum-told-6
-    enum-told-7
-    enum-told-8
     flush-cnot-requires
-    enum-told-9
+    enum-told-7
     flush-cz-requires
-    enum-told-10
-    enum-told-11
-    enum-told-12
-    enum-told-13
+    enum-told-8
     flush-z-requires-2
     flush-x-requires-2
-    enum-told-14
+    enum-told-9
     flush-h-requires-2
     flush-s-requires-2
     flush-h-requires-3
-    enum-told-15
+    enum-told-10
     flush-cnot-requires-2
     flush-cnot-requires-3
     flush-cnot-requires-4
-    enum-told-16
+    enum-told-11
     flush-sdg-requires-2
     flush-cnot-requires-5
     flush-s-requires-3
-    enum-told-17
     same-length
     same-length-2
     returns
@@ -372,27 +330,22 @@ flush-record-spec =
     same-length-9
     same-length-10
     returns-5
-    returns-6
-    returns-7
     same-length-11
     same-length-12
-    returns-8
+    returns-6
     same-length-13
     same-length-14
-    returns-9
-    returns-10
-    returns-11
-    returns-12
+    returns-7
     same-length-15
     same-length-16
-    returns-13
+    returns-8
     same-length-17
     same-length-18
-    returns-14
+    returns-9
     same-length-19
     same-length-20
-    returns-15
+    returns-10
     same-length-21
     same-length-22
-    returns-16
-    returns-17)
+    returns-11
+    returns-12)

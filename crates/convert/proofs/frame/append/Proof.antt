@@ -1,6 +1,7 @@
 use Rattle.convert.specs.Records.{lowerAs}
 use Rattle.convert.specs.Frame.{frameGates}
 use Rattle.convert.proofs.FrameLaws.{head-ready, none-ran}
+use Rattle.convert.proofs.Arms.{no-frame}
 use borrow.Author.Needs.{needs}
 use Rattle.convert.proofs.frame.append.Statement.{statement}
 use Rattle.convert.proofs.frame.append.Tie as tie
@@ -52,46 +53,16 @@ gate-sdg-requires c κs = head-ready (rw (c .before .before .enum-told5 .given .
 enum-told-6 : tie.Need-enum-told-6
 enum-told-6 c = search needs
 
+gate-cnot-requires : tie.Need-gate-cnot-requires
+unfolding frameGates lowerAs
+gate-cnot-requires c κs = head-ready (rw (c .before .before .enum-told6 .given .1) at (c .before .before .before .before .before .before .pre))
+
 enum-told-7 : tie.Need-enum-told-7
 enum-told-7 c = search needs
 
-enum-told-8 : tie.Need-enum-told-8
-enum-told-8 c = search needs
-
-gate-cnot-requires : tie.Need-gate-cnot-requires
-unfolding frameGates lowerAs
-gate-cnot-requires c κs = head-ready (rw (c .before .before .enum-told8 .given .1) at (c .before .before .before .before .before .before .pre))
-
-enum-told-9 : tie.Need-enum-told-9
-enum-told-9 c = search needs
-
 gate-cz-requires : tie.Need-gate-cz-requires
 unfolding frameGates lowerAs
-gate-cz-requires c κs = head-ready (rw (c .before .before .enum-told9 .given .1) at (c .before .before .before .before .before .before .pre))
-
-enum-told-10 : tie.Need-enum-told-10
-enum-told-10 c = search needs
-
-enum-told-11 : tie.Need-enum-told-11
-enum-told-11 c = search needs
-
-enum-told-12 : tie.Need-enum-told-12
-enum-told-12 c = search needs
-
-enum-told-13 : tie.Need-enum-told-13
-enum-told-13 c = search needs
-
-enum-told-14 : tie.Need-enum-told-14
-enum-told-14 c = search needs
-
-enum-told-15 : tie.Need-enum-told-15
-enum-told-15 c = search needs
-
-enum-told-16 : tie.Need-enum-told-16
-enum-told-16 c = search needs
-
-enum-told-17 : tie.Need-enum-told-17
-enum-told-17 c = search needs
+gate-cz-requires c κs = head-ready (rw (c .before .before .enum-told7 .given .1) at (c .before .before .before .before .before .before .pre))
 
 same-length : tie.Need-same-length
 same-length c = search needs
@@ -143,23 +114,15 @@ returns-5 : tie.Need-returns-5
 unfolding frameGates lowerAs
 returns-5 c = rw (c .before .before .before .before .before .before .before .enum-told5 .given .1) (c .before .before .before .before .gate-sdg .ensures)
 
-returns-6 : tie.Need-returns-6
-unfolding frameGates lowerAs
-returns-6 c = rw (c .enum-told6 .given .1) (none-ran (rw (c .enum-told6 .given .1) at (c .before .before .before .before .pre)))
-
-returns-7 : tie.Need-returns-7
-unfolding frameGates lowerAs
-returns-7 c = rw (c .enum-told7 .given .1) (none-ran (rw (c .enum-told7 .given .1) at (c .before .before .before .before .pre)))
-
 same-length-11 : tie.Need-same-length-11
 same-length-11 c = search needs
 
 same-length-12 : tie.Need-same-length-12
 same-length-12 c = search needs
 
-returns-8 : tie.Need-returns-8
+returns-6 : tie.Need-returns-6
 unfolding frameGates lowerAs
-returns-8 c = rw (c .before .before .before .before .before .before .before .enum-told8 .given .1) (c .before .before .before .before .gate-cnot .ensures)
+returns-6 c = rw (c .before .before .before .before .before .before .before .enum-told6 .given .1) (c .before .before .before .before .gate-cnot .ensures)
 
 same-length-13 : tie.Need-same-length-13
 same-length-13 c = search needs
@@ -167,41 +130,14 @@ same-length-13 c = search needs
 same-length-14 : tie.Need-same-length-14
 same-length-14 c = search needs
 
-returns-9 : tie.Need-returns-9
+returns-7 : tie.Need-returns-7
 unfolding frameGates lowerAs
-returns-9 c = rw (c .before .before .before .before .before .before .before .enum-told9 .given .1) (c .before .before .before .before .gate-cz .ensures)
+returns-7 c = rw (c .before .before .before .before .before .before .before .enum-told7 .given .1) (c .before .before .before .before .gate-cz .ensures)
 
-returns-10 : tie.Need-returns-10
-unfolding frameGates lowerAs
-returns-10 c = rw (c .enum-told10 .given .1) (none-ran (rw (c .enum-told10 .given .1) at (c .before .before .before .before .pre)))
-
-returns-11 : tie.Need-returns-11
-unfolding frameGates lowerAs
-returns-11 c = rw (c .enum-told11 .given .1) (none-ran (rw (c .enum-told11 .given .1) at (c .before .before .before .before .pre)))
-
-returns-12 : tie.Need-returns-12
-unfolding frameGates lowerAs
-returns-12 c = rw (c .enum-told12 .given .1) (none-ran (rw (c .enum-told12 .given .1) at (c .before .before .before .before .pre)))
-
-returns-13 : tie.Need-returns-13
-unfolding frameGates lowerAs
-returns-13 c = rw (c .enum-told13 .given .1) (none-ran (rw (c .enum-told13 .given .1) at (c .before .before .before .before .pre)))
-
-returns-14 : tie.Need-returns-14
-unfolding frameGates lowerAs
-returns-14 c = rw (c .enum-told14 .given .1) (none-ran (rw (c .enum-told14 .given .1) at (c .before .before .before .before .pre)))
-
-returns-15 : tie.Need-returns-15
-unfolding frameGates lowerAs
-returns-15 c = rw (c .enum-told15 .given .1) (none-ran (rw (c .enum-told15 .given .1) at (c .before .before .before .before .pre)))
-
-returns-16 : tie.Need-returns-16
-unfolding frameGates lowerAs
-returns-16 c = rw (c .enum-told16 .given .1) (none-ran (rw (c .enum-told16 .given .1) at (c .before .before .before .before .pre)))
-
-returns-17 : tie.Need-returns-17
-unfolding frameGates lowerAs
-returns-17 c = rw (c .enum-told17 .given .1) (none-ran (rw (c .enum-told17 .given .1) at (c .before .before .before .before .pre)))
+returns-8 : tie.Need-returns-8
+returns-8 c =
+    let start = c .before .before .before in
+    rw (no-frame (start .args .kind) (start .args .a) (start .args .b) (c .match .keys8)) (none-ran (rw (no-frame (start .args .kind) (start .args .a) (start .args .b) (c .match .keys8)) at (start .pre)))
 
 pub append-spec : {M : Type 1} → statement M
 append-spec =
@@ -218,19 +154,9 @@ append-spec =
     enum-told-5
     gate-sdg-requires
     enum-told-6
-    enum-told-7
-    enum-told-8
     gate-cnot-requires
-    enum-told-9
+    enum-told-7
     gate-cz-requires
-    enum-told-10
-    enum-told-11
-    enum-told-12
-    enum-told-13
-    enum-told-14
-    enum-told-15
-    enum-told-16
-    enum-told-17
     same-length
     same-length-2
     returns
@@ -246,19 +172,10 @@ append-spec =
     same-length-9
     same-length-10
     returns-5
-    returns-6
-    returns-7
     same-length-11
     same-length-12
-    returns-8
+    returns-6
     same-length-13
     same-length-14
-    returns-9
-    returns-10
-    returns-11
-    returns-12
-    returns-13
-    returns-14
-    returns-15
-    returns-16
-    returns-17)
+    returns-7
+    returns-8)

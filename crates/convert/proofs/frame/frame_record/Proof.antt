@@ -2,6 +2,7 @@ use native.Mathlib.Omega.{arith}
 use Rattle.convert.specs.Records.{lowerAs}
 use Rattle.convert.specs.Code.Raw.{recordGates}
 use Rattle.convert.proofs.FrameLaws.{head-ready, tail-ready, none-ran, more-ran}
+use Rattle.convert.proofs.Arms.{no-gates}
 use borrow.Author.Needs.{needs}
 use Rattle.convert.proofs.frame.frame_record.Statement.{statement}
 use Rattle.convert.proofs.frame.frame_record.Tie as tie
@@ -63,126 +64,108 @@ gate-sdg-requires c κs =
 enum-told-6 : tie.Need-enum-told-6
 enum-told-6 c = search needs
 
-enum-told-7 : tie.Need-enum-told-7
-enum-told-7 c = search needs
-
-enum-told-8 : tie.Need-enum-told-8
-enum-told-8 c = search needs
-
 gate-cnot-requires : tie.Need-gate-cnot-requires
 unfolding recordGates lowerAs
 gate-cnot-requires c κs =
-    let r0 = rw (c .before .before .enum-told8 .given .1) at (c .before .before .before .before .before .before .pre) in
+    let r0 = rw (c .before .before .enum-told6 .given .1) at (c .before .before .before .before .before .before .pre) in
     head-ready r0
 
-enum-told-9 : tie.Need-enum-told-9
-enum-told-9 c = search needs
+enum-told-7 : tie.Need-enum-told-7
+enum-told-7 c = search needs
 
 gate-cz-requires : tie.Need-gate-cz-requires
 unfolding recordGates lowerAs
 gate-cz-requires c κs =
-    let r0 = rw (c .before .before .enum-told9 .given .1) at (c .before .before .before .before .before .before .pre) in
+    let r0 = rw (c .before .before .enum-told7 .given .1) at (c .before .before .before .before .before .before .pre) in
     head-ready r0
 
-enum-told-10 : tie.Need-enum-told-10
-enum-told-10 c = search needs
-
-enum-told-11 : tie.Need-enum-told-11
-enum-told-11 c = search needs
-
-enum-told-12 : tie.Need-enum-told-12
-enum-told-12 c = search needs
-
-enum-told-13 : tie.Need-enum-told-13
-enum-told-13 c = search needs
+enum-told-8 : tie.Need-enum-told-8
+enum-told-8 c = search needs
 
 gate-z-requires-2 : tie.Need-gate-z-requires-2
 unfolding recordGates lowerAs
 gate-z-requires-2 c κs =
-    let r0 = rw (c .before .before .enum-told13 .given .1) at (c .before .before .before .before .before .before .pre) in
+    let r0 = rw (c .before .before .enum-told8 .given .1) at (c .before .before .before .before .before .before .pre) in
     head-ready r0
 
 gate-x-requires-2 : tie.Need-gate-x-requires-2
 unfolding recordGates lowerAs
 gate-x-requires-2 c κs =
-    let r0 = rw (c .before .before .before .before .before .before .before .before .before .enum-told13 .given .1) at (c .before .before .before .before .before .before .before .before .before .before .before .before .before .pre) in
+    let r0 = rw (c .before .before .before .before .before .before .before .before .before .enum-told8 .given .1) at (c .before .before .before .before .before .before .before .before .before .before .before .before .before .pre) in
     let r1 = tail-ready r0 (c .before .before .before .before .before .before .gate-z2 .ensures) (omega (arith, c .before .before .before .before .before .before .gate-z2 .kept)) (omega (arith, c .before .before .before .before .before .before .gate-z2 .kept)) in
     head-ready r1
 
-enum-told-14 : tie.Need-enum-told-14
-enum-told-14 c = search needs
+enum-told-9 : tie.Need-enum-told-9
+enum-told-9 c = search needs
 
 gate-h-requires-2 : tie.Need-gate-h-requires-2
 unfolding recordGates lowerAs
 gate-h-requires-2 c κs =
-    let r0 = rw (c .before .before .enum-told14 .given .1) at (c .before .before .before .before .before .before .pre) in
+    let r0 = rw (c .before .before .enum-told9 .given .1) at (c .before .before .before .before .before .before .pre) in
     head-ready r0
 
 gate-s-requires-2 : tie.Need-gate-s-requires-2
 unfolding recordGates lowerAs
 gate-s-requires-2 c κs =
-    let r0 = rw (c .before .before .before .before .before .before .before .before .before .enum-told14 .given .1) at (c .before .before .before .before .before .before .before .before .before .before .before .before .before .pre) in
+    let r0 = rw (c .before .before .before .before .before .before .before .before .before .enum-told9 .given .1) at (c .before .before .before .before .before .before .before .before .before .before .before .before .before .pre) in
     let r1 = tail-ready r0 (c .before .before .before .before .before .before .gate-h2 .ensures) (omega (arith, c .before .before .before .before .before .before .gate-h2 .kept)) (omega (arith, c .before .before .before .before .before .before .gate-h2 .kept)) in
     head-ready r1
 
 gate-h-requires-3 : tie.Need-gate-h-requires-3
 unfolding recordGates lowerAs
 gate-h-requires-3 c κs =
-    let r0 = rw (c .before .before .before .before .before .before .before .before .before .before .before .before .before .before .before .before .enum-told14 .given .1) at (c .before .before .before .before .before .before .before .before .before .before .before .before .before .before .before .before .before .before .before .before .pre) in
+    let r0 = rw (c .before .before .before .before .before .before .before .before .before .before .before .before .before .before .before .before .enum-told9 .given .1) at (c .before .before .before .before .before .before .before .before .before .before .before .before .before .before .before .before .before .before .before .before .pre) in
     let r1 = tail-ready r0 (c .before .before .before .before .before .before .before .before .before .before .before .before .before .gate-h2 .ensures) (omega (arith, c .before .before .before .before .before .before .before .before .before .before .before .before .before .gate-h2 .kept)) (omega (arith, c .before .before .before .before .before .before .before .before .before .before .before .before .before .gate-h2 .kept)) in
     let r2 = tail-ready r1 (c .before .before .before .before .before .before .gate-s2 .ensures) (omega (arith, c .before .before .before .before .before .before .gate-s2 .kept)) (omega (arith, c .before .before .before .before .before .before .gate-s2 .kept)) in
     head-ready r2
 
-enum-told-15 : tie.Need-enum-told-15
-enum-told-15 c = search needs
+enum-told-10 : tie.Need-enum-told-10
+enum-told-10 c = search needs
 
 gate-cnot-requires-2 : tie.Need-gate-cnot-requires-2
 unfolding recordGates lowerAs
 gate-cnot-requires-2 c κs =
-    let r0 = rw (c .before .before .enum-told15 .given .1) at (c .before .before .before .before .before .before .pre) in
+    let r0 = rw (c .before .before .enum-told10 .given .1) at (c .before .before .before .before .before .before .pre) in
     head-ready r0
 
 gate-cnot-requires-3 : tie.Need-gate-cnot-requires-3
 unfolding recordGates lowerAs
 gate-cnot-requires-3 c κs =
-    let r0 = rw (c .before .before .before .before .before .before .before .before .before .enum-told15 .given .1) at (c .before .before .before .before .before .before .before .before .before .before .before .before .before .pre) in
+    let r0 = rw (c .before .before .before .before .before .before .before .before .before .enum-told10 .given .1) at (c .before .before .before .before .before .before .before .before .before .before .before .before .before .pre) in
     let r1 = tail-ready r0 (c .before .before .before .before .before .before .gate-cnot2 .ensures) (omega (arith, c .before .before .before .before .before .before .gate-cnot2 .kept)) (omega (arith, c .before .before .before .before .before .before .gate-cnot2 .kept)) in
     head-ready r1
 
 gate-cnot-requires-4 : tie.Need-gate-cnot-requires-4
 unfolding recordGates lowerAs
 gate-cnot-requires-4 c κs =
-    let r0 = rw (c .before .before .before .before .before .before .before .before .before .before .before .before .before .before .before .before .enum-told15 .given .1) at (c .before .before .before .before .before .before .before .before .before .before .before .before .before .before .before .before .before .before .before .before .pre) in
+    let r0 = rw (c .before .before .before .before .before .before .before .before .before .before .before .before .before .before .before .before .enum-told10 .given .1) at (c .before .before .before .before .before .before .before .before .before .before .before .before .before .before .before .before .before .before .before .before .pre) in
     let r1 = tail-ready r0 (c .before .before .before .before .before .before .before .before .before .before .before .before .before .gate-cnot2 .ensures) (omega (arith, c .before .before .before .before .before .before .before .before .before .before .before .before .before .gate-cnot2 .kept)) (omega (arith, c .before .before .before .before .before .before .before .before .before .before .before .before .before .gate-cnot2 .kept)) in
     let r2 = tail-ready r1 (c .before .before .before .before .before .before .gate-cnot3 .ensures) (omega (arith, c .before .before .before .before .before .before .gate-cnot3 .kept)) (omega (arith, c .before .before .before .before .before .before .gate-cnot3 .kept)) in
     head-ready r2
 
-enum-told-16 : tie.Need-enum-told-16
-enum-told-16 c = search needs
+enum-told-11 : tie.Need-enum-told-11
+enum-told-11 c = search needs
 
 gate-sdg-requires-2 : tie.Need-gate-sdg-requires-2
 unfolding recordGates lowerAs
 gate-sdg-requires-2 c κs =
-    let r0 = rw (c .before .before .enum-told16 .given .1) at (c .before .before .before .before .before .before .pre) in
+    let r0 = rw (c .before .before .enum-told11 .given .1) at (c .before .before .before .before .before .before .pre) in
     head-ready r0
 
 gate-cnot-requires-5 : tie.Need-gate-cnot-requires-5
 unfolding recordGates lowerAs
 gate-cnot-requires-5 c κs =
-    let r0 = rw (c .before .before .before .before .before .before .before .before .before .enum-told16 .given .1) at (c .before .before .before .before .before .before .before .before .before .before .before .before .before .pre) in
+    let r0 = rw (c .before .before .before .before .before .before .before .before .before .enum-told11 .given .1) at (c .before .before .before .before .before .before .before .before .before .before .before .before .before .pre) in
     let r1 = tail-ready r0 (c .before .before .before .before .before .before .gate-sdg2 .ensures) (omega (arith, c .before .before .before .before .before .before .gate-sdg2 .kept)) (omega (arith, c .before .before .before .before .before .before .gate-sdg2 .kept)) in
     head-ready r1
 
 gate-s-requires-3 : tie.Need-gate-s-requires-3
 unfolding recordGates lowerAs
 gate-s-requires-3 c κs =
-    let r0 = rw (c .before .before .before .before .before .before .before .before .before .before .before .before .before .before .before .before .enum-told16 .given .1) at (c .before .before .before .before .before .before .before .before .before .before .before .before .before .before .before .before .before .before .before .before .pre) in
+    let r0 = rw (c .before .before .before .before .before .before .before .before .before .before .before .before .before .before .before .before .enum-told11 .given .1) at (c .before .before .before .before .before .before .before .before .before .before .before .before .before .before .before .before .before .before .before .before .pre) in
     let r1 = tail-ready r0 (c .before .before .before .before .before .before .before .before .before .before .before .before .before .gate-sdg2 .ensures) (omega (arith, c .before .before .before .before .before .before .before .before .before .before .before .before .before .gate-sdg2 .kept)) (omega (arith, c .before .before .before .before .before .before .before .before .before .before .before .before .before .gate-sdg2 .kept)) in
     let r2 = tail-ready r1 (c .before .before .before .before .before .before .gate-cnot5 .ensures) (omega (arith, c .before .before .before .before .before .before .gate-cnot5 .kept)) (omega (arith, c .before .before .before .before .before .before .gate-cnot5 .kept)) in
     head-ready r2
-
-enum-told-17 : tie.Need-enum-told-17
-enum-told-17 c = search needs
 
 same-length : tie.Need-same-length
 same-length c = search needs
@@ -234,23 +217,15 @@ returns-5 : tie.Need-returns-5
 unfolding recordGates lowerAs
 returns-5 c = rw (c .before .before .before .before .before .before .before .enum-told5 .given .1) (c .before .before .before .before .gate-sdg .ensures)
 
-returns-6 : tie.Need-returns-6
-unfolding recordGates lowerAs
-returns-6 c = rw (c .enum-told6 .given .1) (none-ran (rw (c .enum-told6 .given .1) at (c .before .before .before .before .pre)))
-
-returns-7 : tie.Need-returns-7
-unfolding recordGates lowerAs
-returns-7 c = rw (c .enum-told7 .given .1) (none-ran (rw (c .enum-told7 .given .1) at (c .before .before .before .before .pre)))
-
 same-length-11 : tie.Need-same-length-11
 same-length-11 c = search needs
 
 same-length-12 : tie.Need-same-length-12
 same-length-12 c = search needs
 
-returns-8 : tie.Need-returns-8
+returns-6 : tie.Need-returns-6
 unfolding recordGates lowerAs
-returns-8 c = rw (c .before .before .before .before .before .before .before .enum-told8 .given .1) (c .before .before .before .before .gate-cnot .ensures)
+returns-6 c = rw (c .before .before .before .before .before .before .before .enum-told6 .given .1) (c .before .before .before .before .gate-cnot .ensures)
 
 same-length-13 : tie.Need-same-length-13
 same-length-13 c = search needs
@@ -258,21 +233,9 @@ same-length-13 c = search needs
 same-length-14 : tie.Need-same-length-14
 same-length-14 c = search needs
 
-returns-9 : tie.Need-returns-9
+returns-7 : tie.Need-returns-7
 unfolding recordGates lowerAs
-returns-9 c = rw (c .before .before .before .before .before .before .before .enum-told9 .given .1) (c .before .before .before .before .gate-cz .ensures)
-
-returns-10 : tie.Need-returns-10
-unfolding recordGates lowerAs
-returns-10 c = rw (c .enum-told10 .given .1) (none-ran (rw (c .enum-told10 .given .1) at (c .before .before .before .before .pre)))
-
-returns-11 : tie.Need-returns-11
-unfolding recordGates lowerAs
-returns-11 c = rw (c .enum-told11 .given .1) (none-ran (rw (c .enum-told11 .given .1) at (c .before .before .before .before .pre)))
-
-returns-12 : tie.Need-returns-12
-unfolding recordGates lowerAs
-returns-12 c = rw (c .enum-told12 .given .1) (none-ran (rw (c .enum-told12 .given .1) at (c .before .before .before .before .pre)))
+returns-7 c = rw (c .before .before .before .before .before .before .before .enum-told7 .given .1) (c .before .before .before .before .gate-cz .ensures)
 
 same-length-15 : tie.Need-same-length-15
 same-length-15 c = search needs
@@ -280,9 +243,9 @@ same-length-15 c = search needs
 same-length-16 : tie.Need-same-length-16
 same-length-16 c = search needs
 
-returns-13 : tie.Need-returns-13
+returns-8 : tie.Need-returns-8
 unfolding recordGates lowerAs
-returns-13 c = rw (c .before .before .before .before .before .before .before .before .before .before .before .before .before .before .enum-told13 .given .1) (more-ran (c .before .before .before .before .before .before .before .before .before .before .before .gate-z2 .ensures) (c .before .before .before .before .gate-x2 .ensures))
+returns-8 c = rw (c .before .before .before .before .before .before .before .before .before .before .before .before .before .before .enum-told8 .given .1) (more-ran (c .before .before .before .before .before .before .before .before .before .before .before .gate-z2 .ensures) (c .before .before .before .before .gate-x2 .ensures))
 
 same-length-17 : tie.Need-same-length-17
 same-length-17 c = search needs
@@ -290,9 +253,9 @@ same-length-17 c = search needs
 same-length-18 : tie.Need-same-length-18
 same-length-18 c = search needs
 
-returns-14 : tie.Need-returns-14
+returns-9 : tie.Need-returns-9
 unfolding recordGates lowerAs
-returns-14 c = rw (c .before .before .before .before .before .before .before .before .before .before .before .before .before .before .before .before .before .before .before .before .before .enum-told14 .given .1) (more-ran (c .before .before .before .before .before .before .before .before .before .before .before .before .before .before .before .before .before .before .gate-h2 .ensures) (more-ran (c .before .before .before .before .before .before .before .before .before .before .before .gate-s2 .ensures) (c .before .before .before .before .gate-h3 .ensures)))
+returns-9 c = rw (c .before .before .before .before .before .before .before .before .before .before .before .before .before .before .before .before .before .before .before .before .before .enum-told9 .given .1) (more-ran (c .before .before .before .before .before .before .before .before .before .before .before .before .before .before .before .before .before .before .gate-h2 .ensures) (more-ran (c .before .before .before .before .before .before .before .before .before .before .before .gate-s2 .ensures) (c .before .before .before .before .gate-h3 .ensures)))
 
 same-length-19 : tie.Need-same-length-19
 same-length-19 c = search needs
@@ -300,9 +263,9 @@ same-length-19 c = search needs
 same-length-20 : tie.Need-same-length-20
 same-length-20 c = search needs
 
-returns-15 : tie.Need-returns-15
+returns-10 : tie.Need-returns-10
 unfolding recordGates lowerAs
-returns-15 c = rw (c .before .before .before .before .before .before .before .before .before .before .before .before .before .before .before .before .before .before .before .before .before .enum-told15 .given .1) (more-ran (c .before .before .before .before .before .before .before .before .before .before .before .before .before .before .before .before .before .before .gate-cnot2 .ensures) (more-ran (c .before .before .before .before .before .before .before .before .before .before .before .gate-cnot3 .ensures) (c .before .before .before .before .gate-cnot4 .ensures)))
+returns-10 c = rw (c .before .before .before .before .before .before .before .before .before .before .before .before .before .before .before .before .before .before .before .before .before .enum-told10 .given .1) (more-ran (c .before .before .before .before .before .before .before .before .before .before .before .before .before .before .before .before .before .before .gate-cnot2 .ensures) (more-ran (c .before .before .before .before .before .before .before .before .before .before .before .gate-cnot3 .ensures) (c .before .before .before .before .gate-cnot4 .ensures)))
 
 same-length-21 : tie.Need-same-length-21
 same-length-21 c = search needs
@@ -310,13 +273,14 @@ same-length-21 c = search needs
 same-length-22 : tie.Need-same-length-22
 same-length-22 c = search needs
 
-returns-16 : tie.Need-returns-16
+returns-11 : tie.Need-returns-11
 unfolding recordGates lowerAs
-returns-16 c = rw (c .before .before .before .before .before .before .before .before .before .before .before .before .before .before .before .before .before .before .before .before .before .enum-told16 .given .1) (more-ran (c .before .before .before .before .before .before .before .before .before .before .before .before .before .before .before .before .before .before .gate-sdg2 .ensures) (more-ran (c .before .before .before .before .before .before .before .before .before .before .before .gate-cnot5 .ensures) (c .before .before .before .before .gate-s3 .ensures)))
+returns-11 c = rw (c .before .before .before .before .before .before .before .before .before .before .before .before .before .before .before .before .before .before .before .before .before .enum-told11 .given .1) (more-ran (c .before .before .before .before .before .before .before .before .before .before .before .before .before .before .before .before .before .before .gate-sdg2 .ensures) (more-ran (c .before .before .before .before .before .before .before .before .before .before .before .gate-cnot5 .ensures) (c .before .before .before .before .gate-s3 .ensures)))
 
-returns-17 : tie.Need-returns-17
-unfolding recordGates lowerAs
-returns-17 c = rw (c .enum-told17 .given .1) (none-ran (rw (c .enum-told17 .given .1) at (c .before .before .before .before .pre)))
+returns-12 : tie.Need-returns-12
+returns-12 c =
+    let start = c .before .before .before in
+    rw (no-gates (start .args .kind) (start .args .a) (start .args .b) (c .match .keys12)) (none-ran (rw (no-gates (start .args .kind) (start .args .a) (start .args .b) (c .match .keys12)) at (start .pre)))
 
 pub frame-record-spec : {M : Type 1} → statement M
 frame-record-spec =
@@ -333,30 +297,24 @@ frame-record-spec =
     enum-told-5
     gate-sdg-requires
     enum-told-6
-    enum-told-7
-    enum-told-8
     gate-cnot-requires
-    enum-told-9
+    enum-told-7
     gate-cz-requires
-    enum-told-10
-    enum-told-11
-    enum-told-12
-    enum-told-13
+    enum-told-8
     gate-z-requires-2
     gate-x-requires-2
-    enum-told-14
+    enum-told-9
     gate-h-requires-2
     gate-s-requires-2
     gate-h-requires-3
-    enum-told-15
+    enum-told-10
     gate-cnot-requires-2
     gate-cnot-requires-3
     gate-cnot-requires-4
-    enum-told-16
+    enum-told-11
     gate-sdg-requires-2
     gate-cnot-requires-5
     gate-s-requires-3
-    enum-told-17
     same-length
     same-length-2
     returns
@@ -372,27 +330,22 @@ frame-record-spec =
     same-length-9
     same-length-10
     returns-5
-    returns-6
-    returns-7
     same-length-11
     same-length-12
-    returns-8
+    returns-6
     same-length-13
     same-length-14
-    returns-9
-    returns-10
-    returns-11
-    returns-12
+    returns-7
     same-length-15
     same-length-16
-    returns-13
+    returns-8
     same-length-17
     same-length-18
-    returns-14
+    returns-9
     same-length-19
     same-length-20
-    returns-15
+    returns-10
     same-length-21
     same-length-22
-    returns-16
-    returns-17)
+    returns-11
+    returns-12)

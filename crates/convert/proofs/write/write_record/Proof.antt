@@ -1,5 +1,4 @@
 use native.Mathlib.Omega.{arith}
-use mathlib.Core.Path.{refl}
 use Prim.Native.Nat.{_+_}
 use lib.ListN.{getD}
 use Rattle.arena.specs.Operations.{rotateWords, measureWords}
@@ -7,6 +6,7 @@ use Rattle.convert.specs.Types.{Bit}
 use Rattle.convert.specs.Code.Raw.{putRecord}
 use Rattle.convert.proofs.SevenLaws.{op-put}
 use Rattle.convert.proofs.ReadyLaws.{read-t, read-tdg, read-measure, read-ccx, read-ccz}
+use Rattle.convert.proofs.Arms.{no-record}
 use borrow.Author.Needs.{needs}
 use Rattle.convert.proofs.write.write_record.Statement.{statement}
 use Rattle.convert.proofs.write.write_record.Tie as tie
@@ -16,269 +16,205 @@ use Rattle.convert.proofs.write.write_record.Lts as lts
 enum-told : tie.Need-enum-told
 enum-told c = search needs
 
-enum-told-2 : tie.Need-enum-told-2
-enum-told-2 c = search needs
-
-enum-told-3 : tie.Need-enum-told-3
-enum-told-3 c = search needs
-
-enum-told-4 : tie.Need-enum-told-4
-enum-told-4 c = search needs
-
-enum-told-5 : tie.Need-enum-told-5
-enum-told-5 c = search needs
-
-enum-told-6 : tie.Need-enum-told-6
-enum-told-6 c = search needs
-
 add-put-rotation : tie.Need-add-put-rotation
 add-put-rotation c =
-    let q = read-t (rw (c .before .enum-told6 .given .1) at (c .before .before .before .before .before .before .pre)) in
+    let q = read-t (rw (c .before .enum-told .given .1) at (c .before .before .before .before .before .before .pre)) in
     omega (arith, q)
 
 mul-put-rotation : tie.Need-mul-put-rotation
 mul-put-rotation c =
-    let q = read-t (rw (c .before .enum-told6 .given .1) at (c .before .before .before .before .before .before .pre)) in
+    let q = read-t (rw (c .before .enum-told .given .1) at (c .before .before .before .before .before .before .pre)) in
     omega (arith, q)
 
 shared-slice-read-put-rotation : tie.Need-shared-slice-read-put-rotation
 shared-slice-read-put-rotation c =
-    let q = read-t (rw (c .before .before .enum-told6 .given .1) at (c .before .before .before .before .before .before .before .pre)) in
+    let q = read-t (rw (c .before .before .enum-told .given .1) at (c .before .before .before .before .before .before .before .pre)) in
     omega (arith, q)
 
 put-rotation-requires : tie.Need-put-rotation-requires
 put-rotation-requires c κs =
-    let q = read-t (rw (c .before .before .enum-told6 .given .1) at (c .before .before .before .before .before .before .before .pre)) in
+    let q = read-t (rw (c .before .before .enum-told .given .1) at (c .before .before .before .before .before .before .before .pre)) in
     (q .2, q .3, omega arith)
 
 made-requires : tie.Need-made-requires
 made-requires c κs = search needs
 
-enum-told-7 : tie.Need-enum-told-7
-enum-told-7 c = search needs
+enum-told-2 : tie.Need-enum-told-2
+enum-told-2 c = search needs
 
 add-put-rotation-2 : tie.Need-add-put-rotation-2
 add-put-rotation-2 c =
-    let q = read-tdg (rw (c .before .enum-told7 .given .1) at (c .before .before .before .before .before .before .pre)) in
+    let q = read-tdg (rw (c .before .enum-told2 .given .1) at (c .before .before .before .before .before .before .pre)) in
     omega (arith, q)
 
 mul-put-rotation-2 : tie.Need-mul-put-rotation-2
 mul-put-rotation-2 c =
-    let q = read-tdg (rw (c .before .enum-told7 .given .1) at (c .before .before .before .before .before .before .pre)) in
+    let q = read-tdg (rw (c .before .enum-told2 .given .1) at (c .before .before .before .before .before .before .pre)) in
     omega (arith, q)
 
 shared-slice-read-put-rotation-2 : tie.Need-shared-slice-read-put-rotation-2
 shared-slice-read-put-rotation-2 c =
-    let q = read-tdg (rw (c .before .before .enum-told7 .given .1) at (c .before .before .before .before .before .before .before .pre)) in
+    let q = read-tdg (rw (c .before .before .enum-told2 .given .1) at (c .before .before .before .before .before .before .before .pre)) in
     omega (arith, q)
 
 put-rotation-requires-2 : tie.Need-put-rotation-requires-2
 put-rotation-requires-2 c κs =
-    let q = read-tdg (rw (c .before .before .enum-told7 .given .1) at (c .before .before .before .before .before .before .before .pre)) in
+    let q = read-tdg (rw (c .before .before .enum-told2 .given .1) at (c .before .before .before .before .before .before .before .pre)) in
     (q .2, q .3, omega arith)
 
 made-requires-2 : tie.Need-made-requires-2
 made-requires-2 c κs = search needs
 
-enum-told-8 : tie.Need-enum-told-8
-enum-told-8 c = search needs
-
-enum-told-9 : tie.Need-enum-told-9
-enum-told-9 c = search needs
-
-enum-told-10 : tie.Need-enum-told-10
-enum-told-10 c = search needs
+enum-told-3 : tie.Need-enum-told-3
+enum-told-3 c = search needs
 
 add-put-seven : tie.Need-add-put-seven
 add-put-seven c =
-    let q = read-ccx (rw (c .before .before .enum-told10 .given .1) at (c .before .before .before .before .before .before .before .pre)) in
+    let q = read-ccx (rw (c .before .before .enum-told3 .given .1) at (c .before .before .before .before .before .before .before .pre)) in
     omega (arith, q)
 
 mul-put-seven : tie.Need-mul-put-seven
 mul-put-seven c =
-    let q = read-ccx (rw (c .before .before .enum-told10 .given .1) at (c .before .before .before .before .before .before .before .pre)) in
+    let q = read-ccx (rw (c .before .before .enum-told3 .given .1) at (c .before .before .before .before .before .before .before .pre)) in
     omega (arith, q)
 
 shared-slice-read-put-seven : tie.Need-shared-slice-read-put-seven
 shared-slice-read-put-seven c =
-    let q = read-ccx (rw (c .before .before .before .enum-told10 .given .1) at (c .before .before .before .before .before .before .before .before .pre)) in
+    let q = read-ccx (rw (c .before .before .before .enum-told3 .given .1) at (c .before .before .before .before .before .before .before .before .pre)) in
     omega (arith, q)
 
 add-put-seven-2 : tie.Need-add-put-seven-2
 add-put-seven-2 c =
-    let q = read-ccx (rw (c .before .before .before .enum-told10 .given .1) at (c .before .before .before .before .before .before .before .before .pre)) in
+    let q = read-ccx (rw (c .before .before .before .enum-told3 .given .1) at (c .before .before .before .before .before .before .before .before .pre)) in
     omega (arith, q)
 
 mul-put-seven-2 : tie.Need-mul-put-seven-2
 mul-put-seven-2 c =
-    let q = read-ccx (rw (c .before .before .before .enum-told10 .given .1) at (c .before .before .before .before .before .before .before .before .pre)) in
+    let q = read-ccx (rw (c .before .before .before .enum-told3 .given .1) at (c .before .before .before .before .before .before .before .before .pre)) in
     omega (arith, q)
 
 shared-slice-read-put-seven-2 : tie.Need-shared-slice-read-put-seven-2
 shared-slice-read-put-seven-2 c =
-    let q = read-ccx (rw (c .before .before .before .before .enum-told10 .given .1) at (c .before .before .before .before .before .before .before .before .before .pre)) in
+    let q = read-ccx (rw (c .before .before .before .before .enum-told3 .given .1) at (c .before .before .before .before .before .before .before .before .before .pre)) in
     omega (arith, q)
 
 mul-put-seven-3 : tie.Need-mul-put-seven-3
 mul-put-seven-3 c =
-    let q = read-ccx (rw (c .before .before .before .before .enum-told10 .given .1) at (c .before .before .before .before .before .before .before .before .before .pre)) in
+    let q = read-ccx (rw (c .before .before .before .before .enum-told3 .given .1) at (c .before .before .before .before .before .before .before .before .before .pre)) in
     omega (arith, q)
 
 shared-slice-read-put-seven-3 : tie.Need-shared-slice-read-put-seven-3
 shared-slice-read-put-seven-3 c =
-    let q = read-ccx (rw (c .before .before .before .before .before .enum-told10 .given .1) at (c .before .before .before .before .before .before .before .before .before .before .pre)) in
+    let q = read-ccx (rw (c .before .before .before .before .before .enum-told3 .given .1) at (c .before .before .before .before .before .before .before .before .before .before .pre)) in
     omega (arith, q)
 
 put-seven-requires : tie.Need-put-seven-requires
 put-seven-requires c κs =
-    let q = read-ccx (rw (c .before .before .before .before .before .enum-told10 .given .1) at (c .before .before .before .before .before .before .before .before .before .before .pre)) in
+    let q = read-ccx (rw (c .before .before .before .before .before .enum-told3 .given .1) at (c .before .before .before .before .before .before .before .before .before .before .pre)) in
     (q .5, q .6, q .7, q .8, q .9, q .10)
 
-enum-told-11 : tie.Need-enum-told-11
-enum-told-11 c = search needs
+enum-told-4 : tie.Need-enum-told-4
+enum-told-4 c = search needs
 
 add-put-seven-3 : tie.Need-add-put-seven-3
 add-put-seven-3 c =
-    let q = read-ccz (rw (c .before .before .enum-told11 .given .1) at (c .before .before .before .before .before .before .before .pre)) in
+    let q = read-ccz (rw (c .before .before .enum-told4 .given .1) at (c .before .before .before .before .before .before .before .pre)) in
     omega (arith, q)
 
 mul-put-seven-4 : tie.Need-mul-put-seven-4
 mul-put-seven-4 c =
-    let q = read-ccz (rw (c .before .before .enum-told11 .given .1) at (c .before .before .before .before .before .before .before .pre)) in
+    let q = read-ccz (rw (c .before .before .enum-told4 .given .1) at (c .before .before .before .before .before .before .before .pre)) in
     omega (arith, q)
 
 shared-slice-read-put-seven-4 : tie.Need-shared-slice-read-put-seven-4
 shared-slice-read-put-seven-4 c =
-    let q = read-ccz (rw (c .before .before .before .enum-told11 .given .1) at (c .before .before .before .before .before .before .before .before .pre)) in
+    let q = read-ccz (rw (c .before .before .before .enum-told4 .given .1) at (c .before .before .before .before .before .before .before .before .pre)) in
     omega (arith, q)
 
 add-put-seven-4 : tie.Need-add-put-seven-4
 add-put-seven-4 c =
-    let q = read-ccz (rw (c .before .before .before .enum-told11 .given .1) at (c .before .before .before .before .before .before .before .before .pre)) in
+    let q = read-ccz (rw (c .before .before .before .enum-told4 .given .1) at (c .before .before .before .before .before .before .before .before .pre)) in
     omega (arith, q)
 
 mul-put-seven-5 : tie.Need-mul-put-seven-5
 mul-put-seven-5 c =
-    let q = read-ccz (rw (c .before .before .before .enum-told11 .given .1) at (c .before .before .before .before .before .before .before .before .pre)) in
+    let q = read-ccz (rw (c .before .before .before .enum-told4 .given .1) at (c .before .before .before .before .before .before .before .before .pre)) in
     omega (arith, q)
 
 shared-slice-read-put-seven-5 : tie.Need-shared-slice-read-put-seven-5
 shared-slice-read-put-seven-5 c =
-    let q = read-ccz (rw (c .before .before .before .before .enum-told11 .given .1) at (c .before .before .before .before .before .before .before .before .before .pre)) in
+    let q = read-ccz (rw (c .before .before .before .before .enum-told4 .given .1) at (c .before .before .before .before .before .before .before .before .before .pre)) in
     omega (arith, q)
 
 add-put-seven-5 : tie.Need-add-put-seven-5
 add-put-seven-5 c =
-    let q = read-ccz (rw (c .before .before .before .before .enum-told11 .given .1) at (c .before .before .before .before .before .before .before .before .before .pre)) in
+    let q = read-ccz (rw (c .before .before .before .before .enum-told4 .given .1) at (c .before .before .before .before .before .before .before .before .before .pre)) in
     omega (arith, q)
 
 mul-put-seven-6 : tie.Need-mul-put-seven-6
 mul-put-seven-6 c =
-    let q = read-ccz (rw (c .before .before .before .before .enum-told11 .given .1) at (c .before .before .before .before .before .before .before .before .before .pre)) in
+    let q = read-ccz (rw (c .before .before .before .before .enum-told4 .given .1) at (c .before .before .before .before .before .before .before .before .before .pre)) in
     omega (arith, q)
 
 shared-slice-read-put-seven-6 : tie.Need-shared-slice-read-put-seven-6
 shared-slice-read-put-seven-6 c =
-    let q = read-ccz (rw (c .before .before .before .before .before .enum-told11 .given .1) at (c .before .before .before .before .before .before .before .before .before .before .pre)) in
+    let q = read-ccz (rw (c .before .before .before .before .before .enum-told4 .given .1) at (c .before .before .before .before .before .before .before .before .before .before .pre)) in
     omega (arith, q)
 
 put-seven-requires-2 : tie.Need-put-seven-requires-2
 put-seven-requires-2 c κs =
-    let q = read-ccz (rw (c .before .before .before .before .before .enum-told11 .given .1) at (c .before .before .before .before .before .before .before .before .before .before .pre)) in
+    let q = read-ccz (rw (c .before .before .before .before .before .enum-told4 .given .1) at (c .before .before .before .before .before .before .before .before .before .before .pre)) in
     (q .6, q .7, q .8, q .9, q .10, q .11)
 
-enum-told-12 : tie.Need-enum-told-12
-enum-told-12 c = search needs
+enum-told-5 : tie.Need-enum-told-5
+enum-told-5 c = search needs
 
 add-put-operation : tie.Need-add-put-operation
 add-put-operation c =
-    let q = read-measure (rw (c .before .enum-told12 .given .1) at (c .before .before .before .before .before .before .pre)) in
+    let q = read-measure (rw (c .before .enum-told5 .given .1) at (c .before .before .before .before .before .before .pre)) in
     omega (arith, q)
 
 mul-put-operation : tie.Need-mul-put-operation
 mul-put-operation c =
-    let q = read-measure (rw (c .before .enum-told12 .given .1) at (c .before .before .before .before .before .before .pre)) in
+    let q = read-measure (rw (c .before .enum-told5 .given .1) at (c .before .before .before .before .before .before .pre)) in
     omega (arith, q)
 
 shared-slice-read-put-operation : tie.Need-shared-slice-read-put-operation
 shared-slice-read-put-operation c =
-    let q = read-measure (rw (c .before .before .enum-told12 .given .1) at (c .before .before .before .before .before .before .before .pre)) in
+    let q = read-measure (rw (c .before .before .enum-told5 .given .1) at (c .before .before .before .before .before .before .before .pre)) in
     omega (arith, q)
 
 cast-put-operation : tie.Need-cast-put-operation
 cast-put-operation c =
-    let q = read-measure (rw (c .before .before .enum-told12 .given .1) at (c .before .before .before .before .before .before .before .pre)) in
+    let q = read-measure (rw (c .before .before .enum-told5 .given .1) at (c .before .before .before .before .before .before .before .pre)) in
     omega (arith, q)
 
 add-put-operation-2 : tie.Need-add-put-operation-2
 add-put-operation-2 c =
-    let q = read-measure (rw (c .before .before .enum-told12 .given .1) at (c .before .before .before .before .before .before .before .pre)) in
+    let q = read-measure (rw (c .before .before .enum-told5 .given .1) at (c .before .before .before .before .before .before .before .pre)) in
     omega (arith, q)
 
 put-operation-requires : tie.Need-put-operation-requires
 put-operation-requires c κs =
-    let q = read-measure (rw (c .before .before .enum-told12 .given .1) at (c .before .before .before .before .before .before .before .pre)) in
+    let q = read-measure (rw (c .before .before .enum-told5 .given .1) at (c .before .before .before .before .before .before .before .pre)) in
     (q .2, q .3)
 
 made-requires-3 : tie.Need-made-requires-3
 made-requires-3 c κs = search needs
 
-enum-told-13 : tie.Need-enum-told-13
-enum-told-13 c = search needs
-
-enum-told-14 : tie.Need-enum-told-14
-enum-told-14 c = search needs
-
-enum-told-15 : tie.Need-enum-told-15
-enum-told-15 c = search needs
-
-enum-told-16 : tie.Need-enum-told-16
-enum-told-16 c = search needs
-
-enum-told-17 : tie.Need-enum-told-17
-enum-told-17 c = search needs
-
-returns : tie.Need-returns
-unfolding putRecord
-returns c = rw (c .enum-told .given .1) refl
-
-returns-2 : tie.Need-returns-2
-unfolding putRecord
-returns-2 c = rw (c .enum-told2 .given .1) refl
-
-returns-3 : tie.Need-returns-3
-unfolding putRecord
-returns-3 c = rw (c .enum-told3 .given .1) refl
-
-returns-4 : tie.Need-returns-4
-unfolding putRecord
-returns-4 c = rw (c .enum-told4 .given .1) refl
-
-returns-5 : tie.Need-returns-5
-unfolding putRecord
-returns-5 c = rw (c .enum-told5 .given .1) refl
-
 same-length : tie.Need-same-length
 same-length c = search needs
 
-returns-6 : tie.Need-returns-6
+returns : tie.Need-returns
 unfolding putRecord
-returns-6 c = rw (c .before .before .before .before .before .before .enum-told6 .given .1) (op-put (c .before .before .before .before .before .before .before .before .before .before .before .args .w .nodes) (c .before .before .before .before .before .before .before .before .before .before .before .args .nodes .now) (c .before .before .before .before .before .before .before .before .before .before .before .args .w .operations) (c .before .before .before .before .before .before .before .before .before .before .before .args .operations .now) (rotateWords (getD (c .before .before .before .before .before .before .before .before .before .before .before .args .frame .now) (c .before .before .before .before .before .before .before .before .before .before .before .args .n + c .before .before .before .before .before .before .before .before .before .before .before .args .a) 0) 1) _ _ _ _ (c .before .before .before .put-rotation .ensures) (c .made .ensures))
+returns c = rw (c .before .before .before .before .before .before .enum-told .given .1) (op-put (c .before .before .before .before .before .before .before .before .before .before .before .args .w .nodes) (c .before .before .before .before .before .before .before .before .before .before .before .args .nodes .now) (c .before .before .before .before .before .before .before .before .before .before .before .args .w .operations) (c .before .before .before .before .before .before .before .before .before .before .before .args .operations .now) (rotateWords (getD (c .before .before .before .before .before .before .before .before .before .before .before .args .frame .now) (c .before .before .before .before .before .before .before .before .before .before .before .args .n + c .before .before .before .before .before .before .before .before .before .before .before .args .a) 0) 1) _ _ _ _ (c .before .before .before .put-rotation .ensures) (c .made .ensures))
 
 same-length-2 : tie.Need-same-length-2
 same-length-2 c = search needs
 
-returns-7 : tie.Need-returns-7
+returns-2 : tie.Need-returns-2
 unfolding putRecord
-returns-7 c = rw (c .before .before .before .before .before .before .enum-told7 .given .1) (op-put (c .before .before .before .before .before .before .before .before .before .before .before .args .w .nodes) (c .before .before .before .before .before .before .before .before .before .before .before .args .nodes .now) (c .before .before .before .before .before .before .before .before .before .before .before .args .w .operations) (c .before .before .before .before .before .before .before .before .before .before .before .args .operations .now) (rotateWords (getD (c .before .before .before .before .before .before .before .before .before .before .before .args .frame .now) (c .before .before .before .before .before .before .before .before .before .before .before .args .n + c .before .before .before .before .before .before .before .before .before .before .before .args .a) 0) 7) _ _ _ _ (c .before .before .before .put-rotation2 .ensures) (c .made2 .ensures))
-
-returns-8 : tie.Need-returns-8
-unfolding putRecord
-returns-8 c = rw (c .enum-told8 .given .1) refl
-
-returns-9 : tie.Need-returns-9
-unfolding putRecord
-returns-9 c = rw (c .enum-told9 .given .1) refl
+returns-2 c = rw (c .before .before .before .before .before .before .enum-told2 .given .1) (op-put (c .before .before .before .before .before .before .before .before .before .before .before .args .w .nodes) (c .before .before .before .before .before .before .before .before .before .before .before .args .nodes .now) (c .before .before .before .before .before .before .before .before .before .before .before .args .w .operations) (c .before .before .before .before .before .before .before .before .before .before .before .args .operations .now) (rotateWords (getD (c .before .before .before .before .before .before .before .before .before .before .before .args .frame .now) (c .before .before .before .before .before .before .before .before .before .before .before .args .n + c .before .before .before .before .before .before .before .before .before .before .before .args .a) 0) 7) _ _ _ _ (c .before .before .before .put-rotation2 .ensures) (c .made2 .ensures))
 
 same-length-3 : tie.Need-same-length-3
 same-length-3 c = search needs
@@ -286,9 +222,9 @@ same-length-3 c = search needs
 same-length-4 : tie.Need-same-length-4
 same-length-4 c = search needs
 
-returns-10 : tie.Need-returns-10
+returns-3 : tie.Need-returns-3
 unfolding putRecord
-returns-10 c = rw (c .before .before .before .before .before .before .before .before .before .before .enum-told10 .given .1) (c .before .before .before .before .put-seven .ensures)
+returns-3 c = rw (c .before .before .before .before .before .before .before .before .before .before .enum-told3 .given .1) (c .before .before .before .before .put-seven .ensures)
 
 same-length-5 : tie.Need-same-length-5
 same-length-5 c = search needs
@@ -296,61 +232,37 @@ same-length-5 c = search needs
 same-length-6 : tie.Need-same-length-6
 same-length-6 c = search needs
 
-returns-11 : tie.Need-returns-11
+returns-4 : tie.Need-returns-4
 unfolding putRecord
-returns-11 c = rw (c .before .before .before .before .before .before .before .before .before .before .enum-told11 .given .1) (c .before .before .before .before .put-seven2 .ensures)
+returns-4 c = rw (c .before .before .before .before .before .before .before .before .before .before .enum-told4 .given .1) (c .before .before .before .before .put-seven2 .ensures)
 
 same-length-7 : tie.Need-same-length-7
 same-length-7 c = search needs
 
-returns-12 : tie.Need-returns-12
+returns-5 : tie.Need-returns-5
 unfolding putRecord
-returns-12 c = rw (c .before .before .before .before .before .before .enum-told12 .given .1) (op-put (c .before .before .before .before .before .before .before .before .before .before .before .args .w .nodes) (c .before .before .before .before .before .before .before .before .before .before .before .args .nodes .now) (c .before .before .before .before .before .before .before .before .before .before .before .args .w .operations) (c .before .before .before .before .before .before .before .before .before .before .before .args .operations .now) (measureWords (getD (c .before .before .before .before .before .before .before .before .before .before .before .args .frame .now) (c .before .before .before .before .before .before .before .before .before .before .before .args .n + c .before .before .before .before .before .before .before .before .before .before .before .args .a) 0) (c .before .before .before .before .before .before .before .before .before .before .before .args .given) (Bit (c .before .before .before .before .before .before .before .before .before .before .before .args .b))) _ _ _ _ (c .before .before .before .put-operation .ensures) (c .made3 .ensures))
+returns-5 c = rw (c .before .before .before .before .before .before .enum-told5 .given .1) (op-put (c .before .before .before .before .before .before .before .before .before .before .before .args .w .nodes) (c .before .before .before .before .before .before .before .before .before .before .before .args .nodes .now) (c .before .before .before .before .before .before .before .before .before .before .before .args .w .operations) (c .before .before .before .before .before .before .before .before .before .before .before .args .operations .now) (measureWords (getD (c .before .before .before .before .before .before .before .before .before .before .before .args .frame .now) (c .before .before .before .before .before .before .before .before .before .before .before .args .n + c .before .before .before .before .before .before .before .before .before .before .before .args .a) 0) (c .before .before .before .before .before .before .before .before .before .before .before .args .given) (Bit (c .before .before .before .before .before .before .before .before .before .before .before .args .b))) _ _ _ _ (c .before .before .before .put-operation .ensures) (c .made3 .ensures))
 
-returns-13 : tie.Need-returns-13
-unfolding putRecord
-returns-13 c = rw (c .enum-told13 .given .1) refl
-
-returns-14 : tie.Need-returns-14
-unfolding putRecord
-returns-14 c = rw (c .enum-told14 .given .1) refl
-
-returns-15 : tie.Need-returns-15
-unfolding putRecord
-returns-15 c = rw (c .enum-told15 .given .1) refl
-
-returns-16 : tie.Need-returns-16
-unfolding putRecord
-returns-16 c = rw (c .enum-told16 .given .1) refl
-
-returns-17 : tie.Need-returns-17
-unfolding putRecord
-returns-17 c = rw (c .enum-told17 .given .1) refl
+returns-6 : tie.Need-returns-6
+returns-6 c = no-record _ _ _ _ _ _ _ _ (c .match .keys6)
 
 pub write-record-spec : {M : Type 1} → statement M
 write-record-spec =
     tie.close
     (tie.spec
     enum-told
-    enum-told-2
-    enum-told-3
-    enum-told-4
-    enum-told-5
-    enum-told-6
     add-put-rotation
     mul-put-rotation
     shared-slice-read-put-rotation
     put-rotation-requires
     made-requires
-    enum-told-7
+    enum-told-2
     add-put-rotation-2
     mul-put-rotation-2
     shared-slice-read-put-rotation-2
     put-rotation-requires-2
     made-requires-2
-    enum-told-8
-    enum-told-9
-    enum-told-10
+    enum-told-3
     add-put-seven
     mul-put-seven
     shared-slice-read-put-seven
@@ -360,7 +272,7 @@ write-record-spec =
     mul-put-seven-3
     shared-slice-read-put-seven-3
     put-seven-requires
-    enum-told-11
+    enum-told-4
     add-put-seven-3
     mul-put-seven-4
     shared-slice-read-put-seven-4
@@ -371,7 +283,7 @@ write-record-spec =
     mul-put-seven-6
     shared-slice-read-put-seven-6
     put-seven-requires-2
-    enum-told-12
+    enum-told-5
     add-put-operation
     mul-put-operation
     shared-slice-read-put-operation
@@ -379,32 +291,16 @@ write-record-spec =
     add-put-operation-2
     put-operation-requires
     made-requires-3
-    enum-told-13
-    enum-told-14
-    enum-told-15
-    enum-told-16
-    enum-told-17
-    returns
-    returns-2
-    returns-3
-    returns-4
-    returns-5
     same-length
-    returns-6
+    returns
     same-length-2
-    returns-7
-    returns-8
-    returns-9
+    returns-2
     same-length-3
     same-length-4
-    returns-10
+    returns-3
     same-length-5
     same-length-6
-    returns-11
+    returns-4
     same-length-7
-    returns-12
-    returns-13
-    returns-14
-    returns-15
-    returns-16
-    returns-17)
+    returns-5
+    returns-6)
