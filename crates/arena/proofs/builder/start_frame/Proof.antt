@@ -28,8 +28,14 @@ same-length : tie.Need-same-length
 same-length c = search needs
 
 returns : tie.Need-returns
-returns c = overlay-rest (imageWords 1 (c .before .before .before .before .before .before .before .before .before .args .qubits)) (imageWords 2 (c .before .before .before .before .before .before .before .before .before .args .qubits)) (c .before .before .before .before .before .before .before .before .before .args .frame .now) (c .before .before .before .before .before .before .image-words .last .0) (c .before .before .image-words2 .last .0) (c .before .before .before .before .before .before .before .before .before .args .qubits) (length-imageWords 1 (c .before .before .before .before .before .before .before .before .before .args .qubits))
-    (omega (arith, c .before .before .before .before .before .before .image-words .kept, c .before .before .before .before .before .before .before .before .before .pre)) (c .before .before .before .before .before .before .image-words .ensures) (c .before .before .image-words2 .ensures)
+returns c =
+    let image-words2 = c .before .before .image-words2 in
+    let image-words = c .before .before .before .before .before .before .image-words in
+    let args = c .before .before .before .before .before .before .before .before .before .args in
+    let pre = c .before .before .before .before .before .before .before .before .before .pre in
+    overlay-rest (imageWords 1 (args .qubits)) (imageWords 2 (args .qubits)) (args .frame .now) (image-words .last .0) (image-words2 .last .0)
+    (args .qubits) (length-imageWords 1 (args .qubits))
+    (omega (arith, image-words .kept, pre)) (image-words .ensures) (image-words2 .ensures)
 
 pub start-frame-spec : {M : Type 1} → statement M
 start-frame-spec =

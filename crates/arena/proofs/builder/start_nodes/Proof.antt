@@ -27,8 +27,17 @@ same-length : tie.Need-same-length
 same-length c = search needs
 
 returns : tie.Need-returns
-returns c = overlay-rest (0 ∷ 0 ∷ []) (qubitNodes (c .before .before .before .before .before .before .before .before .before .args .qubits)) (c .before .before .before .before .before .before .before .before .before .args .nodes .now) (c .before .before .before .before .before .before .put-node .last .0) (c .before .before .qubit-nodes .last .0) 2 refl (omega (arith, c .before .before .before .before .before .before .put-node .kept, c .before .before .before .before .before .before .before .before .before .pre))
-    (c .before .before .before .before .before .before .put-node .ensures ∙ overlay-sets [] (0 ∷ 0 ∷ []) (c .before .before .before .before .before .before .before .before .before .args .nodes .now) 0 refl (omega (arith, c .before .before .before .before .before .before .before .before .before .pre))) (c .before .before .qubit-nodes .ensures)
+returns c =
+    let qubit-nodes = c .before .before .qubit-nodes in
+    let put-node = c .before .before .before .before .before .before .put-node in
+    let args = c .before .before .before .before .before .before .before .before .before .args in
+    let pre = c .before .before .before .before .before .before .before .before .before .pre in
+    overlay-rest (0 ∷ 0 ∷ []) (qubitNodes (args .qubits)) (args .nodes .now) (put-node .last .0) (qubit-nodes .last .0) 2 refl (omega (
+      arith,
+      put-node .kept,
+      pre,
+    ))
+    (put-node .ensures ∙ overlay-sets [] (0 ∷ 0 ∷ []) (args .nodes .now) 0 refl (omega (arith, pre))) (qubit-nodes .ensures)
 
 pub start-nodes-spec : {M : Type 1} → statement M
 start-nodes-spec =

@@ -36,9 +36,14 @@ refuse-if-requires-3 c κs = search needs
 returns : tie.Need-returns
 unfolding expandCheck
 returns c =
-    let r1 = c .before .before .before .before .before .refuse-if .ensures ∙ ap (λ b. Fine ⟫ b ⇒ BadStore) (c .before .before .before .before .before .before .bad-nodes .ensures) in
-    let r2 = c .before .before .before .refuse-if2 .ensures ∙ ap₂ (λ k b. k ⟫ b ⇒ ForeignPauli) r1 (c .before .before .before .before .is-foreign .ensures) in
-    c .refuse-if3 .ensures ∙ ap (λ k. k ⟫ ltb (c .before .before .before .before .before .before .before .before .args .scratch) (4 * c .before .before .before .before .before .before .before .before .args .header .nodes) || ltb (c .before .before .before .before .before .before .before .before .args .letters) (c .before .before .before .before .before .before .before .before .args .header .qubits) ⇒ NoScratch) r2
+    let refuse-if2 = c .before .before .before .refuse-if2 in
+    let is-foreign = c .before .before .before .before .is-foreign in
+    let refuse-if = c .before .before .before .before .before .refuse-if in
+    let bad-nodes = c .before .before .before .before .before .before .bad-nodes in
+    let args = c .before .before .before .before .before .before .before .before .args in
+    let r1 = refuse-if .ensures ∙ ap (λ b. Fine ⟫ b ⇒ BadStore) (bad-nodes .ensures) in
+    let r2 = refuse-if2 .ensures ∙ ap₂ (λ k b. k ⟫ b ⇒ ForeignPauli) r1 (is-foreign .ensures) in
+    c .refuse-if3 .ensures ∙ ap (λ k. k ⟫ ltb (args .scratch) (4 * args .header .nodes) || ltb (args .letters) (args .header .qubits) ⇒ NoScratch) r2
 
 pub check-expand-spec : {M : Type 1} → statement M
 check-expand-spec =

@@ -44,7 +44,13 @@ link-of-requires : tie.Need-link-of-requires
 link-of-requires c κs = words-room (c .before .before .before .before .before .before .before .before .before .pre .top)
 
 combine-at-requires : tie.Need-combine-at-requires
-combine-at-requires c κs = combining (c .before .before .before .before .before .before .before .before .before .before .before .before .pre) (c .before .before .before .before .before .before .before .before .value-of .ensures) (c .before .before .before .before .before .before .before .if1 .left) (c .before .before .before .before .before .value-of2 .ensures) (c .before .before .before .before .if2 .left)
+combine-at-requires c κs =
+    let if2 = c .before .before .before .before .if2 in
+    let value-of2 = c .before .before .before .before .before .value-of2 in
+    let if1 = c .before .before .before .before .before .before .before .if1 in
+    let value-of = c .before .before .before .before .before .before .before .before .value-of in
+    let pre = c .before .before .before .before .before .before .before .before .before .before .before .before .pre in
+    combining pre (value-of .ensures) (if1 .left) (value-of2 .ensures) (if2 .left)
 
 same-length-3 : tie.Need-same-length-3
 same-length-3 c = c .before .before .before .before .combine-at .kept .0
@@ -53,7 +59,15 @@ same-length-4 : tie.Need-same-length-4
 same-length-4 c = c .before .before .before .before .combine-at .kept .1 .0
 
 returns-3 : tie.Need-returns-3
-returns-3 c = λ g. combined-step g (c .before .before .before .before .before .before .before .before .before .before .before .before .before .value-of .ensures) (c .before .before .before .before .before .before .before .before .before .before .before .before .if1 .left) (c .before .before .before .before .before .before .before .before .before .before .value-of2 .ensures) (c .before .before .before .before .before .before .before .before .before .if2 .left) (c .before .before .before .before .before .before .before .link-of .ensures) (c .before .before .before .before .combine-at .ensures .1) (c .before .before .before .before .combine-at .ensures .0 (combining g (c .before .before .before .before .before .before .before .before .before .before .before .before .before .value-of .ensures) (c .before .before .before .before .before .before .before .before .before .before .before .before .if1 .left) (c .before .before .before .before .before .before .before .before .before .before .value-of2 .ensures) (c .before .before .before .before .before .before .before .before .before .if2 .left)))
+returns-3 c =
+    let combine-at = c .before .before .before .before .combine-at in
+    let link-of = c .before .before .before .before .before .before .before .link-of in
+    let if2 = c .before .before .before .before .before .before .before .before .before .if2 in
+    let value-of2 = c .before .before .before .before .before .before .before .before .before .before .value-of2 in
+    let if1 = c .before .before .before .before .before .before .before .before .before .before .before .before .if1 in
+    let value-of = c .before .before .before .before .before .before .before .before .before .before .before .before .before .value-of in
+    λ g. combined-step g (value-of .ensures) (if1 .left) (value-of2 .ensures) (if2 .left) (link-of .ensures) (combine-at .ensures .1)
+    (combine-at .ensures .0 (combining g (value-of .ensures) (if1 .left) (value-of2 .ensures) (if2 .left)))
 
 pub product-step-spec : {M : Type 1} → statement M
 product-step-spec =

@@ -35,16 +35,35 @@ same-length-2 : tie.Need-same-length-2 Inv-loop μ-loop
 same-length-2 c = c .before .before .before .before .before .before .step-at .kept .1 .1 .0 ∙ c .before .before .before .before .before .before .before .before .before .before .loop .inv (c .before .before .before .before .before .before .before .before .before .before .before .before .before .before .pre) .pool-long
 
 returns : tie.Need-returns Inv-loop μ-loop
-returns c = λ g. going-refused g (c .before .before .before .before .before .before .before .before .before .before .loop .inv g) (c .before .before .before .before .before .before .before .before .before .loop-test .taken) (c .before .before .before .before .before .before .step-at .ensures (topped g (c .before .before .before .before .before .before .before .before .before .before .loop .inv g) (c .before .before .before .before .before .before .before .before .before .loop-test .taken))) _ (c .not-evaluated .ensures) (c .before .if1 .taken)
+returns c =
+    let if1 = c .before .if1 in
+    let step-at = c .before .before .before .before .before .before .step-at in
+    let loop-test = c .before .before .before .before .before .before .before .before .before .loop-test in
+    let the-loop = c .before .before .before .before .before .before .before .before .before .before .loop in
+    λ g. going-refused g (the-loop .inv g) (loop-test .taken) (step-at .ensures (topped g (the-loop .inv g) (loop-test .taken))) _
+    (c .not-evaluated .ensures) (if1 .taken)
 
 sub-budget : tie.Need-sub-budget Inv-loop μ-loop
-sub-budget c = some-left (c .before .before .before .before .before .before .before .before .before .before .before .before .before .pre) (c .before .before .before .before .before .before .before .before .before .loop .inv (c .before .before .before .before .before .before .before .before .before .before .before .before .before .pre)) (c .before .before .before .before .before .before .before .before .loop-test .taken)
+sub-budget c =
+    let loop-test = c .before .before .before .before .before .before .before .before .loop-test in
+    let the-loop = c .before .before .before .before .before .before .before .before .before .loop in
+    let pre = c .before .before .before .before .before .before .before .before .before .before .before .before .before .pre in
+    some-left pre (the-loop .inv pre) (loop-test .taken)
 
 loop-less : tie.Need-loop-less Inv-loop μ-loop
-loop-less c = omega (arith, some-left (c .before .before .before .before .before .before .before .before .before .before .before .before .before .pre) (c .before .before .before .before .before .before .before .before .before .loop .inv (c .before .before .before .before .before .before .before .before .before .before .before .before .before .pre)) (c .before .before .before .before .before .before .before .before .loop-test .taken))
+loop-less c =
+    let loop-test = c .before .before .before .before .before .before .before .before .loop-test in
+    let the-loop = c .before .before .before .before .before .before .before .before .before .loop in
+    let pre = c .before .before .before .before .before .before .before .before .before .before .before .before .before .pre in
+    omega (arith, some-left pre (the-loop .inv pre) (loop-test .taken))
 
 loop-again : tie.Need-loop-again Inv-loop μ-loop
-loop-again c = λ g. going-on g (c .before .before .before .before .before .before .before .before .before .loop .inv g) (c .before .before .before .before .before .before .before .before .loop-test .taken) (c .before .before .before .before .before .step-at .ensures (topped g (c .before .before .before .before .before .before .before .before .before .loop .inv g) (c .before .before .before .before .before .before .before .before .loop-test .taken))) (c .if1 .left) (c .before .before .before .before .before .step-at .kept .1 .0) (c .before .before .before .before .before .step-at .kept .1 .1 .0)
+loop-again c =
+    let step-at = c .before .before .before .before .before .step-at in
+    let loop-test = c .before .before .before .before .before .before .before .before .loop-test in
+    let the-loop = c .before .before .before .before .before .before .before .before .before .loop in
+    λ g. going-on g (the-loop .inv g) (loop-test .taken) (step-at .ensures (topped g (the-loop .inv g) (loop-test .taken))) (c .if1 .left)
+    (step-at .kept .1 .0) (step-at .kept .1 .1 .0)
 
 same-length-3 : tie.Need-same-length-3 Inv-loop μ-loop
 same-length-3 c = c .before .loop .inv (c .before .before .before .before .before .pre) .long

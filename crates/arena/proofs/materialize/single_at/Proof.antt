@@ -35,12 +35,17 @@ same-length-2 : tie.Need-same-length-2
 same-length-2 c = search needs
 
 returns-2 : tie.Need-returns-2
-returns-2 c = (
-  λ g. record {
-    says = single-made g (c .before .before .before .before .before .before .before .before .before .before .before .args .qubit) (pauliOf (c .before .before .before .before .before .before .before .before .before .before .before .args .letter)) (c .before .before .before .before .before .before .before .before .if1 .left) (c .before .before .before .before .before .before .single .ensures (lender g (c .before .before .before .before .before .before .before .before .before .before .before .args .qubit) (pauliOf (c .before .before .before .before .before .before .before .before .before .before .before .args .letter)) (c .before .before .before .before .before .before .before .before .if1 .left))) (c .before .before .set-value .ensures);
-  },
-  links-value _ _ (c .before .before .set-value .ensures),
-)
+returns-2 c =
+    let set-value = c .before .before .set-value in
+    let single = c .before .before .before .before .before .before .single in
+    let if1 = c .before .before .before .before .before .before .before .before .if1 in
+    let args = c .before .before .before .before .before .before .before .before .before .before .before .args in (
+      λ g. record {
+        says = single-made g (args .qubit) (pauliOf (args .letter)) (if1 .left) (single .ensures (lender g (args .qubit) (pauliOf (args .letter))
+            (if1 .left))) (set-value .ensures);
+      },
+      links-value _ _ (set-value .ensures),
+    )
 
 pub single-at-spec : {M : Type 1} → statement M
 single-at-spec =

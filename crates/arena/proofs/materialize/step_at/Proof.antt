@@ -22,11 +22,19 @@ wide-requires-2 : tie.Need-wide-requires-2
 wide-requires-2 c κs = search needs
 
 product-step-requires : tie.Need-product-step-requires
-product-step-requires c κs = record {
-  words = c .before .before .before .before .before .before .before .before .before .before .args .nodes .now;
-  top = c .before .before .before .before .before .before .before .before .before .before .pre;
-  is-product = node-product (c .before .before .before .before .before .before .before .before .before .before .pre .at .n) (c .before .before .before .before .before .before .before .before .before .before .args .nodes .now) (c .before .before .before .before .before .before .before .before .before .before .args .i) (c .before .before .before .before .before .before .before .before .before .before .pre .at .well (c .before .before .before .before .before .before .before .before .before .before .args .i) (low (c .before .before .before .before .before .before .before .before .before .before .pre))) (c .before .before .before .before .before .before .first-word .ensures) (c .before .before .before .before .before .second-word .ensures) (c .before .before .before .before .if1 .taken) ∙ sym (ap₂ Product (c .before .wide .ensures) (c .wide2 .ensures));
-}
+product-step-requires c κs =
+    let wide = c .before .wide in
+    let if1 = c .before .before .before .before .if1 in
+    let second-word = c .before .before .before .before .before .second-word in
+    let first-word = c .before .before .before .before .before .before .first-word in
+    let args = c .before .before .before .before .before .before .before .before .before .before .args in
+    let pre = c .before .before .before .before .before .before .before .before .before .before .pre in
+    record {
+      words = args .nodes .now;
+      top = pre;
+      is-product = node-product (pre .at .n) (args .nodes .now) (args .i) (pre .at .well (args .i) (low pre)) (first-word .ensures) (second-word .ensures)
+          (if1 .taken) ∙ sym (ap₂ Product (wide .ensures) (c .wide2 .ensures));
+    }
 
 same-length : tie.Need-same-length
 same-length c = c .before .before .before .before .product-step .kept .0
@@ -35,17 +43,34 @@ same-length-2 : tie.Need-same-length-2
 same-length-2 c = c .before .before .before .before .product-step .kept .1 .0
 
 returns : tie.Need-returns
-returns c = λ g. c .before .before .before .before .product-step .ensures (record {
-  words = c .before .before .before .before .before .before .before .before .before .before .before .before .before .before .before .args .nodes .now;
-  top = g;
-  is-product = node-product (g .at .n) (c .before .before .before .before .before .before .before .before .before .before .before .before .before .before .before .args .nodes .now) (c .before .before .before .before .before .before .before .before .before .before .before .before .before .before .before .args .i) (g .at .well (c .before .before .before .before .before .before .before .before .before .before .before .before .before .before .before .args .i) (low (g))) (c .before .before .before .before .before .before .before .before .before .before .before .first-word .ensures) (c .before .before .before .before .before .before .before .before .before .before .second-word .ensures) (c .before .before .before .before .before .before .before .before .before .if1 .taken) ∙ sym (ap₂ Product (c .before .before .before .before .before .before .wide .ensures) (c .before .before .before .before .before .wide2 .ensures));
-})
+returns c =
+    let product-step = c .before .before .before .before .product-step in
+    let wide2 = c .before .before .before .before .before .wide2 in
+    let wide = c .before .before .before .before .before .before .wide in
+    let if1 = c .before .before .before .before .before .before .before .before .before .if1 in
+    let second-word = c .before .before .before .before .before .before .before .before .before .before .second-word in
+    let first-word = c .before .before .before .before .before .before .before .before .before .before .before .first-word in
+    let back12 = c .before .before .before .before .before .before .before .before .before .before .before .before in
+    let args = back12 .before .before .before .args in
+    λ g. product-step .ensures (record {
+      words = args .nodes .now;
+      top = g;
+      is-product = node-product (g .at .n) (args .nodes .now) (args .i) (g .at .well (args .i) (low (g))) (first-word .ensures) (second-word .ensures)
+          (if1 .taken) ∙ sym (ap₂ Product (wide .ensures) (wide2 .ensures));
+    })
 
 link-of-requires : tie.Need-link-of-requires
 link-of-requires c κs = words-room (c .before .before .before .before .before .before .before .pre)
 
 single-at-requires : tie.Need-single-at-requires
-single-at-requires c κs = let e = node-single (c .before .before .before .before .before .before .before .before .before .before .before .pre .at .n) (c .before .before .before .before .before .before .before .before .before .before .before .args .nodes .now) (c .before .before .before .before .before .before .before .before .before .before .before .args .i) (c .before .before .before .before .before .before .before .before .before .before .before .pre .at .well (c .before .before .before .before .before .before .before .before .before .before .before .args .i) (low (c .before .before .before .before .before .before .before .before .before .before .before .pre))) (c .before .before .before .before .before .before .before .first-word .ensures) (c .before .before .before .before .before .before .second-word .ensures) (c .before .before .if2 .taken) in (making (c .before .before .before .before .before .before .before .before .before .before .before .pre), (e .1, e .2))
+single-at-requires c κs =
+    let if2 = c .before .before .if2 in
+    let second-word = c .before .before .before .before .before .before .second-word in
+    let first-word = c .before .before .before .before .before .before .before .first-word in
+    let pre = c .before .before .before .before .before .before .before .before .before .before .before .pre in
+    let args = c .before .before .before .before .before .before .before .before .before .before .before .args in
+    let e = node-single (pre .at .n) (args .nodes .now) (args .i) (pre .at .well (args .i) (low pre)) (first-word .ensures) (second-word .ensures)
+    (if2 .taken) in (making pre, (e .1, e .2))
 
 same-length-3 : tie.Need-same-length-3
 same-length-3 c = c .before .before .before .before .single-at .kept .0
@@ -54,8 +79,17 @@ same-length-4 : tie.Need-same-length-4
 same-length-4 c = c .before .before .before .before .single-at .kept .1 .0
 
 returns-2 : tie.Need-returns-2
-returns-2 c = λ g. single-step g (c .before .before .before .before .before .before .before .before .before .before .before .second-word .result) (c .before .before .before .before .before .before .before .before .before .before .before .before .first-word .result / 4) (node-single (g .at .n) (c .before .before .before .before .before .before .before .before .before .before .before .before .before .before .before .before .args .nodes .now) (c .before .before .before .before .before .before .before .before .before .before .before .before .before .before .before .before .args .i) (g .at .well (c .before .before .before .before .before .before .before .before .before .before .before .before .before .before .before .before .args .i) (low (g))) (c .before .before .before .before .before .before .before .before .before .before .before .before .first-word .ensures) (c .before .before .before .before .before .before .before .before .before .before .before .second-word .ensures) (c .before .before .before .before .before .before .before .if2 .taken) .0) (c .before .before .before .before .before .before .before .before .link-of .ensures) (c .before .before .before .before .single-at .ensures .1)
-    (c .before .before .before .before .single-at .ensures .0 (making g))
+returns-2 c =
+    let single-at = c .before .before .before .before .single-at in
+    let if2 = c .before .before .before .before .before .before .before .if2 in
+    let link-of = c .before .before .before .before .before .before .before .before .link-of in
+    let second-word = c .before .before .before .before .before .before .before .before .before .before .before .second-word in
+    let first-word = c .before .before .before .before .before .before .before .before .before .before .before .before .first-word in
+    let back12 = c .before .before .before .before .before .before .before .before .before .before .before .before in
+    let args = back12 .before .before .before .before .args in
+    λ g. single-step g (second-word .result) (first-word .result / 4) (node-single (g .at .n) (args .nodes .now) (args .i) (g .at .well (args .i) (low
+    (g))) (first-word .ensures) (second-word .ensures) (if2 .taken) .0) (link-of .ensures) (single-at .ensures .1)
+    (single-at .ensures .0 (making g))
 
 set-value-requires : tie.Need-set-value-requires
 set-value-requires c κs = (omega arith, omega arith, omega arith, omega (arith, words-room (c .before .before .before .before .before .before .before .before .before .before .pre)))
@@ -64,7 +98,16 @@ same-length-5 : tie.Need-same-length-5
 same-length-5 c = c .before .before .set-value .kept .0
 
 returns-3 : tie.Need-returns-3
-returns-3 c = λ g. blank-step g (node-blank (g .at .n) (c .before .before .before .before .before .before .before .before .before .before .before .before .before .args .nodes .now) (c .before .before .before .before .before .before .before .before .before .before .before .before .before .args .i) (g .at .well (c .before .before .before .before .before .before .before .before .before .before .before .before .before .args .i) (low (g))) (c .before .before .before .before .before .before .before .before .before .first-word .ensures) (c .before .before .before .before .before .before .before .before .second-word .ensures) (c .before .before .before .before .before .before .before .if1 .left) (c .before .before .before .before .if2 .left)) (c .before .before .before .before .before .link-of .ensures) (links-value _ _ (c .before .before .set-value .ensures)) (c .before .before .set-value .ensures)
+returns-3 c =
+    let set-value = c .before .before .set-value in
+    let if2 = c .before .before .before .before .if2 in
+    let link-of = c .before .before .before .before .before .link-of in
+    let if1 = c .before .before .before .before .before .before .before .if1 in
+    let second-word = c .before .before .before .before .before .before .before .before .second-word in
+    let first-word = c .before .before .before .before .before .before .before .before .before .first-word in
+    let args = c .before .before .before .before .before .before .before .before .before .before .before .before .before .args in
+    λ g. blank-step g (node-blank (g .at .n) (args .nodes .now) (args .i) (g .at .well (args .i) (low (g))) (first-word .ensures) (second-word .ensures)
+    (if1 .left) (if2 .left)) (link-of .ensures) (links-value _ _ (set-value .ensures)) (set-value .ensures)
 
 pub step-at-spec : {M : Type 1} → statement M
 step-at-spec =

@@ -35,7 +35,19 @@ same-length : tie.Need-same-length
 same-length c = search needs
 
 returns : tie.Need-returns
-returns c = (λ g. record { says = took-move g (c .before .before .before .before .before .before .before .before .before .before .use-of .ensures) (c .before .before .before .before .before .before .before .before .value-of .ensures) (c .before .before .before .before .before .before .before .head-in .ensures) (c .before .before .before .before .before .before .count-in .ensures) (c .before .before .before .before .before .phase-in .ensures) refl (c .if1 .taken) (c .before .before .before .set-use .ensures) }, links-use _ _ (c .before .before .before .set-use .ensures))
+returns c =
+    let set-use = c .before .before .before .set-use in
+    let phase-in = c .before .before .before .before .before .phase-in in
+    let count-in = c .before .before .before .before .before .before .count-in in
+    let head-in = c .before .before .before .before .before .before .before .head-in in
+    let value-of = c .before .before .before .before .before .before .before .before .value-of in
+    let use-of = c .before .before .before .before .before .before .before .before .before .before .use-of in (
+      λ g. record {
+        says = took-move g (use-of .ensures) (value-of .ensures) (head-in .ensures) (count-in .ensures) (phase-in .ensures) refl
+            (c .if1 .taken) (set-use .ensures);
+      },
+      links-use _ _ (set-use .ensures),
+    )
 
 sub-if2 : tie.Need-sub-if2
 sub-if2 c = search needs
@@ -47,7 +59,21 @@ same-length-2 : tie.Need-same-length-2
 same-length-2 c = search needs
 
 returns-2 : tie.Need-returns-2
-returns-2 c = (λ g. record { says = took-17 g (c .before .before .before .before .before .before .before .before .before .before .before .before .use-of .ensures) (c .before .before .before .before .before .before .before .before .before .before .value-of .ensures) (c .before .before .before .before .before .before .before .before .before .head-in .ensures) (c .before .before .before .before .before .before .before .before .count-in .ensures) (c .before .before .before .before .before .before .before .phase-in .ensures) refl _ (c .not-taken .ensures) (c .before .before .if1 .left) (c .before .if2 .taken) }, links-use _ _ (c .before .before .before .before .before .set-use .ensures))
+returns-2 c =
+    let if2 = c .before .if2 in
+    let if1 = c .before .before .if1 in
+    let set-use = c .before .before .before .before .before .set-use in
+    let phase-in = c .before .before .before .before .before .before .before .phase-in in
+    let count-in = c .before .before .before .before .before .before .before .before .count-in in
+    let head-in = c .before .before .before .before .before .before .before .before .before .head-in in
+    let value-of = c .before .before .before .before .before .before .before .before .before .before .value-of in
+    let use-of = c .before .before .before .before .before .before .before .before .before .before .before .before .use-of in (
+      λ g. record {
+        says = took-17 g (use-of .ensures) (value-of .ensures) (head-in .ensures) (count-in .ensures) (phase-in .ensures) refl _
+            (c .not-taken .ensures) (if1 .left) (if2 .taken);
+      },
+      links-use _ _ (set-use .ensures),
+    )
 
 not-taken-requires-2 : tie.Need-not-taken-requires-2
 not-taken-requires-2 c κs = search needs
@@ -56,10 +82,34 @@ same-length-3 : tie.Need-same-length-3
 same-length-3 c = search needs
 
 returns-3 : tie.Need-returns-3
-returns-3 c = (λ g. record { says = took-18 g (c .before .before .before .before .before .before .before .before .before .before .before .before .before .use-of .ensures) (c .before .before .before .before .before .before .before .before .before .before .before .value-of .ensures) (c .before .before .before .before .before .before .before .before .before .before .head-in .ensures) (c .before .before .before .before .before .before .before .before .before .count-in .ensures) (c .before .before .before .before .before .before .before .before .phase-in .ensures) refl _ (c .not-taken2 .ensures) (c .before .before .before .if1 .left) (c .before .before .if2 .left) (c .before .if3 .taken) }, links-use _ _ (c .before .before .before .before .before .before .set-use .ensures))
+returns-3 c =
+    let if3 = c .before .if3 in
+    let if2 = c .before .before .if2 in
+    let if1 = c .before .before .before .if1 in
+    let set-use = c .before .before .before .before .before .before .set-use in
+    let phase-in = c .before .before .before .before .before .before .before .before .phase-in in
+    let count-in = c .before .before .before .before .before .before .before .before .before .count-in in
+    let head-in = c .before .before .before .before .before .before .before .before .before .before .head-in in
+    let value-of = c .before .before .before .before .before .before .before .before .before .before .before .value-of in
+    let use-of = c .before .before .before .before .before .before .before .before .before .before .before .before .before .use-of in (
+      λ g. record {
+        says = took-18 g (use-of .ensures) (value-of .ensures) (head-in .ensures) (count-in .ensures) (phase-in .ensures) refl _
+            (c .not-taken2 .ensures) (if1 .left) (if2 .left) (if3 .taken);
+      },
+      links-use _ _ (set-use .ensures),
+    )
 
 copy-requires : tie.Need-copy-requires
-copy-requires c κs = source (c .before .before .before .before .before .before .before .before .before .before .before .before .before .before .before .before .before .pre) (c .before .before .before .before .before .before .before .before .before .before .before .before .before .use-of .ensures) (c .before .before .before .before .before .before .before .before .before .before .before .value-of .ensures) (c .before .before .before .before .before .before .before .before .before .before .head-in .ensures) (c .before .before .before .before .before .before .before .before .before .count-in .ensures) (c .before .before .before .before .before .before .before .before .phase-in .ensures) refl (c .before .if3 .left)
+copy-requires c κs =
+    let if3 = c .before .if3 in
+    let phase-in = c .before .before .before .before .before .before .before .before .phase-in in
+    let count-in = c .before .before .before .before .before .before .before .before .before .count-in in
+    let head-in = c .before .before .before .before .before .before .before .before .before .before .head-in in
+    let value-of = c .before .before .before .before .before .before .before .before .before .before .before .value-of in
+    let use-of = c .before .before .before .before .before .before .before .before .before .before .before .before .before .use-of in
+    let back12 = c .before .before .before .before .before .before .before .before .before .before .before .before in
+    let pre = back12 .before .before .before .before .before .pre in
+    source pre (use-of .ensures) (value-of .ensures) (head-in .ensures) (count-in .ensures) (phase-in .ensures) refl (if3 .left)
 
 add-t20 : tie.Need-add-t20
 add-t20 c = search needs
@@ -71,12 +121,25 @@ same-length-5 : tie.Need-same-length-5
 same-length-5 c = search needs
 
 returns-4 : tie.Need-returns-4
-returns-4 c = (
-  λ g. record {
-    says = took-copy g (c .before .before .before .before .before .before .before .before .before .before .before .before .before .before .before .before .use-of .ensures) (c .before .before .before .before .before .before .before .before .before .before .before .before .before .before .value-of .ensures) (c .before .before .before .before .before .before .before .before .before .before .before .before .before .head-in .ensures) (c .before .before .before .before .before .before .before .before .before .before .before .before .count-in .ensures) (c .before .before .before .before .before .before .before .before .before .before .before .phase-in .ensures) refl (c .before .before .before .before .before .before .if1 .left) (c .before .before .before .before .before .if2 .left) (c .before .before .before .before .if3 .left) (c .before .before .before .before .before .before .before .before .before .set-use .ensures) (c .before .before .copy .ensures (source g (c .before .before .before .before .before .before .before .before .before .before .before .before .before .before .before .before .use-of .ensures) (c .before .before .before .before .before .before .before .before .before .before .before .before .before .before .value-of .ensures) (c .before .before .before .before .before .before .before .before .before .before .before .before .before .head-in .ensures) (c .before .before .before .before .before .before .before .before .before .before .before .before .count-in .ensures) (c .before .before .before .before .before .before .before .before .before .before .before .phase-in .ensures) refl (c .before .before .before .before .if3 .left)));
-  },
-  links-use _ _ (c .before .before .before .before .before .before .before .before .before .set-use .ensures),
-)
+returns-4 c =
+    let copy = c .before .before .copy in
+    let if3 = c .before .before .before .before .if3 in
+    let if2 = c .before .before .before .before .before .if2 in
+    let if1 = c .before .before .before .before .before .before .if1 in
+    let set-use = c .before .before .before .before .before .before .before .before .before .set-use in
+    let phase-in = c .before .before .before .before .before .before .before .before .before .before .before .phase-in in
+    let count-in = c .before .before .before .before .before .before .before .before .before .before .before .before .count-in in
+    let head-in = c .before .before .before .before .before .before .before .before .before .before .before .before .before .head-in in
+    let value-of = c .before .before .before .before .before .before .before .before .before .before .before .before .before .before .value-of in
+    let back12 = c .before .before .before .before .before .before .before .before .before .before .before .before in
+    let use-of = back12 .before .before .before .before .use-of in (
+      λ g. record {
+        says = took-copy g (use-of .ensures) (value-of .ensures) (head-in .ensures) (count-in .ensures) (phase-in .ensures) refl (if1 .left) (if2 .left)
+            (if3 .left) (set-use .ensures) (copy .ensures (source g (use-of .ensures) (value-of .ensures) (head-in .ensures) (count-in .ensures)
+            (phase-in .ensures) refl (if3 .left)));
+      },
+      links-use _ _ (set-use .ensures),
+    )
 
 pub take-use-spec : {M : Type 1} → statement M
 take-use-spec =

@@ -38,7 +38,13 @@ link-requires : tie.Need-link-requires Inv-loop μ-loop
 link-requires c κs = let r = here (c .before .before .before .before .before .before .before .before .before .before .before .before .before .before .before) in (r .tail-low, r .free-low, omega (arith, c .before .before .before .set-letter .kept .0, c .before .before .before .before .before .before .before .set-qubit .kept .0))
 
 next-of-requires-2 : tie.Need-next-of-requires-2 Inv-loop μ-loop
-next-of-requires-2 c κs = let r = here (c .before .before .before .before .before .before .before .before .before .before .before .before .before .before .before .before .before .before .before) in (r .a-low, omega (arith, c .before .before .before .link .kept .0, c .before .before .before .before .before .before .before .set-letter .kept .0, c .before .before .before .before .before .before .before .before .before .before .before .set-qubit .kept .0))
+next-of-requires-2 c κs =
+    let link = c .before .before .before .link in
+    let set-letter = c .before .before .before .before .before .before .before .set-letter in
+    let set-qubit = c .before .before .before .before .before .before .before .before .before .before .before .set-qubit in
+    let back12 = c .before .before .before .before .before .before .before .before .before .before .before .before in
+    let state = back12 .before .before .before .before .before .before .before in
+    let r = here state in (r .a-low, omega (arith, link .kept .0, set-letter .kept .0, set-qubit .kept .0))
 
 sub-left : tie.Need-sub-left Inv-loop μ-loop
 sub-left c = omega (arith, c .before .before .before .before .before .before .before .before .before .before .before .before .before .before .before .before .before .before .before .before .loop-test .taken)
@@ -47,9 +53,19 @@ loop-less : tie.Need-loop-less Inv-loop μ-loop
 loop-less c = omega (arith, c .before .before .before .before .before .before .before .before .before .before .before .before .before .before .before .before .before .before .before .before .loop-test .taken)
 
 loop-again : tie.Need-loop-again Inv-loop μ-loop
-loop-again c = λ g.
-    copy-turn g (c .before .before .before .before .before .before .before .before .before .before .before .before .before .before .before .before .before .before .before .before .before .loop .inv g) (c .before .before .before .before .before .before .before .before .before .before .before .before .before .before .before .before .before .before .before .before .loop-test .taken) (c .before .before .before .before .before .before .before .before .before .before .before .before .before .before .before .before .before .before .qubit-of .ensures) (c .before .before .before .before .before .before .before .before .before .before .before .before .before .before .before .before .letter-of .ensures) (c .before .before .before .before .before .before .before .before .before .before .before .before .before .before .next-of .ensures)
-    (c .before .before .before .before .before .before .before .before .before .before .before .before .set-qubit .ensures) (c .before .before .before .before .before .before .before .before .set-letter .ensures) (c .before .before .before .before .link .ensures) (c .next-of2 .ensures)
+loop-again c =
+    let link = c .before .before .before .before .link in
+    let set-letter = c .before .before .before .before .before .before .before .before .set-letter in
+    let set-qubit = c .before .before .before .before .before .before .before .before .before .before .before .before .set-qubit in
+    let next-of = c .before .before .before .before .before .before .before .before .before .before .before .before .before .before .next-of in
+    let back12 = c .before .before .before .before .before .before .before .before .before .before .before .before in
+    let letter-of = back12 .before .before .before .before .letter-of in
+    let qubit-of = back12 .before .before .before .before .before .before .qubit-of in
+    let loop-test = back12 .before .before .before .before .before .before .before .before .loop-test in
+    let the-loop = back12 .before .before .before .before .before .before .before .before .before .loop in
+    λ g.
+    copy-turn g (the-loop .inv g) (loop-test .taken) (qubit-of .ensures) (letter-of .ensures) (next-of .ensures)
+    (set-qubit .ensures) (set-letter .ensures) (link .ensures) (c .next-of2 .ensures)
 
 attach-requires : tie.Need-attach-requires Inv-loop μ-loop
 attach-requires c κs =

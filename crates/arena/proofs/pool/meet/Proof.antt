@@ -29,7 +29,19 @@ same-length : tie.Need-same-length
 same-length c = search needs
 
 returns : tie.Need-returns
-returns c = met-none (c .before .before .before .before .before .before .before .before .before .before .before .before .before .before .before .before .before .before .before .args .pool .now) (c .before .before .before .before .before .before .before .before .before .before .before .before .before .before .before .before .before .before .before .args .free) (c .before .before .before .before .before .before .before .before .before .before .before .before .before .before .before .before .before .before .before .args .tail) (c .before .before .before .before .before .before .before .before .before .before .before .before .before .before .before .before .before .before .before .args .a) (c .before .before .before .before .before .before .before .before .before .before .before .before .before .before .before .before .before .before .before .args .b) (c .before .before .before .before .before .before .before .before .before .before .before .before .before .before .before .before .next-of .ensures) (c .before .before .before .before .before .before .before .before .before .before .before .before .before .before .next-of2 .ensures) (c .before .before .before .before .before .before .before .before .before .before .before .before .letter-of .ensures) (c .before .before .before .before .before .before .before .before .before .before .letter-of2 .ensures) (c .before .before .before .before .before .before .before .before .before .times-numbers .ensures) (c .before .before .before .before .before .before .before .before .if1 .taken) (c .before .before .before .before .before .before .link .ensures) (c .before .before .link2 .ensures)
+returns c =
+    let link2 = c .before .before .link2 in
+    let link = c .before .before .before .before .before .before .link in
+    let if1 = c .before .before .before .before .before .before .before .before .if1 in
+    let times-numbers = c .before .before .before .before .before .before .before .before .before .times-numbers in
+    let letter-of2 = c .before .before .before .before .before .before .before .before .before .before .letter-of2 in
+    let letter-of = c .before .before .before .before .before .before .before .before .before .before .before .before .letter-of in
+    let next-of2 = c .before .before .before .before .before .before .before .before .before .before .before .before .before .before .next-of2 in
+    let back12 = c .before .before .before .before .before .before .before .before .before .before .before .before in
+    let next-of = back12 .before .before .before .before .next-of in
+    let args = back12 .before .before .before .before .before .before .before .args in
+    met-none (args .pool .now) (args .free) (args .tail) (args .a) (args .b) (next-of .ensures) (next-of2 .ensures) (letter-of .ensures)
+    (letter-of2 .ensures) (times-numbers .ensures) (if1 .taken) (link .ensures) (link2 .ensures)
 
 set-letter-requires : tie.Need-set-letter-requires
 set-letter-requires c κs = search needs
@@ -47,7 +59,20 @@ same-length-2 : tie.Need-same-length-2
 same-length-2 c = search needs
 
 returns-2 : tie.Need-returns-2
-returns-2 c = met-some (c .before .before .before .before .before .before .before .before .before .before .before .before .before .before .before .before .before .before .before .before .before .before .before .before .args .pool .now) (c .before .before .before .before .before .before .before .before .before .before .before .before .before .before .before .before .before .before .before .before .before .before .before .before .args .free) (c .before .before .before .before .before .before .before .before .before .before .before .before .before .before .before .before .before .before .before .before .before .before .before .before .args .tail) (c .before .before .before .before .before .before .before .before .before .before .before .before .before .before .before .before .before .before .before .before .before .before .before .before .args .a) (c .before .before .before .before .before .before .before .before .before .before .before .before .before .before .before .before .before .before .before .before .before .before .before .before .args .b) (c .before .before .before .before .before .before .before .before .before .before .before .before .before .before .before .before .before .before .before .before .before .next-of .ensures) (c .before .before .before .before .before .before .before .before .before .before .before .before .before .before .before .before .before .before .before .next-of2 .ensures) (c .before .before .before .before .before .before .before .before .before .before .before .before .before .before .before .before .before .letter-of .ensures) (c .before .before .before .before .before .before .before .before .before .before .before .before .before .before .before .letter-of2 .ensures) (c .before .before .before .before .before .before .before .before .before .before .before .before .before .before .times-numbers .ensures) (c .before .before .before .before .before .before .before .before .before .before .before .before .before .if1 .left) (c .before .before .before .before .before .before .before .before .before .before .before .set-letter .ensures) (c .before .before .before .before .before .before .before .link3 .ensures) (c .before .before .before .link4 .ensures) (c .wide .ensures)
+returns-2 c =
+    let link4 = c .before .before .before .link4 in
+    let link3 = c .before .before .before .before .before .before .before .link3 in
+    let set-letter = c .before .before .before .before .before .before .before .before .before .before .before .set-letter in
+    let if1 = c .before .before .before .before .before .before .before .before .before .before .before .before .before .if1 in
+    let times-numbers = c .before .before .before .before .before .before .before .before .before .before .before .before .before .before .times-numbers in
+    let back12 = c .before .before .before .before .before .before .before .before .before .before .before .before in
+    let letter-of2 = back12 .before .before .before .letter-of2 in
+    let letter-of = back12 .before .before .before .before .before .letter-of in
+    let next-of2 = back12 .before .before .before .before .before .before .before .next-of2 in
+    let next-of = back12 .before .before .before .before .before .before .before .before .before .next-of in
+    let args = back12 .before .before .before .before .before .before .before .before .before .before .before .before .args in
+    met-some (args .pool .now) (args .free) (args .tail) (args .a) (args .b) (next-of .ensures) (next-of2 .ensures) (letter-of .ensures)
+    (letter-of2 .ensures) (times-numbers .ensures) (if1 .left) (set-letter .ensures) (link3 .ensures) (link4 .ensures) (c .wide .ensures)
 
 pub meet-spec : {M : Type 1} → statement M
 meet-spec =

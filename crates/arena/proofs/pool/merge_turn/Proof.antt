@@ -20,7 +20,14 @@ same-length : tie.Need-same-length
 same-length c = search needs
 
 returns : tie.Need-returns
-returns c = first-turn (c .before .before .before .before .before .before .before .before .before .before .before .args .pool .now) (c .before .before .before .before .before .before .before .before .before .before .before .args .free) (c .before .before .before .before .before .before .before .before .before .before .before .args .tail) (c .before .before .before .before .before .before .before .before .before .before .before .args .a) (c .before .before .before .before .before .before .before .before .before .before .before .args .b) (c .before .before .before .before .before .before .before .before .qubit-of .ensures) (c .before .before .before .before .before .before .qubit-of2 .ensures) (c .before .before .before .before .before .if1 .taken) (c .before .before .before .append .ensures .0) (c .kept .ensures) (c .before .before .before .append .ensures .1)
+returns c =
+    let append = c .before .before .before .append in
+    let if1 = c .before .before .before .before .before .if1 in
+    let qubit-of2 = c .before .before .before .before .before .before .qubit-of2 in
+    let qubit-of = c .before .before .before .before .before .before .before .before .qubit-of in
+    let args = c .before .before .before .before .before .before .before .before .before .before .before .args in
+    first-turn (args .pool .now) (args .free) (args .tail) (args .a) (args .b) (qubit-of .ensures) (qubit-of2 .ensures) (if1 .taken)
+    (append .ensures .0) (c .kept .ensures) (append .ensures .1)
 
 append-requires-2 : tie.Need-append-requires-2
 append-requires-2 c κs = search needs
@@ -32,7 +39,14 @@ same-length-2 : tie.Need-same-length-2
 same-length-2 c = search needs
 
 returns-2 : tie.Need-returns-2
-returns-2 c = second-turn (c .before .before .before .before .before .before .before .before .before .before .before .before .args .pool .now) (c .before .before .before .before .before .before .before .before .before .before .before .before .args .free) (c .before .before .before .before .before .before .before .before .before .before .before .before .args .tail) (c .before .before .before .before .before .before .before .before .before .before .before .before .args .a) (c .before .before .before .before .before .before .before .before .before .before .before .before .args .b) (c .before .before .before .before .before .before .before .before .before .qubit-of .ensures) (c .before .before .before .before .before .before .before .qubit-of2 .ensures) (c .before .before .before .before .before .if2 .taken) (c .before .before .before .append2 .ensures .0) (c .kept2 .ensures) (c .before .before .before .append2 .ensures .1)
+returns-2 c =
+    let append2 = c .before .before .before .append2 in
+    let if2 = c .before .before .before .before .before .if2 in
+    let qubit-of2 = c .before .before .before .before .before .before .before .qubit-of2 in
+    let qubit-of = c .before .before .before .before .before .before .before .before .before .qubit-of in
+    let args = c .before .before .before .before .before .before .before .before .before .before .before .before .args in
+    second-turn (args .pool .now) (args .free) (args .tail) (args .a) (args .b) (qubit-of .ensures) (qubit-of2 .ensures) (if2 .taken)
+    (append2 .ensures .0) (c .kept2 .ensures) (append2 .ensures .1)
 
 meet-requires : tie.Need-meet-requires
 meet-requires c κs = search needs
@@ -41,7 +55,15 @@ same-length-3 : tie.Need-same-length-3
 same-length-3 c = search needs
 
 returns-3 : tie.Need-returns-3
-returns-3 c = third-turn (c .before .before .before .before .before .before .before .before .before .before .before .args .pool .now) (c .before .before .before .before .before .before .before .before .before .before .before .args .free) (c .before .before .before .before .before .before .before .before .before .before .before .args .tail) (c .before .before .before .before .before .before .before .before .before .before .before .args .a) (c .before .before .before .before .before .before .before .before .before .before .before .args .b) (c .before .before .before .before .before .before .before .before .qubit-of .ensures) (c .before .before .before .before .before .before .qubit-of2 .ensures) (c .before .before .before .before .if2 .left) (c .before .before .before .before .before .if1 .left) (c .before .before .meet .ensures .0) (c .before .before .meet .ensures .1)
+returns-3 c =
+    let meet = c .before .before .meet in
+    let if2 = c .before .before .before .before .if2 in
+    let if1 = c .before .before .before .before .before .if1 in
+    let qubit-of2 = c .before .before .before .before .before .before .qubit-of2 in
+    let qubit-of = c .before .before .before .before .before .before .before .before .qubit-of in
+    let args = c .before .before .before .before .before .before .before .before .before .before .before .args in
+    third-turn (args .pool .now) (args .free) (args .tail) (args .a) (args .b) (qubit-of .ensures) (qubit-of2 .ensures) (if2 .left) (if1 .left)
+    (meet .ensures .0) (meet .ensures .1)
 
 pub merge-turn-spec : {M : Type 1} → statement M
 merge-turn-spec =

@@ -37,30 +37,47 @@ merge-turn-requires c κs = here (c .before) .room
 
 add-made : tie.Need-add-made Inv-loop μ-loop
 add-made c =
-    let r = here (c .before .before .before .before .before) in
-    let m = small (c .before .before .before .before .before .before .before .loop .pool) (c .before .before .before .before .before .before .before .loop .free) (c .before .before .before .before .before .before .before .loop .tail) (c .before .before .before .before .before .before .before .loop .a) (c .before .before .before .before .before .before .before .loop .b) (c .before .before .before .merge-turn .ensures .0) in
+    let merge-turn = c .before .before .before .merge-turn in
+    let state = c .before .before .before .before .before in
+    let the-loop = c .before .before .before .before .before .before .before .loop in
+    let r = here state in
+    let m = small (the-loop .pool) (the-loop .free) (the-loop .tail) (the-loop .a) (the-loop .b) (merge-turn .ensures .0) in
     record { fits = omega arith }
 
 sub-left : tie.Need-sub-left Inv-loop μ-loop
 sub-left c =
-    let r = here (c .before .before .before .before .before .before) in
-    let m = small (c .before .before .before .before .before .before .before .before .loop .pool) (c .before .before .before .before .before .before .before .before .loop .free) (c .before .before .before .before .before .before .before .before .loop .tail) (c .before .before .before .before .before .before .before .before .loop .a) (c .before .before .before .before .before .before .before .before .loop .b) (c .before .before .before .before .merge-turn .ensures .0) in
+    let merge-turn = c .before .before .before .before .merge-turn in
+    let state = c .before .before .before .before .before .before in
+    let the-loop = c .before .before .before .before .before .before .before .before .loop in
+    let r = here state in
+    let m = small (the-loop .pool) (the-loop .free) (the-loop .tail) (the-loop .a) (the-loop .b) (merge-turn .ensures .0) in
     omega arith
 
 add-phase : tie.Need-add-phase Inv-loop μ-loop
 add-phase c =
-    let r = here (c .before .before .before .before .before .before .before) in
-    let m = small (c .before .before .before .before .before .before .before .before .before .loop .pool) (c .before .before .before .before .before .before .before .before .before .loop .free) (c .before .before .before .before .before .before .before .before .before .loop .tail) (c .before .before .before .before .before .before .before .before .before .loop .a) (c .before .before .before .before .before .before .before .before .before .loop .b) (c .before .before .before .before .before .merge-turn .ensures .0) in
+    let merge-turn = c .before .before .before .before .before .merge-turn in
+    let state = c .before .before .before .before .before .before .before in
+    let the-loop = c .before .before .before .before .before .before .before .before .before .loop in
+    let r = here state in
+    let m = small (the-loop .pool) (the-loop .free) (the-loop .tail) (the-loop .a) (the-loop .b) (merge-turn .ensures .0) in
     record { fits = omega arith }
 
 loop-less : tie.Need-loop-less Inv-loop μ-loop
 loop-less c =
-    let r = here (c .before .before .before .before .before .before .before) in
-    let m = small (c .before .before .before .before .before .before .before .before .before .loop .pool) (c .before .before .before .before .before .before .before .before .before .loop .free) (c .before .before .before .before .before .before .before .before .before .loop .tail) (c .before .before .before .before .before .before .before .before .before .loop .a) (c .before .before .before .before .before .before .before .before .before .loop .b) (c .before .before .before .before .before .merge-turn .ensures .0) in
+    let merge-turn = c .before .before .before .before .before .merge-turn in
+    let state = c .before .before .before .before .before .before .before in
+    let the-loop = c .before .before .before .before .before .before .before .before .before .loop in
+    let r = here state in
+    let m = small (the-loop .pool) (the-loop .free) (the-loop .tail) (the-loop .a) (the-loop .b) (merge-turn .ensures .0) in
     omega arith
 
 loop-again : tie.Need-loop-again Inv-loop μ-loop
-loop-again c = λ g. turn′ g (c .before .before .before .before .before .before .before .before .before .loop .inv g) (c .before .before .before .before .before .before .before .before .loop-test .taken) (c .before .before .before .before .before .before .before .if1 .left) (c .before .before .before .before .before .merge-turn .ensures .0) (c .before .before .before .before .before .merge-turn .ensures .1)
+loop-again c =
+    let merge-turn = c .before .before .before .before .before .merge-turn in
+    let if1 = c .before .before .before .before .before .before .before .if1 in
+    let loop-test = c .before .before .before .before .before .before .before .before .loop-test in
+    let the-loop = c .before .before .before .before .before .before .before .before .before .loop in
+    λ g. turn′ g (the-loop .inv g) (loop-test .taken) (if1 .left) (merge-turn .ensures .0) (merge-turn .ensures .1)
 
 attach-requires : tie.Need-attach-requires Inv-loop μ-loop
 attach-requires c κs =

@@ -22,9 +22,17 @@ same-length : tie.Need-same-length
 same-length c = search needs
 
 returns : tie.Need-returns
-returns c = λ g.
-    lent′ g _ (some-letter-of (c .before .before .before .before .before .before .before .before .before .before .before .before .before .before .before .args .letter) (c .before .before .before .before .before .before .before .before .before .before .before .before .before .before .before .pre .1 .0) (c .before .before .before .before .before .before .before .before .before .before .before .before .before .before .before .pre .1 .1)) (sym (number-of (c .before .before .before .before .before .before .before .before .before .before .before .before .before .before .before .args .letter) (c .before .before .before .before .before .before .before .before .before .before .before .before .before .before .before .pre .1 .1))) (c .before .before .before .before .before .before .before .before .before .before .before .before .next-of .ensures) (c .before .before .before .before .before .before .before .before .before .before .set-qubit .ensures)
-    (c .before .before .before .before .before .before .set-letter .ensures) (c .before .before .link .ensures)
+returns c =
+    let link = c .before .before .link in
+    let set-letter = c .before .before .before .before .before .before .set-letter in
+    let set-qubit = c .before .before .before .before .before .before .before .before .before .before .set-qubit in
+    let next-of = c .before .before .before .before .before .before .before .before .before .before .before .before .next-of in
+    let back12 = c .before .before .before .before .before .before .before .before .before .before .before .before in
+    let args = back12 .before .before .before .args in
+    let pre = back12 .before .before .before .pre in
+    λ g.
+    lent′ g _ (some-letter-of (args .letter) (pre .1 .0) (pre .1 .1)) (sym (number-of (args .letter) (pre .1 .1))) (next-of .ensures) (set-qubit .ensures)
+    (set-letter .ensures) (link .ensures)
 
 pub single-spec : {M : Type 1} → statement M
 single-spec =

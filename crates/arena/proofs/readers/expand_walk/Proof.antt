@@ -16,7 +16,13 @@ cast-count : tie.Need-cast-count
 cast-count c = search needs
 
 returns : tie.Need-returns
-returns c = (sym (ap expansionOf (expand-low (c .before .before .before .before .before .before .before .args .header .qubits) (c .before .before .before .before .before .before .before .args .header .nodes) (c .before .before .before .before .before .before .before .args .nodes .now) (c .before .before .before .before .before .before .before .args .word) (capOf (length (c .before .before .before .before .before .before .before .args .pool .now)) - 1) (c .before .before .before .before .before .before .before .args .cells) (c .if1 .taken))), sym (ap (λ o. lettersLeft o (c .before .before .before .before .before .before .before .args .letters .now)) (expand-low (c .before .before .before .before .before .before .before .args .header .qubits) (c .before .before .before .before .before .before .before .args .header .nodes) (c .before .before .before .before .before .before .before .args .nodes .now) (c .before .before .before .before .before .before .before .args .word) (capOf (length (c .before .before .before .before .before .before .before .args .pool .now)) - 1) (c .before .before .before .before .before .before .before .args .cells) (c .if1 .taken))))
+returns c =
+    let args = c .before .before .before .before .before .before .before .args in (
+      sym (ap expansionOf (expand-low (args .header .qubits) (args .header .nodes) (args .nodes .now) (args .word) (capOf (length (args .pool .now)) - 1)
+          (args .cells) (c .if1 .taken))),
+      sym (ap (λ o. lettersLeft o (args .letters .now)) (expand-low (args .header .qubits) (args .header .nodes)
+          (args .nodes .now) (args .word) (capOf (length (args .pool .now)) - 1) (args .cells) (c .if1 .taken))),
+    )
 
 walk-root-requires : tie.Need-walk-root-requires
 walk-root-requires c κs = search needs
@@ -31,10 +37,32 @@ same-length-2 : tie.Need-same-length-2
 same-length-2 c = search needs
 
 returns-2 : tie.Need-returns-2
-returns-2 c = (ap ExpansionRefused (c .walk-error .ensures) ∙ sym (ap expansionOf (expand-refused (c .before .before .before .before .before .before .before .before .before .before .before .before .before .before .before .before .args .header .qubits) (c .before .before .before .before .before .before .before .before .before .before .before .before .before .before .before .before .args .header .nodes) (c .before .before .before .before .before .before .before .before .before .before .before .before .before .before .before .before .args .nodes .now) (c .before .before .before .before .before .before .before .before .before .before .before .before .before .before .before .before .args .word) (capOf (length (c .before .before .before .before .before .before .before .before .before .before .before .before .before .before .before .before .args .pool .now)) - 1) (c .before .before .before .before .before .before .before .before .before .before .before .before .before .before .before .before .args .cells - c .before .before .before .before .before .before .before .before .before .before .before .before .before .before .before .before .args .header .qubits) (c .before .before .before .before .before .before .walk-root .ensures (ready-of (c .before .before .before .before .before .before .before .before .before .before .before .before .before .before .before .before .args .word) (c .before .before .before .before .before .before .before .before .before .before .before .before .before .before .before .before .pre .0) (c .before .before .before .before .before .before .before .before .before .before .before .before .before .before .before .before .pre .1))) (c .before .before .before .before .before .before .before .before .before .before .before .before .before .before .before .before .args .cells) (c .before .before .before .before .before .before .before .before .before .if1 .left) refl (c .before .if2 .taken))), sym (ap (λ o. lettersLeft o (c .before .before .before .before .before .before .before .before .before .before .before .before .before .before .before .before .args .letters .now)) (expand-refused (c .before .before .before .before .before .before .before .before .before .before .before .before .before .before .before .before .args .header .qubits) (c .before .before .before .before .before .before .before .before .before .before .before .before .before .before .before .before .args .header .nodes) (c .before .before .before .before .before .before .before .before .before .before .before .before .before .before .before .before .args .nodes .now) (c .before .before .before .before .before .before .before .before .before .before .before .before .before .before .before .before .args .word) (capOf (length (c .before .before .before .before .before .before .before .before .before .before .before .before .before .before .before .before .args .pool .now)) - 1) (c .before .before .before .before .before .before .before .before .before .before .before .before .before .before .before .before .args .cells - c .before .before .before .before .before .before .before .before .before .before .before .before .before .before .before .before .args .header .qubits) (c .before .before .before .before .before .before .walk-root .ensures (ready-of (c .before .before .before .before .before .before .before .before .before .before .before .before .before .before .before .before .args .word) (c .before .before .before .before .before .before .before .before .before .before .before .before .before .before .before .before .pre .0) (c .before .before .before .before .before .before .before .before .before .before .before .before .before .before .before .before .pre .1))) (c .before .before .before .before .before .before .before .before .before .before .before .before .before .before .before .before .args .cells) (c .before .before .before .before .before .before .before .before .before .if1 .left) refl (c .before .if2 .taken))))
+returns-2 c =
+    let if2 = c .before .if2 in
+    let walk-root = c .before .before .before .before .before .before .walk-root in
+    let if1 = c .before .before .before .before .before .before .before .before .before .if1 in
+    let back12 = c .before .before .before .before .before .before .before .before .before .before .before .before in
+    let args = back12 .before .before .before .before .args in
+    let pre = back12 .before .before .before .before .pre in (
+      ap ExpansionRefused (c .walk-error .ensures) ∙ sym (ap expansionOf (expand-refused (args .header .qubits) (args .header .nodes) (args .nodes .now)
+          (args .word) (capOf (length (args .pool .now)) - 1) (args .cells - args .header .qubits) (walk-root .ensures (ready-of (args .word) (pre .0)
+          (pre .1))) (args .cells) (if1 .left) refl (if2 .taken))),
+      sym (ap (λ o. lettersLeft o (args .letters .now)) (expand-refused (args .header .qubits) (args .header .nodes) (args .nodes .now) (args .word)
+          (capOf (length (args .pool .now)) - 1) (args .cells - args .header .qubits) (walk-root .ensures (ready-of (args .word) (pre .0) (pre .1)))
+          (args .cells) (if1 .left) refl (if2 .taken))),
+    )
 
 show-requires : tie.Need-show-requires
-show-requires c κs = (to-show (c .before .before .before .before .before .before .before .before .before .before .before .before .before .before .before .before .before .args .header .qubits) (c .before .before .before .before .before .before .before .before .before .before .before .before .before .before .before .before .before .args .header .nodes) (c .before .before .before .before .before .before .before .before .before .before .before .before .before .before .before .before .before .args .nodes .now) (c .before .before .before .before .before .before .before .before .before .before .before .before .before .before .before .before .before .args .word) (capOf (length (c .before .before .before .before .before .before .before .before .before .before .before .before .before .before .before .before .before .args .pool .now)) - 1) (c .before .before .before .before .before .before .before .before .before .before .before .before .before .before .before .before .before .args .cells - c .before .before .before .before .before .before .before .before .before .before .before .before .before .before .before .before .before .args .header .qubits) (c .before .before .before .before .before .before .before .walk-root .ensures (ready-of (c .before .before .before .before .before .before .before .before .before .before .before .before .before .before .before .before .before .args .word) (c .before .before .before .before .before .before .before .before .before .before .before .before .before .before .before .before .before .pre .0) (c .before .before .before .before .before .before .before .before .before .before .before .before .before .before .before .before .before .pre .1))) (c .before .before .if2 .left), c .before .before .before .before .before .before .before .before .before .before .before .before .before .before .before .before .before .pre .2)
+show-requires c κs =
+    let if2 = c .before .before .if2 in
+    let walk-root = c .before .before .before .before .before .before .before .walk-root in
+    let back12 = c .before .before .before .before .before .before .before .before .before .before .before .before in
+    let args = back12 .before .before .before .before .before .args in
+    let pre = back12 .before .before .before .before .before .pre in (
+      to-show (args .header .qubits) (args .header .nodes) (args .nodes .now) (args .word) (capOf (length (args .pool .now)) - 1)
+          (args .cells - args .header .qubits) (walk-root .ensures (ready-of (args .word) (pre .0) (pre .1))) (if2 .left),
+      pre .2,
+    )
 
 cast-power : tie.Need-cast-power
 cast-power c = search needs
@@ -52,7 +80,23 @@ same-length-5 : tie.Need-same-length-5
 same-length-5 c = search needs
 
 returns-3 : tie.Need-returns-3
-returns-3 c = (expand-answer (c .before .before .before .before .before .before .before .before .before .before .before .before .before .before .before .before .before .before .before .before .before .before .args .header .qubits) (c .before .before .before .before .before .before .before .before .before .before .before .before .before .before .before .before .before .before .before .before .before .before .args .header .nodes) (c .before .before .before .before .before .before .before .before .before .before .before .before .before .before .before .before .before .before .before .before .before .before .args .nodes .now) (c .before .before .before .before .before .before .before .before .before .before .before .before .before .before .before .before .before .before .before .before .before .before .args .word) (capOf (length (c .before .before .before .before .before .before .before .before .before .before .before .before .before .before .before .before .before .before .before .before .before .before .args .pool .now)) - 1) (c .before .before .before .before .before .before .before .before .before .before .before .before .before .before .before .before .before .before .before .before .before .before .args .cells - c .before .before .before .before .before .before .before .before .before .before .before .before .before .before .before .before .before .before .before .before .before .before .args .header .qubits) (c .before .before .before .before .before .before .before .before .before .before .before .before .walk-root .ensures (ready-of (c .before .before .before .before .before .before .before .before .before .before .before .before .before .before .before .before .before .before .before .before .before .before .args .word) (c .before .before .before .before .before .before .before .before .before .before .before .before .before .before .before .before .before .before .before .before .before .before .pre .0) (c .before .before .before .before .before .before .before .before .before .before .before .before .before .before .before .before .before .before .before .before .before .before .pre .1))) (c .before .before .before .before .before .before .before .if2 .left) (c .before .before .before .before .before .before .before .before .before .before .before .before .before .before .before .before .before .before .before .before .before .before .args .cells) (c .before .before .before .before .before .before .before .before .before .before .before .before .before .before .before .if1 .left) refl (c .power .ensures), expand-letters (c .before .before .before .before .before .before .before .before .before .before .before .before .before .before .before .before .before .before .before .before .before .before .args .header .qubits) (c .before .before .before .before .before .before .before .before .before .before .before .before .before .before .before .before .before .before .before .before .before .before .args .header .nodes) (c .before .before .before .before .before .before .before .before .before .before .before .before .before .before .before .before .before .before .before .before .before .before .args .nodes .now) (c .before .before .before .before .before .before .before .before .before .before .before .before .before .before .before .before .before .before .before .before .before .before .args .word) (capOf (length (c .before .before .before .before .before .before .before .before .before .before .before .before .before .before .before .before .before .before .before .before .before .before .args .pool .now)) - 1) (c .before .before .before .before .before .before .before .before .before .before .before .before .before .before .before .before .before .before .before .before .before .before .args .cells - c .before .before .before .before .before .before .before .before .before .before .before .before .before .before .before .before .before .before .before .before .before .before .args .header .qubits) (c .before .before .before .before .before .before .before .before .before .before .before .before .walk-root .ensures (ready-of (c .before .before .before .before .before .before .before .before .before .before .before .before .before .before .before .before .before .before .before .before .before .before .args .word) (c .before .before .before .before .before .before .before .before .before .before .before .before .before .before .before .before .before .before .before .before .before .before .pre .0) (c .before .before .before .before .before .before .before .before .before .before .before .before .before .before .before .before .before .before .before .before .before .before .pre .1))) (c .before .before .before .before .before .before .before .if2 .left) (c .before .before .before .before .before .before .before .before .before .before .before .before .before .before .before .before .before .before .before .before .before .before .args .cells) (c .before .before .before .before .before .before .before .before .before .before .before .before .before .before .before .before .before .before .before .before .before .before .args .letters .now) _ (c .before .before .before .before .before .before .before .before .before .before .before .before .before .before .before .if1 .left) refl (c .before .before .before .before .show .ensures (to-show (c .before .before .before .before .before .before .before .before .before .before .before .before .before .before .before .before .before .before .before .before .before .before .args .header .qubits) (c .before .before .before .before .before .before .before .before .before .before .before .before .before .before .before .before .before .before .before .before .before .before .args .header .nodes) (c .before .before .before .before .before .before .before .before .before .before .before .before .before .before .before .before .before .before .before .before .before .before .args .nodes .now) (c .before .before .before .before .before .before .before .before .before .before .before .before .before .before .before .before .before .before .before .before .before .before .args .word) (capOf (length (c .before .before .before .before .before .before .before .before .before .before .before .before .before .before .before .before .before .before .before .before .before .before .args .pool .now)) - 1) (c .before .before .before .before .before .before .before .before .before .before .before .before .before .before .before .before .before .before .before .before .before .before .args .cells - c .before .before .before .before .before .before .before .before .before .before .before .before .before .before .before .before .before .before .before .before .before .before .args .header .qubits) (c .before .before .before .before .before .before .before .before .before .before .before .before .walk-root .ensures (ready-of (c .before .before .before .before .before .before .before .before .before .before .before .before .before .before .before .before .before .before .before .before .before .before .args .word) (c .before .before .before .before .before .before .before .before .before .before .before .before .before .before .before .before .before .before .before .before .before .before .pre .0) (c .before .before .before .before .before .before .before .before .before .before .before .before .before .before .before .before .before .before .before .before .before .before .pre .1))) (c .before .before .before .before .before .before .before .if2 .left))))
+returns-3 c =
+    let show = c .before .before .before .before .show in
+    let if2 = c .before .before .before .before .before .before .before .if2 in
+    let walk-root = c .before .before .before .before .before .before .before .before .before .before .before .before .walk-root in
+    let back12 = c .before .before .before .before .before .before .before .before .before .before .before .before in
+    let if1 = back12 .before .before .before .if1 in
+    let args = back12 .before .before .before .before .before .before .before .before .before .before .args in
+    let pre = back12 .before .before .before .before .before .before .before .before .before .before .pre in (
+      expand-answer (args .header .qubits) (args .header .nodes) (args .nodes .now) (args .word) (capOf (length (args .pool .now)) - 1)
+          (args .cells - args .header .qubits) (walk-root .ensures (ready-of (args .word) (pre .0) (pre .1))) (if2 .left) (args .cells) (if1 .left) refl
+          (c .power .ensures),
+      expand-letters (args .header .qubits) (args .header .nodes) (args .nodes .now) (args .word) (capOf (length
+          (args .pool .now)) - 1) (args .cells - args .header .qubits) (walk-root .ensures (ready-of (args .word) (pre .0) (pre .1))) (if2 .left)
+          (args .cells) (args .letters .now) _ (if1 .left) refl (show .ensures (to-show (args .header .qubits) (args .header .nodes) (args .nodes .now)
+          (args .word) (capOf (length (args .pool .now)) - 1) (args .cells - args .header .qubits) (walk-root .ensures (ready-of (args .word) (pre .0)
+          (pre .1))) (if2 .left))),
+    )
 
 pub expand-walk-spec : {M : Type 1} → statement M
 expand-walk-spec =

@@ -29,7 +29,14 @@ same-length-2 : tie.Need-same-length-2
 same-length-2 c = search needs
 
 returns : tie.Need-returns
-returns c = ap HermitianRefused (c .walk-error .ensures) ∙ sym (ap (hermitianOf (c .before .before .before .before .before .before .before .before .before .before .before .before .before .before .args .reference)) (axis-refused (c .before .before .before .before .before .before .before .before .before .before .before .before .before .before .args .header .qubits) (c .before .before .before .before .before .before .before .before .before .before .before .before .before .before .args .header .nodes) (c .before .before .before .before .before .before .before .before .before .before .before .before .before .before .args .nodes .now) (c .before .before .before .before .before .before .before .before .before .before .before .before .before .before .args .reference .word) (capOf (length (c .before .before .before .before .before .before .before .before .before .before .before .before .before .before .args .pool .now)) - 1) (c .before .before .before .before .before .before .before .before .before .before .before .before .before .before .args .limit) (c .before .before .before .before .before .before .walk-root .ensures (ready-of (c .before .before .before .before .before .before .before .before .before .before .before .before .before .before .args .reference .word) (c .before .before .before .before .before .before .before .before .before .before .before .before .before .before .pre .0) (c .before .before .before .before .before .before .before .before .before .before .before .before .before .before .pre .1))) (c .before .if1 .taken)))
+returns c =
+    let if1 = c .before .if1 in
+    let walk-root = c .before .before .before .before .before .before .walk-root in
+    let args = c .before .before .before .before .before .before .before .before .before .before .before .before .before .before .args in
+    let pre = c .before .before .before .before .before .before .before .before .before .before .before .before .before .before .pre in
+    ap HermitianRefused (c .walk-error .ensures) ∙ sym (ap (hermitianOf (args .reference)) (axis-refused (args .header .qubits) (args .header .nodes)
+    (args .nodes .now) (args .reference .word) (capOf (length (args .pool .now)) - 1) (args .limit) (walk-root .ensures (ready-of
+    (args .reference .word) (pre .0) (pre .1))) (if1 .taken)))
 
 same-length-3 : tie.Need-same-length-3
 same-length-3 c = search needs
@@ -38,7 +45,14 @@ same-length-4 : tie.Need-same-length-4
 same-length-4 c = search needs
 
 returns-2 : tie.Need-returns-2
-returns-2 c = sym (ap (hermitianOf (c .before .before .before .before .before .before .before .before .before .before .before .before .before .before .before .args .reference)) (axis-odd (c .before .before .before .before .before .before .before .before .before .before .before .before .before .before .before .args .header .qubits) (c .before .before .before .before .before .before .before .before .before .before .before .before .before .before .before .args .header .nodes) (c .before .before .before .before .before .before .before .before .before .before .before .before .before .before .before .args .nodes .now) (c .before .before .before .before .before .before .before .before .before .before .before .before .before .before .before .args .reference .word) (capOf (length (c .before .before .before .before .before .before .before .before .before .before .before .before .before .before .before .args .pool .now)) - 1) (c .before .before .before .before .before .before .before .before .before .before .before .before .before .before .before .args .limit) (c .before .before .before .before .before .before .before .walk-root .ensures (ready-of (c .before .before .before .before .before .before .before .before .before .before .before .before .before .before .before .args .reference .word) (c .before .before .before .before .before .before .before .before .before .before .before .before .before .before .before .pre .0) (c .before .before .before .before .before .before .before .before .before .before .before .before .before .before .before .pre .1))) (c .before .before .if1 .left) (c .if2 .taken)))
+returns-2 c =
+    let if1 = c .before .before .if1 in
+    let walk-root = c .before .before .before .before .before .before .before .walk-root in
+    let back12 = c .before .before .before .before .before .before .before .before .before .before .before .before in
+    let args = back12 .before .before .before .args in
+    let pre = back12 .before .before .before .pre in
+    sym (ap (hermitianOf (args .reference)) (axis-odd (args .header .qubits) (args .header .nodes) (args .nodes .now) (args .reference .word) (capOf
+    (length (args .pool .now)) - 1) (args .limit) (walk-root .ensures (ready-of (args .reference .word) (pre .0) (pre .1))) (if1 .left) (c .if2 .taken)))
 
 assume-hermitian-requires : tie.Need-assume-hermitian-requires
 assume-hermitian-requires c κs = search needs
@@ -50,7 +64,16 @@ same-length-6 : tie.Need-same-length-6
 same-length-6 c = search needs
 
 returns-3 : tie.Need-returns-3
-returns-3 c = ap (λ (r : PauliRef). HermitianMade (axisOf r) (c .before .before .before .before .before .before .before .before .walk-root .result .work)) (c .assume-hermitian .ensures) ∙ sym (ap (hermitianOf (c .before .before .before .before .before .before .before .before .before .before .before .before .before .before .before .before .args .reference)) (axis-even (c .before .before .before .before .before .before .before .before .before .before .before .before .before .before .before .before .args .header .qubits) (c .before .before .before .before .before .before .before .before .before .before .before .before .before .before .before .before .args .header .nodes) (c .before .before .before .before .before .before .before .before .before .before .before .before .before .before .before .before .args .nodes .now) (c .before .before .before .before .before .before .before .before .before .before .before .before .before .before .before .before .args .reference .word) (capOf (length (c .before .before .before .before .before .before .before .before .before .before .before .before .before .before .before .before .args .pool .now)) - 1) (c .before .before .before .before .before .before .before .before .before .before .before .before .before .before .before .before .args .limit) (c .before .before .before .before .before .before .before .before .walk-root .ensures (ready-of (c .before .before .before .before .before .before .before .before .before .before .before .before .before .before .before .before .args .reference .word) (c .before .before .before .before .before .before .before .before .before .before .before .before .before .before .before .before .pre .0) (c .before .before .before .before .before .before .before .before .before .before .before .before .before .before .before .before .pre .1))) (c .before .before .before .if1 .left) (c .before .if2 .left)))
+returns-3 c =
+    let if2 = c .before .if2 in
+    let if1 = c .before .before .before .if1 in
+    let walk-root = c .before .before .before .before .before .before .before .before .walk-root in
+    let back12 = c .before .before .before .before .before .before .before .before .before .before .before .before in
+    let args = back12 .before .before .before .before .args in
+    let pre = back12 .before .before .before .before .pre in
+    ap (λ (r : PauliRef). HermitianMade (axisOf r) (walk-root .result .work)) (c .assume-hermitian .ensures) ∙ sym (ap (hermitianOf (args .reference))
+    (axis-even (args .header .qubits) (args .header .nodes) (args .nodes .now) (args .reference .word) (capOf (length (args .pool .now)) - 1)
+    (args .limit) (walk-root .ensures (ready-of (args .reference .word) (pre .0) (pre .1))) (if1 .left) (if2 .left)))
 
 pub hermitian-walk-spec : {M : Type 1} → statement M
 hermitian-walk-spec =

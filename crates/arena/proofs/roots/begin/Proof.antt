@@ -26,7 +26,12 @@ same-length-2 : tie.Need-same-length-2
 same-length-2 c = search needs
 
 returns : tie.Need-returns
-returns c = λ g. begin-dear g (c .before .before .before .before .before .before .before .before .before .scan-uses .ensures .0 (counting g)) (c .before .before .before .before .before .before .before .before .before .scan-uses .ensures .1 .0) (c .before .before .before .before .before .before .before .before .before .scan-uses .kept .1 .0) (c .before .before .before .before .before .before .before .before .before .before .before .before .before .before .args .limit) _ (c .not-evaluated .ensures) (c .before .if1 .taken)
+returns c =
+    let if1 = c .before .if1 in
+    let scan-uses = c .before .before .before .before .before .before .before .before .before .scan-uses in
+    let args = c .before .before .before .before .before .before .before .before .before .before .before .before .before .before .args in
+    λ g. begin-dear g (scan-uses .ensures .0 (counting g)) (scan-uses .ensures .1 .0) (scan-uses .kept .1 .0) (args .limit) _
+    (c .not-evaluated .ensures) (if1 .taken)
 
 add-t12 : tie.Need-add-t12
 add-t12 c = search needs
@@ -38,7 +43,13 @@ same-length-4 : tie.Need-same-length-4
 same-length-4 c = search needs
 
 returns-2 : tie.Need-returns-2
-returns-2 c = λ g. begun g (c .before .before .before .before .before .before .before .before .scan-uses .ensures .0 (counting g)) (c .before .before .before .before .before .before .before .before .scan-uses .ensures .1 .0) (c .before .before .before .before .before .before .before .before .scan-uses .kept .1 .0) (c .before .before .before .before .before .before .before .before .before .before .before .before .before .args .limit) (c .before .before .before .init .ensures) (c .before .before .before .before .before .room-of .ensures) (c .if1 .left)
+returns-2 c =
+    let init = c .before .before .before .init in
+    let room-of = c .before .before .before .before .before .room-of in
+    let scan-uses = c .before .before .before .before .before .before .before .before .scan-uses in
+    let args = c .before .before .before .before .before .before .before .before .before .before .before .before .before .args in
+    λ g. begun g (scan-uses .ensures .0 (counting g)) (scan-uses .ensures .1 .0) (scan-uses .kept .1 .0) (args .limit) (init .ensures)
+    (room-of .ensures) (c .if1 .left)
 
 pub begin-spec : {M : Type 1} → statement M
 begin-spec =

@@ -29,7 +29,13 @@ loop-less : tie.Need-loop-less Inv-loop μ-loop
 loop-less c = omega (arith, c .before .loop-test .taken)
 
 loop-again : tie.Need-loop-again Inv-loop μ-loop
-loop-again c = λ g. write-turn g (c .before .before .before .before .before .args .n) (c .before .before .before .before .before .args .letters .now) (c .before .before .loop .inv g) (c .before .loop-test .taken) (c .before .before .before .before .before .pre .1) (c .cell-at .ensures (cell g (c .before .before .before .before .before .args .n) (c .before .before .before .before .before .args .letters .now) (c .before .before .loop .inv g))) refl
+loop-again c =
+    let loop-test = c .before .loop-test in
+    let the-loop = c .before .before .loop in
+    let args = c .before .before .before .before .before .args in
+    let pre = c .before .before .before .before .before .pre in
+    λ g. write-turn g (args .n) (args .letters .now) (the-loop .inv g) (loop-test .taken) (pre .1) (c .cell-at .ensures (cell g (args .n)
+    (args .letters .now) (the-loop .inv g))) refl
 
 same-length : tie.Need-same-length Inv-loop μ-loop
 same-length c = (c .before .loop .inv (c .before .before .before .before .pre .0)) .long

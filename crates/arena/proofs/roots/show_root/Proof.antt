@@ -27,7 +27,13 @@ count-in-requires : tie.Need-count-in-requires
 count-in-requires c κs = search needs
 
 sub-if2 : tie.Need-sub-if2
-sub-if2 c = wk-fits (c .before .before .before .before .before .before .before .before .before .before .before .before .before .before .before .args .w) (c .before .before .before .before .before .before .before .before .before .before .before .before .before .before .before .pre) (c .before .before .before .before .before .before .before .before .before .eval-root .ensures (c .before .before .before .before .before .before .before .before .before .before .before .before .before .before .before .pre)) (c .before .before .before .before .if1 .left)
+sub-if2 c =
+    let if1 = c .before .before .before .before .if1 in
+    let eval-root = c .before .before .before .before .before .before .before .before .before .eval-root in
+    let back12 = c .before .before .before .before .before .before .before .before .before .before .before .before in
+    let args = back12 .before .before .before .args in
+    let pre = back12 .before .before .before .pre in
+    wk-fits (args .w) pre (eval-root .ensures pre) (if1 .left)
 
 not-shown-requires-2 : tie.Need-not-shown-requires-2
 not-shown-requires-2 c κs = search needs
@@ -39,7 +45,15 @@ same-length-4 : tie.Need-same-length-4
 same-length-4 c = search needs
 
 returns-2 : tie.Need-returns-2
-returns-2 c = λ g. too-high (c .before .before .before .before .before .before .before .before .before .before .before .before .before .before .before .before .before .args .w) g (c .before .before .before .before .before .before .before .before .before .before .before .eval-root .ensures g) (c .before .before .before .before .before .before .if1 .left) (c .before .before .before .before .value-of .ensures) (c .before .before .before .count-in .ensures) _ (c .not-shown2 .ensures) (c .before .if2 .taken)
+returns-2 c =
+    let if2 = c .before .if2 in
+    let count-in = c .before .before .before .count-in in
+    let value-of = c .before .before .before .before .value-of in
+    let if1 = c .before .before .before .before .before .before .if1 in
+    let eval-root = c .before .before .before .before .before .before .before .before .before .before .before .eval-root in
+    let back12 = c .before .before .before .before .before .before .before .before .before .before .before .before in
+    let args = back12 .before .before .before .before .before .args in
+    λ g. too-high (args .w) g (eval-root .ensures g) (if1 .left) (value-of .ensures) (count-in .ensures) _ (c .not-shown2 .ensures) (if2 .taken)
 
 head-in-requires : tie.Need-head-in-requires
 head-in-requires c κs = search needs
@@ -60,7 +74,18 @@ same-length-6 : tie.Need-same-length-6
 same-length-6 c = search needs
 
 returns-3 : tie.Need-returns-3
-returns-3 c = λ g. root-shown (c .before .before .before .before .before .before .before .before .before .before .before .before .before .before .before .before .before .before .before .args .w) g (c .before .before .before .before .before .before .before .before .before .before .before .before .before .eval-root .ensures g) (c .before .before .before .before .before .before .before .before .if1 .left) (c .before .before .before .before .before .before .value-of .ensures) (c .before .before .before .before .before .count-in .ensures) (c .before .before .before .if2 .left) (c .before .before .head-in .ensures) (c .before .phase-in .ensures) refl
+returns-3 c =
+    let phase-in = c .before .phase-in in
+    let head-in = c .before .before .head-in in
+    let if2 = c .before .before .before .if2 in
+    let count-in = c .before .before .before .before .before .count-in in
+    let value-of = c .before .before .before .before .before .before .value-of in
+    let if1 = c .before .before .before .before .before .before .before .before .if1 in
+    let eval-root = c .before .before .before .before .before .before .before .before .before .before .before .before .before .eval-root in
+    let back12 = c .before .before .before .before .before .before .before .before .before .before .before .before in
+    let args = back12 .before .before .before .before .before .before .before .args in
+    λ g. root-shown (args .w) g (eval-root .ensures g) (if1 .left) (value-of .ensures) (count-in .ensures) (if2 .left) (head-in .ensures)
+    (phase-in .ensures) refl
 
 pub show-root-spec : {M : Type 1} → statement M
 show-root-spec =

@@ -23,10 +23,26 @@ same-length-2 : tie.Need-same-length-2
 same-length-2 c = search needs
 
 returns : tie.Need-returns
-returns c = λ g. walk-refused g (c .before .before .before .before .before .before .before .before .before .before .before .before .before .before .before .zero-all .ensures) (c .before .before .before .before .before .before .before .before .before .before .before .add-use .ensures) (c .before .before .before .before .before .before .before .before .before .before .before .before .before .before .before .before .before .before .before .before .args .pool .now) (c .before .before .before .before .before .before .begin .ensures (rootable g (c .before .before .before .before .before .before .before .before .before .before .before .before .before .before .before .zero-all .ensures) (c .before .before .before .before .before .before .before .before .before .before .before .add-use .ensures))) _ (c .not-shown .ensures) (c .before .if1 .taken)
+returns c =
+    let if1 = c .before .if1 in
+    let begin = c .before .before .before .before .before .before .begin in
+    let add-use = c .before .before .before .before .before .before .before .before .before .before .before .add-use in
+    let back12 = c .before .before .before .before .before .before .before .before .before .before .before .before in
+    let zero-all = back12 .before .before .before .zero-all in
+    let args = back12 .before .before .before .before .before .before .before .before .args in
+    λ g. walk-refused g (zero-all .ensures) (add-use .ensures) (args .pool .now) (begin .ensures (rootable g (zero-all .ensures) (add-use .ensures))) _
+    (c .not-shown .ensures) (if1 .taken)
 
 show-root-requires : tie.Need-show-root-requires
-show-root-requires c κs = rooted (c .before .before .before .before .before .before .before .before .before .before .before .before .before .before .before .before .before .before .before .before .before .pre) (c .before .before .before .before .before .before .before .before .before .before .before .before .before .before .before .before .zero-all .ensures) (c .before .before .before .before .before .before .before .before .before .before .before .before .add-use .ensures) (c .before .before .before .before .before .before .before .before .before .before .before .before .before .before .before .before .before .before .before .before .before .args .pool .now) (c .before .before .before .before .before .before .before .begin .ensures (rootable (c .before .before .before .before .before .before .before .before .before .before .before .before .before .before .before .before .before .before .before .before .before .pre) (c .before .before .before .before .before .before .before .before .before .before .before .before .before .before .before .before .zero-all .ensures) (c .before .before .before .before .before .before .before .before .before .before .before .before .add-use .ensures))) (c .before .before .if1 .left)
+show-root-requires c κs =
+    let if1 = c .before .before .if1 in
+    let begin = c .before .before .before .before .before .before .before .begin in
+    let add-use = c .before .before .before .before .before .before .before .before .before .before .before .before .add-use in
+    let back12 = c .before .before .before .before .before .before .before .before .before .before .before .before in
+    let zero-all = back12 .before .before .before .before .zero-all in
+    let pre = back12 .before .before .before .before .before .before .before .before .before .pre in
+    let args = back12 .before .before .before .before .before .before .before .before .before .args in
+    rooted pre (zero-all .ensures) (add-use .ensures) (args .pool .now) (begin .ensures (rootable pre (zero-all .ensures) (add-use .ensures))) (if1 .left)
 
 same-length-3 : tie.Need-same-length-3
 same-length-3 c = search needs
@@ -35,7 +51,17 @@ same-length-4 : tie.Need-same-length-4
 same-length-4 c = search needs
 
 returns-2 : tie.Need-returns-2
-returns-2 c = λ g. walk-shown g (c .before .before .before .before .before .before .before .before .before .before .before .before .before .before .before .before .before .before .before .before .before .zero-all .ensures) (c .before .before .before .before .before .before .before .before .before .before .before .before .before .before .before .before .before .add-use .ensures) (c .before .before .before .before .before .before .before .before .before .before .before .before .before .before .before .before .before .before .before .before .before .before .before .before .before .before .args .pool .now) (c .before .before .before .before .before .before .before .before .before .before .before .before .begin .ensures (rootable g (c .before .before .before .before .before .before .before .before .before .before .before .before .before .before .before .before .before .before .before .before .before .zero-all .ensures) (c .before .before .before .before .before .before .before .before .before .before .before .before .before .before .before .before .before .add-use .ensures))) (c .before .before .before .before .before .before .before .if1 .left) (c .before .before .before .before .show-root .ensures (rooted g (c .before .before .before .before .before .before .before .before .before .before .before .before .before .before .before .before .before .before .before .before .before .zero-all .ensures) (c .before .before .before .before .before .before .before .before .before .before .before .before .before .before .before .before .before .add-use .ensures) (c .before .before .before .before .before .before .before .before .before .before .before .before .before .before .before .before .before .before .before .before .before .before .before .before .before .before .args .pool .now) (c .before .before .before .before .before .before .before .before .before .before .before .before .begin .ensures (rootable g (c .before .before .before .before .before .before .before .before .before .before .before .before .before .before .before .before .before .before .before .before .before .zero-all .ensures) (c .before .before .before .before .before .before .before .before .before .before .before .before .before .before .before .before .before .add-use .ensures))) (c .before .before .before .before .before .before .before .if1 .left)))
+returns-2 c =
+    let show-root = c .before .before .before .before .show-root in
+    let if1 = c .before .before .before .before .before .before .before .if1 in
+    let begin = c .before .before .before .before .before .before .before .before .before .before .before .before .begin in
+    let back12 = c .before .before .before .before .before .before .before .before .before .before .before .before in
+    let add-use = back12 .before .before .before .before .before .add-use in
+    let zero-all = back12 .before .before .before .before .before .before .before .before .before .zero-all in
+    let args = back12 .before .before .before .before .before .before .before .before .before .before .before .before .before .before .args in
+    λ g. walk-shown g (zero-all .ensures) (add-use .ensures) (args .pool .now) (begin .ensures (rootable g (zero-all .ensures) (add-use .ensures)))
+    (if1 .left) (show-root .ensures (rooted g (zero-all .ensures) (add-use .ensures) (args .pool .now) (begin .ensures (rootable g (zero-all .ensures)
+    (add-use .ensures))) (if1 .left)))
 
 pub walk-root-spec : {M : Type 1} → statement M
 walk-root-spec =

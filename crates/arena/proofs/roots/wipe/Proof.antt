@@ -25,7 +25,12 @@ same-length-2 : tie.Need-same-length-2
 same-length-2 c = search needs
 
 returns : tie.Need-returns
-returns c = (zero-front (c .before .before .before .before .before .before .before .before .before .before .args .s .now) _ (c .before .before .before .before .before .before .before .before .before .before .args .used) (c .before .before .before .before .before .before .before .before .before .before .pre) (c .before .before .before .before .before .before .zero-all .ensures), c .before .before .clear .ensures)
+returns c =
+    let clear = c .before .before .clear in
+    let zero-all = c .before .before .before .before .before .before .zero-all in
+    let args = c .before .before .before .before .before .before .before .before .before .before .args in
+    let pre = c .before .before .before .before .before .before .before .before .before .before .pre in
+    (zero-front (args .s .now) _ (args .used) pre (zero-all .ensures), clear .ensures)
 
 pub wipe-spec : {M : Type 1} → statement M
 wipe-spec =

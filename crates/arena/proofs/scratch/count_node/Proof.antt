@@ -38,13 +38,36 @@ wide-requires-2 : tie.Need-wide-requires-2
 wide-requires-2 c κs = search needs
 
 add-use-requires-2 : tie.Need-add-use-requires-2
-add-use-requires-2 c κs = rw (c .wide2 .ensures) (right-fits (c .before .before .before .before .before .before .before .before .before .before .before .before .before .before .before .pre) (c .before .before .before .before .before .before .before .before .before .before .before .use-of .ensures) (c .before .before .before .before .before .before .before .before .before .first-word .ensures) (c .before .before .before .before .before .before .before .before .if2 .left) (c .before .before .before .before .before .before .before .second-word .ensures) (rw (c .before .before .before .before .before .wide .ensures) at (c .before .before .before .before .add-use .ensures)))
+add-use-requires-2 c κs =
+    let add-use = c .before .before .before .before .add-use in
+    let wide = c .before .before .before .before .before .wide in
+    let second-word = c .before .before .before .before .before .before .before .second-word in
+    let if2 = c .before .before .before .before .before .before .before .before .if2 in
+    let first-word = c .before .before .before .before .before .before .before .before .before .first-word in
+    let use-of = c .before .before .before .before .before .before .before .before .before .before .before .use-of in
+    let back12 = c .before .before .before .before .before .before .before .before .before .before .before .before in
+    let pre = back12 .before .before .before .pre in
+    rw (c .wide2 .ensures) (right-fits pre (use-of .ensures) (first-word .ensures) (if2 .left) (second-word .ensures) (rw (wide .ensures) at
+    (add-use .ensures)))
 
 same-length-3 : tie.Need-same-length-3
 same-length-3 c = c .before .before .add-use2 .kept .0 ∙ c .before .before .before .before .before .before .before .add-use .kept .0
 
 returns-3 : tie.Need-returns-3
-returns-3 c = (λ g. visit-product g (c .before .before .before .before .before .before .before .before .before .before .before .before .before .before .use-of .ensures) (c .before .before .before .before .before .before .before .before .before .before .before .before .first-word .ensures) (c .before .before .before .before .before .before .before .before .before .before .before .if2 .left) (c .before .before .before .before .before .before .before .before .before .before .second-word .ensures) (rw (c .before .before .before .before .before .before .before .before .wide .ensures) at (c .before .before .before .before .before .before .before .add-use .ensures)) (c .before .before .before .before .before .before .before .before .before .before .before .before .before .if1 .left) (rw (c .before .before .before .wide2 .ensures) at (c .before .before .add-use2 .ensures)), values-then (values-use _ _ (c .before .before .before .before .before .before .before .add-use .ensures)) (values-use _ _ (c .before .before .add-use2 .ensures)))
+returns-3 c =
+    let add-use2 = c .before .before .add-use2 in
+    let wide2 = c .before .before .before .wide2 in
+    let add-use = c .before .before .before .before .before .before .before .add-use in
+    let wide = c .before .before .before .before .before .before .before .before .wide in
+    let second-word = c .before .before .before .before .before .before .before .before .before .before .second-word in
+    let if2 = c .before .before .before .before .before .before .before .before .before .before .before .if2 in
+    let first-word = c .before .before .before .before .before .before .before .before .before .before .before .before .first-word in
+    let if1 = c .before .before .before .before .before .before .before .before .before .before .before .before .before .if1 in
+    let use-of = c .before .before .before .before .before .before .before .before .before .before .before .before .before .before .use-of in (
+      λ g. visit-product g (use-of .ensures) (first-word .ensures) (if2 .left) (second-word .ensures) (rw (wide .ensures) at (add-use .ensures))
+          (if1 .left) (rw (wide2 .ensures) at (add-use2 .ensures)),
+      values-then (values-use _ _ (add-use .ensures)) (values-use _ _ (add-use2 .ensures)),
+    )
 
 pub count-node-spec : {M : Type 1} → statement M
 count-node-spec =

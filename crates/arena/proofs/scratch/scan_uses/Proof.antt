@@ -21,7 +21,19 @@ count-node-requires : tie.Need-count-node-requires Inv-loop μ-loop
 count-node-requires c κs = visiting (c .before .before .before .before .before .pre) (c .before .before .loop .inv (c .before .before .before .before .before .pre)) (c .before .loop-test .taken)
 
 add-reached : tie.Need-add-reached Inv-loop μ-loop
-add-reached c = record { fits = omega (arith, one-more (c .before .before .before .before .before .before .before .before .pre) (c .before .before .before .before .before .loop .inv (c .before .before .before .before .before .before .before .before .pre)) (c .before .before .before .before .loop-test .taken) (c .before .before .count-node .ensures .0 (visiting (c .before .before .before .before .before .before .before .before .pre) (c .before .before .before .before .before .loop .inv (c .before .before .before .before .before .before .before .before .pre)) (c .before .before .before .before .loop-test .taken))), c .before .before .before .before .before .before .before .before .pre .nodes-few) }
+add-reached c =
+    let count-node = c .before .before .count-node in
+    let loop-test = c .before .before .before .before .loop-test in
+    let the-loop = c .before .before .before .before .before .loop in
+    let pre = c .before .before .before .before .before .before .before .before .pre in
+    record {
+      fits = omega (
+        arith,
+        one-more pre (the-loop .inv pre) (loop-test .taken) (count-node .ensures .0 (visiting pre (the-loop .inv pre)
+            (loop-test .taken))),
+        pre .nodes-few,
+      );
+    }
 
 loop-less : tie.Need-loop-less Inv-loop μ-loop
 loop-less c = omega (arith, c .before .before .before .before .loop-test .taken)

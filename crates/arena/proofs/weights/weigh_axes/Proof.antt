@@ -34,7 +34,13 @@ counts-as-clifford-requires : tie.Need-counts-as-clifford-requires Inv-loop μ-l
 counts-as-clifford-requires c κs = search needs
 
 show-root-requires : tie.Need-show-root-requires Inv-loop μ-loop
-show-root-requires c κs = axis-rooted (c .before .before .before .before .before .before .before .before .before .before .before .before .pre) (c .before .before .before .before .before .before .loop .inv (c .before .before .before .before .before .before .before .before .before .before .before .before .pre)) (c .before .before .before .before .before .loop-test .taken) (c .before .before .before .axis-word .ensures ∙ ap (λ o. weighedOf o .word) (c .before .before .before .before .op-at .ensures))
+show-root-requires c κs =
+    let axis-word = c .before .before .before .axis-word in
+    let op-at = c .before .before .before .before .op-at in
+    let loop-test = c .before .before .before .before .before .loop-test in
+    let the-loop = c .before .before .before .before .before .before .loop in
+    let pre = c .before .before .before .before .before .before .before .before .before .before .before .before .pre in
+    axis-rooted pre (the-loop .inv pre) (loop-test .taken) (axis-word .ensures ∙ ap (λ o. weighedOf o .word) (op-at .ensures))
 
 walk-error-requires : tie.Need-walk-error-requires Inv-loop μ-loop
 walk-error-requires c κs = search needs
@@ -46,10 +52,29 @@ same-length-2 : tie.Need-same-length-2 Inv-loop μ-loop
 same-length-2 c = c .before .before .before .before .before .before .show-root .kept .1 .1 .0 ∙ (c .before .before .before .before .before .before .before .before .before .before .before .before .before .loop .inv (c .before .before .before .before .before .before .before .before .before .before .before .before .before .before .before .before .before .before .before .pre)) .pool-long
 
 returns : tie.Need-returns Inv-loop μ-loop
-returns c = λ g. ap WeightsRefused (c .walk-error .ensures) ∙ weigh-refused g (c .before .before .before .before .before .before .before .before .before .before .before .before .before .loop .inv g) (c .before .before .before .before .before .before .before .before .before .before .before .before .loop-test .taken) (c .before .before .before .before .before .before .before .before .before .before .axis-word .ensures ∙ ap (λ o. weighedOf o .word) (c .before .before .before .before .before .before .before .before .before .before .before .op-at .ensures)) (c .before .before .before .before .before .before .show-root .ensures (axis-rooted g (c .before .before .before .before .before .before .before .before .before .before .before .before .before .loop .inv g) (c .before .before .before .before .before .before .before .before .before .before .before .before .loop-test .taken) (c .before .before .before .before .before .before .before .before .before .before .axis-word .ensures ∙ ap (λ o. weighedOf o .word) (c .before .before .before .before .before .before .before .before .before .before .before .op-at .ensures)))) (c .before .if1 .taken)
+returns c =
+    let if1 = c .before .if1 in
+    let show-root = c .before .before .before .before .before .before .show-root in
+    let axis-word = c .before .before .before .before .before .before .before .before .before .before .axis-word in
+    let op-at = c .before .before .before .before .before .before .before .before .before .before .before .op-at in
+    let loop-test = c .before .before .before .before .before .before .before .before .before .before .before .before .loop-test in
+    let the-loop = c .before .before .before .before .before .before .before .before .before .before .before .before .before .loop in
+    λ g. ap WeightsRefused (c .walk-error .ensures) ∙ weigh-refused g (the-loop .inv g) (loop-test .taken) (axis-word .ensures ∙ ap
+    (λ o. weighedOf o .word) (op-at .ensures)) (show-root .ensures (axis-rooted g (the-loop .inv g) (loop-test .taken) (axis-word .ensures ∙ ap
+    (λ o. weighedOf o .word) (op-at .ensures)))) (if1 .taken)
 
 release-requires : tie.Need-release-requires Inv-loop μ-loop
-release-requires c κs = to-release (c .before .before .before .before .before .before .before .before .before .before .before .before .before .before .before .before .before .before .before .before .pre) (c .before .before .before .before .before .before .before .before .before .before .before .before .before .before .loop .inv (c .before .before .before .before .before .before .before .before .before .before .before .before .before .before .before .before .before .before .before .before .pre)) (c .before .before .before .before .before .before .before .before .before .before .before .before .before .loop-test .taken) (c .before .before .before .before .before .before .before .before .before .before .before .axis-word .ensures ∙ ap (λ o. weighedOf o .word) (c .before .before .before .before .before .before .before .before .before .before .before .before .op-at .ensures)) (c .before .before .before .before .before .before .before .show-root .ensures (axis-rooted (c .before .before .before .before .before .before .before .before .before .before .before .before .before .before .before .before .before .before .before .before .pre) (c .before .before .before .before .before .before .before .before .before .before .before .before .before .before .loop .inv (c .before .before .before .before .before .before .before .before .before .before .before .before .before .before .before .before .before .before .before .before .pre)) (c .before .before .before .before .before .before .before .before .before .before .before .before .before .loop-test .taken) (c .before .before .before .before .before .before .before .before .before .before .before .axis-word .ensures ∙ ap (λ o. weighedOf o .word) (c .before .before .before .before .before .before .before .before .before .before .before .before .op-at .ensures)))) (c .before .before .if1 .left)
+release-requires c κs =
+    let if1 = c .before .before .if1 in
+    let show-root = c .before .before .before .before .before .before .before .show-root in
+    let axis-word = c .before .before .before .before .before .before .before .before .before .before .before .axis-word in
+    let op-at = c .before .before .before .before .before .before .before .before .before .before .before .before .op-at in
+    let loop-test = c .before .before .before .before .before .before .before .before .before .before .before .before .before .loop-test in
+    let the-loop = c .before .before .before .before .before .before .before .before .before .before .before .before .before .before .loop in
+    let back12 = c .before .before .before .before .before .before .before .before .before .before .before .before in
+    let pre = back12 .before .before .before .before .before .before .before .before .pre in
+    to-release pre (the-loop .inv pre) (loop-test .taken) (axis-word .ensures ∙ ap (λ o. weighedOf o .word) (op-at .ensures)) (show-root .ensures
+    (axis-rooted pre (the-loop .inv pre) (loop-test .taken) (axis-word .ensures ∙ ap (λ o. weighedOf o .word) (op-at .ensures)))) (if1 .left)
 
 raised-requires : tie.Need-raised-requires Inv-loop μ-loop
 raised-requires c κs = search needs
@@ -58,13 +83,34 @@ raised-requires-2 : tie.Need-raised-requires-2 Inv-loop μ-loop
 raised-requires-2 c κs = search needs
 
 add-i : tie.Need-add-i Inv-loop μ-loop
-add-i c = record { fits = omega (arith, c .before .before .before .before .before .before .before .before .before .before .before .before .before .before .before .before .before .before .before .before .loop-test .taken, c .before .before .before .before .before .before .before .before .before .before .before .before .before .before .before .before .before .before .before .before .before .before .before .before .before .before .before .good .0) }
+add-i c =
+    let back12 = c .before .before .before .before .before .before .before .before .before .before .before .before in
+    let loop-test = back12 .before .before .before .before .before .before .before .before .loop-test in
+    let back24 = back12 .before .before .before .before .before .before .before .before .before .before .before .before in
+    let good = back24 .before .before .before .good in
+    record { fits = omega (arith, loop-test .taken, good .0) }
 
 loop-less : tie.Need-loop-less Inv-loop μ-loop
 loop-less c = omega (arith, c .before .before .before .before .before .before .before .before .before .before .before .before .before .before .before .before .before .before .before .before .loop-test .taken)
 
 loop-again : tie.Need-loop-again Inv-loop μ-loop
-loop-again c = λ g. weigh-turn g (c .before .before .before .before .before .before .before .before .before .before .before .before .before .before .before .before .before .before .before .before .before .loop .inv g) (c .before .before .before .before .before .before .before .before .before .before .before .before .before .before .before .before .before .before .before .before .loop-test .taken) (c .before .before .before .before .before .before .before .before .before .before .before .before .before .before .before .before .before .before .axis-word .ensures ∙ ap (λ o. weighedOf o .word) (c .before .before .before .before .before .before .before .before .before .before .before .before .before .before .before .before .before .before .before .op-at .ensures)) (c .before .before .before .before .before .before .before .before .before .before .before .before .before .before .show-root .ensures (axis-rooted g (c .before .before .before .before .before .before .before .before .before .before .before .before .before .before .before .before .before .before .before .before .before .loop .inv g) (c .before .before .before .before .before .before .before .before .before .before .before .before .before .before .before .before .before .before .before .before .loop-test .taken) (c .before .before .before .before .before .before .before .before .before .before .before .before .before .before .before .before .before .before .axis-word .ensures ∙ ap (λ o. weighedOf o .word) (c .before .before .before .before .before .before .before .before .before .before .before .before .before .before .before .before .before .before .before .op-at .ensures)))) (c .before .before .before .before .before .before .before .before .before .if1 .left) (c .before .before .before .before .before .before .before .before .before .before .before .before .before .before .before .before .before .counts-as-clifford .ensures ∙ ap (λ o. weighedOf o .clifford) (c .before .before .before .before .before .before .before .before .before .before .before .before .before .before .before .before .before .before .before .op-at .ensures)) (c .before .before .before .before .before .before .release .ensures (to-release g (c .before .before .before .before .before .before .before .before .before .before .before .before .before .before .before .before .before .before .before .before .before .loop .inv g) (c .before .before .before .before .before .before .before .before .before .before .before .before .before .before .before .before .before .before .before .before .loop-test .taken) (c .before .before .before .before .before .before .before .before .before .before .before .before .before .before .before .before .before .before .axis-word .ensures ∙ ap (λ o. weighedOf o .word) (c .before .before .before .before .before .before .before .before .before .before .before .before .before .before .before .before .before .before .before .op-at .ensures)) (c .before .before .before .before .before .before .before .before .before .before .before .before .before .before .show-root .ensures (axis-rooted g (c .before .before .before .before .before .before .before .before .before .before .before .before .before .before .before .before .before .before .before .before .before .loop .inv g) (c .before .before .before .before .before .before .before .before .before .before .before .before .before .before .before .before .before .before .before .before .loop-test .taken) (c .before .before .before .before .before .before .before .before .before .before .before .before .before .before .before .before .before .before .axis-word .ensures ∙ ap (λ o. weighedOf o .word) (c .before .before .before .before .before .before .before .before .before .before .before .before .before .before .before .before .before .before .before .op-at .ensures)))) (c .before .before .before .before .before .before .before .before .before .if1 .left))) (c .before .before .before .before .before .before .release .kept .0 ∙ c .before .before .before .before .before .before .before .before .before .before .before .before .before .before .show-root .kept .1 .0 ∙ c .before .before .before .before .before .before .before .before .before .before .before .before .before .before .before .before .before .before .before .before .before .loop .inv g .long) (c .before .before .before .before .before .before .release .kept .1 .0 ∙ c .before .before .before .before .before .before .before .before .before .before .before .before .before .before .show-root .kept .1 .1 .0 ∙ c .before .before .before .before .before .before .before .before .before .before .before .before .before .before .before .before .before .before .before .before .before .loop .inv g .pool-long) (c .before .raised .ensures) (c .raised2 .ensures)
+loop-again c =
+    let raised = c .before .raised in
+    let release = c .before .before .before .before .before .before .release in
+    let if1 = c .before .before .before .before .before .before .before .before .before .if1 in
+    let show-root = c .before .before .before .before .before .before .before .before .before .before .before .before .before .before .show-root in
+    let back12 = c .before .before .before .before .before .before .before .before .before .before .before .before in
+    let counts-as-clifford = back12 .before .before .before .before .before .counts-as-clifford in
+    let axis-word = back12 .before .before .before .before .before .before .axis-word in
+    let op-at = back12 .before .before .before .before .before .before .before .op-at in
+    let loop-test = back12 .before .before .before .before .before .before .before .before .loop-test in
+    let the-loop = back12 .before .before .before .before .before .before .before .before .before .loop in
+    λ g. weigh-turn g (the-loop .inv g) (loop-test .taken) (axis-word .ensures ∙ ap (λ o. weighedOf o .word) (op-at .ensures)) (show-root .ensures
+    (axis-rooted g (the-loop .inv g) (loop-test .taken) (axis-word .ensures ∙ ap (λ o. weighedOf o .word) (op-at .ensures)))) (if1 .left)
+    (counts-as-clifford .ensures ∙ ap (λ o. weighedOf o .clifford) (op-at .ensures)) (release .ensures (to-release g (the-loop .inv g)
+    (loop-test .taken) (axis-word .ensures ∙ ap (λ o. weighedOf o .word) (op-at .ensures)) (show-root .ensures (axis-rooted g (the-loop .inv g)
+    (loop-test .taken) (axis-word .ensures ∙ ap (λ o. weighedOf o .word) (op-at .ensures)))) (if1 .left))) (release .kept .0 ∙ show-root .kept .1 .0
+    ∙ the-loop .inv g .long) (release .kept .1 .0 ∙ show-root .kept .1 .1 .0 ∙ the-loop .inv g .pool-long) (raised .ensures) (c .raised2 .ensures)
 
 same-length-3 : tie.Need-same-length-3 Inv-loop μ-loop
 same-length-3 c = (c .before .loop .inv (c .before .before .before .before .before .before .before .pre)) .long

@@ -80,7 +80,13 @@ loop-less c = omega (arith, c .before .before .before .before .before .loop-test
 
 loop-again : tie.Need-loop-again Inv-loop μ-loop
 loop-again c =
-    (omega (arith, c .before .before .before .before .before .loop-test .taken), sound-more (c .before .before .before .before .before .before .loop .sound) (c .is-sound .result) (c .before .before .before .before .before .before .before .before .args .n) (c .before .before .before .before .before .before .before .before .args .cbits) (c .before .before .before .before .before .before .before .before .args .gates .now) (c .before .before .before .before .before .before .loop .i) (c .before .before .before .before .before .loop-test .taken) (c .before .before .before .before .before .before .loop .inv .1) (c .is-sound .ensures))
+    let loop-test = c .before .before .before .before .before .loop-test in
+    let the-loop = c .before .before .before .before .before .before .loop in
+    let args = c .before .before .before .before .before .before .before .before .args in (
+      omega (arith, loop-test .taken),
+      sound-more (the-loop .sound) (c .is-sound .result) (args .n) (args .cbits) (args .gates .now) (the-loop .i)
+          (loop-test .taken) (the-loop .inv .1) (c .is-sound .ensures),
+    )
 
 returns : tie.Need-returns Inv-loop μ-loop
 returns c e checked = c .before .loop .inv .1 e checked ∙ checks-end checked (c .before .before .before .args .n) (c .before .before .before .args .cbits) (c .before .before .before .args .gates .now) (c .before .loop .i) (c .loop-test .left)

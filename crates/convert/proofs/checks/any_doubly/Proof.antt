@@ -43,7 +43,17 @@ loop-less : tie.Need-loop-less Inv-loop μ-loop
 loop-less c = omega (arith, c .before .before .before .loop-test .taken)
 
 loop-again : tie.Need-loop-again Inv-loop μ-loop
-loop-again c = (omega (arith, c .before .before .before .loop-test .taken), rw (c .arity .ensures, c .before .of .ensures) (sym (doubly-more (c .before .before .before .before .before .before .args .gates .now) (c .before .before .before .before .loop .i) (c .before .before .before .before .loop .found) (c .before .before .before .loop-test .taken)) ∙ c .before .before .before .before .loop .inv .1))
+loop-again c =
+    let the-of = c .before .of in
+    let loop-test = c .before .before .before .loop-test in
+    let the-loop = c .before .before .before .before .loop in
+    let args = c .before .before .before .before .before .before .args in (
+      omega (arith, loop-test .taken),
+      rw (
+        c .arity .ensures,
+        the-of .ensures,
+      ) (sym (doubly-more (args .gates .now) (the-loop .i) (the-loop .found) (loop-test .taken)) ∙ the-loop .inv .1),
+    )
 
 returns : tie.Need-returns Inv-loop μ-loop
 returns c = sym (doubly-end (c .before .before .before .args .gates .now) (c .before .loop .i) (c .before .loop .found) (c .loop-test .left)) ∙ c .before .loop .inv .1

@@ -52,10 +52,26 @@ refuse-if-requires-4 c κs = search needs
 
 returns : tie.Need-returns
 returns c =
-    clifford-checked (c .before .before .before .before .before .before .before .before .before .before .before .before .before .before .args .header) (c .before .before .before .before .before .before .before .before .before .before .before .before .before .before .args .nodes) (c .before .before .before .before .before .before .before .before .before .before .before .before .before .before .args .frame .now) (c .before .before .before .before .before .before .before .before .before .before .before .before .before .before .args .kind) (c .before .before .before .before .before .before .before .before .before .before .before .before .before .before .args .a) (c .before .before .before .before .before .before .before .before .before .before .before .before .before .before .args .b) (c .before .before .before .before .before .before .before .before .before .breaks-limit .result) (c .before .before .before .before .before .before .before .before .exceeds-nodes .result) (c .before .before .before .before .before .before .before .before .before .before .names-unused .result)
-    (c .before .before .before .before .before .before .before .refuse-if .result) (c .before .before .before .before .before .refuse-if2 .result) (c .before .before .before .before .check-qubits .result) (c .before .before .before .refuse-if3 .result) (c .refuse-if4 .result) (c .before .before .before .before .before .before .before .before .before .breaks-limit .ensures) (c .before .before .before .before .before .before .before .before .exceeds-nodes .ensures) (c .before .before .before .before .before .before .before .before .before .before .names-unused .ensures) (c .before .before .before .before .before .before .before .refuse-if .ensures)
-    (rw (← (c .before .before .before .before .before .before .is-frame .ensures ∙ ap isFrame (c .before .before .before .before .before .before .before .before .before .before .before .before .of .ensures))) (c .before .before .before .before .before .refuse-if2 .ensures)) (rw (← c .before .before .before .before .before .before .before .before .before .before .before .before .of .ensures) (c .before .before .before .before .check-qubits .ensures)) (c .before .before .before .refuse-if3 .ensures)
-    (rw (← (c .before .no-node-room .ensures ∙ ap (noNodeRoom (c .before .before .before .before .before .before .before .before .before .before .before .before .before .before .args .header) (c .before .before .before .before .before .before .before .before .before .before .before .before .before .before .args .nodes)) (c .before .before .frame-nodes .ensures ∙ ap frameNodes (c .before .before .before .before .before .before .before .before .before .before .before .before .of .ensures)))) (c .refuse-if4 .ensures))
+    let no-node-room = c .before .no-node-room in
+    let frame-nodes = c .before .before .frame-nodes in
+    let refuse-if3 = c .before .before .before .refuse-if3 in
+    let check-qubits = c .before .before .before .before .check-qubits in
+    let refuse-if2 = c .before .before .before .before .before .refuse-if2 in
+    let is-frame = c .before .before .before .before .before .before .is-frame in
+    let refuse-if = c .before .before .before .before .before .before .before .refuse-if in
+    let exceeds-nodes = c .before .before .before .before .before .before .before .before .exceeds-nodes in
+    let breaks-limit = c .before .before .before .before .before .before .before .before .before .breaks-limit in
+    let names-unused = c .before .before .before .before .before .before .before .before .before .before .names-unused in
+    let the-of = c .before .before .before .before .before .before .before .before .before .before .before .before .of in
+    let args = c .before .before .before .before .before .before .before .before .before .before .before .before .before .before .args in
+    clifford-checked (args .header) (args .nodes) (args .frame .now) (args .kind) (args .a) (args .b) (breaks-limit .result) (exceeds-nodes .result)
+    (names-unused .result)
+    (refuse-if .result) (refuse-if2 .result) (check-qubits .result) (refuse-if3 .result) (c .refuse-if4 .result) (breaks-limit .ensures)
+    (exceeds-nodes .ensures) (names-unused .ensures) (refuse-if .ensures)
+    (rw (← (is-frame .ensures ∙ ap isFrame (the-of .ensures))) (refuse-if2 .ensures)) (rw (← the-of .ensures) (check-qubits .ensures))
+    (refuse-if3 .ensures)
+    (rw (← (no-node-room .ensures ∙ ap (noNodeRoom (args .header) (args .nodes)) (frame-nodes .ensures ∙ ap frameNodes (the-of .ensures))))
+    (c .refuse-if4 .ensures))
 
 pub check-clifford-spec : {M : Type 1} → statement M
 check-clifford-spec =

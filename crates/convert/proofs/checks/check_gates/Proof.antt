@@ -27,7 +27,16 @@ refuse-if-requires-4 : tie.Need-refuse-if-requires-4
 refuse-if-requires-4 c κs = search needs
 
 returns : tie.Need-returns
-returns c = gates-checked (c .before .before .before .before .before .before .before .before .args .qubits) (c .before .before .before .before .before .before .before .before .args .cbits) (c .before .before .before .before .before .before .before .before .args .cap) (c .before .before .before .before .before .before .before .before .args .gates .now) (c .before .before .before .before .before .before .before .before .args .planes) _ _ _ _ _ _ _ (c .before .before .before .before .before .before .refuse-if .ensures) (c .before .before .before .before .before .refuse-if2 .ensures) (c .before .before .before .before .check-records .ensures) (c .before .before .before .cap-too-small .ensures) (c .before .before .refuse-if3 .ensures) (c .before .planes-too-few .ensures) (c .refuse-if4 .ensures)
+returns c =
+    let planes-too-few = c .before .planes-too-few in
+    let refuse-if3 = c .before .before .refuse-if3 in
+    let cap-too-small = c .before .before .before .cap-too-small in
+    let check-records = c .before .before .before .before .check-records in
+    let refuse-if2 = c .before .before .before .before .before .refuse-if2 in
+    let refuse-if = c .before .before .before .before .before .before .refuse-if in
+    let args = c .before .before .before .before .before .before .before .before .args in
+    gates-checked (args .qubits) (args .cbits) (args .cap) (args .gates .now) (args .planes) _ _ _ _ _ _ _ (refuse-if .ensures) (refuse-if2 .ensures)
+    (check-records .ensures) (cap-too-small .ensures) (refuse-if3 .ensures) (planes-too-few .ensures) (c .refuse-if4 .ensures)
 
 pub check-gates-spec : {M : Type 1} → statement M
 check-gates-spec =

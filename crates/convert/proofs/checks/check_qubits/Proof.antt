@@ -16,7 +16,12 @@ check-operand-requires : tie.Need-check-operand-requires
 check-operand-requires c κs = search needs
 
 returns-2 : tie.Need-returns-2
-returns-2 c = one-checked (c .before .before .before .before .args .checked) (c .before .before .before .before .args .n) (c .before .before .before .before .args .i) (c .before .before .before .before .args .kind) (c .before .before .before .before .args .a) (c .before .before .before .before .args .b) (c .before .before .before .before .args .c) _ (c .before .check-operand .ensures) (rw (← c .before .before .before .arity .ensures) (c .if2 .taken))
+returns-2 c =
+    let check-operand = c .before .check-operand in
+    let arity = c .before .before .before .arity in
+    let args = c .before .before .before .before .args in
+    one-checked (args .checked) (args .n) (args .i) (args .kind) (args .a) (args .b) (args .c) _ (check-operand .ensures) (rw (← arity .ensures)
+    (c .if2 .taken))
 
 check-operand-requires-2 : tie.Need-check-operand-requires-2
 check-operand-requires-2 c κs = search needs
@@ -25,7 +30,14 @@ refuse-if-requires : tie.Need-refuse-if-requires
 refuse-if-requires c κs = search needs
 
 returns-3 : tie.Need-returns-3
-returns-3 c = two-checked (c .before .before .before .before .before .before .before .args .checked) (c .before .before .before .before .before .before .before .args .n) (c .before .before .before .before .before .before .before .args .i) (c .before .before .before .before .before .before .before .args .kind) (c .before .before .before .before .before .before .before .args .a) (c .before .before .before .before .before .before .before .args .b) (c .before .before .before .before .before .before .before .args .c) _ _ _ (c .before .before .before .before .check-operand .ensures) (c .before .before .check-operand2 .ensures) (c .before .refuse-if .ensures) (sym (c .before .before .before .before .before .before .arity .ensures) ∙ c .if3 .taken)
+returns-3 c =
+    let refuse-if = c .before .refuse-if in
+    let check-operand2 = c .before .before .check-operand2 in
+    let check-operand = c .before .before .before .before .check-operand in
+    let arity = c .before .before .before .before .before .before .arity in
+    let args = c .before .before .before .before .before .before .before .args in
+    two-checked (args .checked) (args .n) (args .i) (args .kind) (args .a) (args .b) (args .c) _ _ _ (check-operand .ensures) (check-operand2 .ensures)
+    (refuse-if .ensures) (sym (arity .ensures) ∙ c .if3 .taken)
 
 check-operand-requires-3 : tie.Need-check-operand-requires-3
 check-operand-requires-3 c κs = search needs
@@ -34,7 +46,19 @@ refuse-if-requires-2 : tie.Need-refuse-if-requires-2
 refuse-if-requires-2 c κs = search needs
 
 returns-4 : tie.Need-returns-4
-returns-4 c = three-checked (c .before .before .before .before .before .before .before .before .before .args .checked) (c .before .before .before .before .before .before .before .before .before .args .n) (c .before .before .before .before .before .before .before .before .before .args .i) (c .before .before .before .before .before .before .before .before .before .args .kind) (c .before .before .before .before .before .before .before .before .before .args .a) (c .before .before .before .before .before .before .before .before .before .args .b) (c .before .before .before .before .before .before .before .before .before .args .c) _ _ _ _ _ (c .before .before .before .before .before .before .check-operand .ensures) (c .before .before .before .before .check-operand2 .ensures) (c .before .before .before .refuse-if .ensures) (c .before .check-operand3 .ensures) (c .refuse-if2 .ensures) (λ e. c .before .before .before .before .before .before .before .if1 .left (c .before .before .before .before .before .before .before .before .arity .ensures ∙ e)) (rw (← c .before .before .before .before .before .before .before .before .arity .ensures) (c .before .before .before .before .before .if2 .left)) (λ e. c .before .before .if3 .left (c .before .before .before .before .before .before .before .before .arity .ensures ∙ e))
+returns-4 c =
+    let check-operand3 = c .before .check-operand3 in
+    let if3 = c .before .before .if3 in
+    let refuse-if = c .before .before .before .refuse-if in
+    let check-operand2 = c .before .before .before .before .check-operand2 in
+    let if2 = c .before .before .before .before .before .if2 in
+    let check-operand = c .before .before .before .before .before .before .check-operand in
+    let if1 = c .before .before .before .before .before .before .before .if1 in
+    let arity = c .before .before .before .before .before .before .before .before .arity in
+    let args = c .before .before .before .before .before .before .before .before .before .args in
+    three-checked (args .checked) (args .n) (args .i) (args .kind) (args .a) (args .b) (args .c) _ _ _ _ _ (check-operand .ensures)
+    (check-operand2 .ensures) (refuse-if .ensures) (check-operand3 .ensures) (c .refuse-if2 .ensures) (λ e. if1 .left (arity .ensures ∙ e)) (rw
+    (← arity .ensures) (if2 .left)) (λ e. if3 .left (arity .ensures ∙ e))
 
 pub check-qubits-spec : {M : Type 1} → statement M
 check-qubits-spec =

@@ -27,8 +27,16 @@ refuse-if-requires-2 c κs = search needs
 
 returns : tie.Need-returns
 returns c =
-    record-checked (c .before .before .before .before .before .before .args .checked) (c .before .before .before .before .before .before .args .n) (c .before .before .before .before .before .before .args .cbits) (c .before .before .before .before .before .before .args .i) (c .before .before .before .before .before .before .args .number) (c .before .before .before .before .before .before .args .a) (c .before .before .before .before .before .before .args .b) (c .before .before .before .before .before .before .args .c) (c .before .before .before .refuse-if .result) (c .before .before .check-qubits .result) (c .refuse-if2 .result)
-    (rw (← (c .before .before .before .before .arity .ensures ∙ ap arityOf (c .before .before .before .before .before .of .ensures))) (c .before .before .before .refuse-if .ensures)) (rw (← c .before .before .before .before .before .of .ensures) (c .before .before .check-qubits .ensures)) (rw (← (c .before .arity2 .ensures ∙ ap arityOf (c .before .before .before .before .before .of .ensures))) (c .refuse-if2 .ensures))
+    let arity2 = c .before .arity2 in
+    let check-qubits = c .before .before .check-qubits in
+    let refuse-if = c .before .before .before .refuse-if in
+    let arity = c .before .before .before .before .arity in
+    let the-of = c .before .before .before .before .before .of in
+    let args = c .before .before .before .before .before .before .args in
+    record-checked (args .checked) (args .n) (args .cbits) (args .i) (args .number) (args .a) (args .b) (args .c) (refuse-if .result)
+    (check-qubits .result) (c .refuse-if2 .result)
+    (rw (← (arity .ensures ∙ ap arityOf (the-of .ensures))) (refuse-if .ensures)) (rw (← the-of .ensures) (check-qubits .ensures)) (rw (←
+    (arity2 .ensures ∙ ap arityOf (the-of .ensures))) (c .refuse-if2 .ensures))
 
 pub check-record-spec : {M : Type 1} → statement M
 check-record-spec =

@@ -81,7 +81,14 @@ loop-less : tie.Need-loop-less Inv-loop μ-loop
 loop-less c = omega (arith, c .before .before .before .before .before .loop-test .taken)
 
 loop-again : tie.Need-loop-again Inv-loop μ-loop
-loop-again c = (omega (arith, c .before .before .before .before .before .loop-test .taken), rw (c .check-record .ensures) (sym (checks-more (c .before .before .before .before .before .before .loop .checked) (c .before .before .before .before .before .before .before .before .before .before .args .n) (c .before .before .before .before .before .before .before .before .before .before .args .cbits) (c .before .before .before .before .before .before .before .before .before .before .args .gates .now) (c .before .before .before .before .before .before .loop .i) (c .before .before .before .before .before .loop-test .taken)) ∙ c .before .before .before .before .before .before .loop .inv .1))
+loop-again c =
+    let loop-test = c .before .before .before .before .before .loop-test in
+    let the-loop = c .before .before .before .before .before .before .loop in
+    let args = c .before .before .before .before .before .before .before .before .before .before .args in (
+      omega (arith, loop-test .taken),
+      rw (c .check-record .ensures) (sym (checks-more (the-loop .checked) (args .n) (args .cbits) (args .gates .now)
+          (the-loop .i) (loop-test .taken)) ∙ the-loop .inv .1),
+    )
 
 returns-2 : tie.Need-returns-2 Inv-loop μ-loop
 returns-2 c = sym (checks-end (c .before .loop .checked) (c .before .before .before .before .before .args .n) (c .before .before .before .before .before .args .cbits) (c .before .before .before .before .before .args .gates .now) (c .before .loop .i) (c .loop-test .left)) ∙ c .before .loop .inv .1

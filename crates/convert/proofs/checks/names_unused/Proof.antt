@@ -36,7 +36,18 @@ loop-less : tie.Need-loop-less Inv-loop μ-loop
 loop-less c = omega (arith, c .before .loop-test .taken)
 
 loop-again : tie.Need-loop-again Inv-loop μ-loop
-loop-again c = (omega (arith, c .before .loop-test .taken), sym (unused-more (c .before .before .before .before .before .args .used) (c .before .before .before .before .before .args .words) (c .before .before .loop .i) (c .before .before .before .before .before .args .frame .now) (c .before .before .loop .found) (omega (arith, c .before .loop-test .taken, c .before .before .before .least .ensures))) ∙ c .before .before .loop .inv .1)
+loop-again c =
+    let loop-test = c .before .loop-test in
+    let the-loop = c .before .before .loop in
+    let least = c .before .before .before .least in
+    let args = c .before .before .before .before .before .args in (
+      omega (arith, loop-test .taken),
+      sym (unused-more (args .used) (args .words) (the-loop .i) (args .frame .now) (the-loop .found) (omega (
+        arith,
+        loop-test .taken,
+        least .ensures,
+      ))) ∙ the-loop .inv .1,
+    )
 
 returns : tie.Need-returns Inv-loop μ-loop
 returns c = sym (unused-end (c .before .before .before .before .args .used) (c .before .before .before .before .args .words) (c .before .loop .i) (c .before .before .before .before .args .frame .now) (c .before .loop .found) (omega (arith, c .loop-test .left, c .before .before .least .ensures))) ∙ c .before .loop .inv .1

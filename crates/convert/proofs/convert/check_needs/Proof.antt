@@ -26,7 +26,13 @@ enum-told-2 : tie.Need-enum-told-2
 enum-told-2 c = search needs
 
 returns : tie.Need-returns
-returns c = rw (c .before .before .before .cap .given .1) (fits-most (c .before .before .before .before .before .before .before .before .before .args .qubits) _ (c .before .before .before .before .before .before .before .before .before .args .gates .now) (c .before .before .before .before .before .before .before .before .before .args .planes .now) (c .before .before .before .before .before .before .before .before .before .args .frame) (c .before .before .before .before .before .before .before .before .before .args .nodes) (c .before .before .before .before .before .before .before .before .before .args .operations) (c .before .before .before .before .before .before .sum-records .result) (c .before .before .before .before .before .check-room .result) (c .before .before .before .before .before .before .sum-records .ensures ∙ rw (c .before .before .before .cap .given .1)) (c .before .before .before .before .before .check-room .ensures) (c .enum-told2 .given .1))
+returns c =
+    let cap = c .before .before .before .cap in
+    let check-room = c .before .before .before .before .before .check-room in
+    let sum-records = c .before .before .before .before .before .before .sum-records in
+    let args = c .before .before .before .before .before .before .before .before .before .args in
+    rw (cap .given .1) (fits-most (args .qubits) _ (args .gates .now) (args .planes .now) (args .frame) (args .nodes) (args .operations)
+    (sum-records .result) (check-room .result) (sum-records .ensures ∙ rw (cap .given .1)) (check-room .ensures) (c .enum-told2 .given .1))
 
 enum-told-3 : tie.Need-enum-told-3
 enum-told-3 c = search needs
@@ -43,13 +49,24 @@ check-room-requires-2 : tie.Need-check-room-requires-2
 check-room-requires-2 c κs = search needs
 
 returns-2 : tie.Need-returns-2
-returns-2 c = rw (c .enum-told .given .1) (summed-needs (c .before .before .before .before .before .before .args .qubits) (c .before .before .before .before .before .before .args .gates .now) (c .before .before .before .before .before .before .args .planes .now) (c .before .before .before .before .before .before .args .frame) (c .before .before .before .before .before .before .args .nodes) (c .before .before .before .before .before .before .args .operations) (c .before .before .before .sum-records .result) (c .before .before .check-room .result) (c .before .before .before .sum-records .ensures ∙ rw (c .enum-told .given .1)) (c .before .before .check-room .ensures))
+returns-2 c =
+    let check-room = c .before .before .check-room in
+    let sum-records = c .before .before .before .sum-records in
+    let args = c .before .before .before .before .before .before .args in
+    rw (c .enum-told .given .1) (summed-needs (args .qubits) (args .gates .now) (args .planes .now) (args .frame) (args .nodes) (args .operations)
+    (sum-records .result) (check-room .result) (sum-records .ensures ∙ rw (c .enum-told .given .1)) (check-room .ensures))
 
 same-length : tie.Need-same-length
 same-length c = search needs
 
 returns-3 : tie.Need-returns-3
-returns-3 c = rw (c .before .before .before .before .before .before .before .before .before .cap .given .1) (counted (c .before .before .before .before .before .before .before .before .before .before .before .before .before .before .before .args .qubits) _ (c .before .before .before .before .before .before .before .before .before .before .before .before .before .before .before .args .gates .now) (c .before .before .before .before .before .before .before .before .before .before .before .before .before .before .before .args .planes .now) _ (c .before .before .before .before .before .before .before .before .before .before .before .before .before .before .before .args .frame) (c .before .before .before .before .before .before .before .before .before .before .before .before .before .before .before .args .nodes) (c .before .before .before .before .before .before .before .before .before .before .before .before .before .before .before .args .operations) (c .before .before .before .count-records .result) (c .check-room2 .result) (c .before .before .before .count-records .ensures .0) (c .before .before .before .count-records .ensures .1) (c .check-room2 .ensures))
+returns-3 c =
+    let count-records = c .before .before .before .count-records in
+    let cap = c .before .before .before .before .before .before .before .before .before .cap in
+    let back12 = c .before .before .before .before .before .before .before .before .before .before .before .before in
+    let args = back12 .before .before .before .args in
+    rw (cap .given .1) (counted (args .qubits) _ (args .gates .now) (args .planes .now) _ (args .frame) (args .nodes) (args .operations)
+    (count-records .result) (c .check-room2 .result) (count-records .ensures .0) (count-records .ensures .1) (c .check-room2 .ensures))
 
 pub check-needs-spec : {M : Type 1} → statement M
 check-needs-spec =

@@ -15,7 +15,12 @@ enum-known-checked : tie.Need-enum-known-checked
 enum-known-checked c = search needs
 
 returns : tie.Need-returns
-returns c = refused-first (c .before .before .before .before .before .before .before .before .before .args .qubits) (c .before .before .before .before .before .before .before .before .before .args .cbits) (c .before .before .before .before .before .before .before .before .before .args .owner) (c .before .before .before .before .before .before .before .before .before .args .cap) (c .before .before .before .before .before .before .before .before .before .args .gates .now) (c .before .before .before .before .before .before .before .before .before .args .nodes .now) (c .before .before .before .before .before .before .before .before .before .args .operations .now) (c .before .before .before .before .before .before .before .before .before .args .frame .now) (c .before .before .before .before .before .before .before .before .before .args .planes .now) _ (sym (c .before .before .before .check-gates .ensures) ∙ c .before .checked .given .1)
+returns c =
+    let checked = c .before .checked in
+    let check-gates = c .before .before .before .check-gates in
+    let args = c .before .before .before .before .before .before .before .before .before .args in
+    refused-first (args .qubits) (args .cbits) (args .owner) (args .cap) (args .gates .now) (args .nodes .now) (args .operations .now)
+    (args .frame .now) (args .planes .now) _ (sym (check-gates .ensures) ∙ checked .given .1)
 
 enum-told : tie.Need-enum-told
 enum-told c = search needs
@@ -34,10 +39,17 @@ same-length c = search needs
 
 returns-2 : tie.Need-returns-2
 returns-2 c =
-    let passed = sym (c .before .before .before .before .before .before .before .before .before .check-gates .ensures) ∙ c .before .before .before .before .before .before .before .enum-told .given .1 in
-    let k = c .before .before .before .before .before .check-needs .ensures in
-    let counts = counts-are (c .before .before .before .before .before .before .before .before .before .before .before .before .before .before .before .args .qubits) (c .before .before .before .before .before .before .before .before .before .before .before .before .before .before .before .args .cap) (c .before .before .before .before .before .before .before .before .before .before .before .before .before .before .before .args .gates .now) in
-    refused-second (c .before .before .before .before .before .before .before .before .before .before .before .before .before .before .before .args .qubits) (c .before .before .before .before .before .before .before .before .before .before .before .before .before .before .before .args .cbits) (c .before .before .before .before .before .before .before .before .before .before .before .before .before .before .before .args .owner) (c .before .before .before .before .before .before .before .before .before .before .before .before .before .before .before .args .cap) (c .before .before .before .before .before .before .before .before .before .before .before .before .before .before .before .args .gates .now) (c .before .before .before .before .before .before .before .before .before .before .before .before .before .before .before .args .nodes .now) (c .before .before .before .before .before .before .before .before .before .before .before .before .before .before .before .args .operations .now) (c .before .before .before .before .before .before .before .before .before .before .before .before .before .before .before .args .frame .now) (c .before .before .before .before .before .before .before .before .before .before .before .before .before .before .before .args .planes .now) passed _ _ (counts .0) (counts .1) _ _ (sym (k .same) ∙ c .before .room .given .1) (k .ended _ (c .before .room .given .1))
+    let the-room = c .before .room in
+    let check-needs = c .before .before .before .before .before .check-needs in
+    let the-enum-told = c .before .before .before .before .before .before .before .enum-told in
+    let check-gates = c .before .before .before .before .before .before .before .before .before .check-gates in
+    let back12 = c .before .before .before .before .before .before .before .before .before .before .before .before in
+    let args = back12 .before .before .before .args in
+    let passed = sym (check-gates .ensures) ∙ the-enum-told .given .1 in
+    let k = check-needs .ensures in
+    let counts = counts-are (args .qubits) (args .cap) (args .gates .now) in
+    refused-second (args .qubits) (args .cbits) (args .owner) (args .cap) (args .gates .now) (args .nodes .now) (args .operations .now)
+    (args .frame .now) (args .planes .now) passed _ _ (counts .0) (counts .1) _ _ (sym (k .same) ∙ the-room .given .1) (k .ended _ (the-room .given .1))
 
 enum-told-2 : tie.Need-enum-told-2
 enum-told-2 c = search needs
@@ -59,12 +71,22 @@ same-length-4 c = search needs
 
 returns-3 : tie.Need-returns-3
 returns-3 c =
-    let passed = sym (c .before .before .before .before .before .before .before .before .before .before .before .before .before .before .before .before .before .before .check-gates .ensures) ∙ c .before .before .before .before .before .before .before .before .before .before .before .before .before .before .before .before .enum-told .given .1 in
-    let g = gates-fit (c .before .before .before .before .before .before .before .before .before .before .before .before .before .before .before .before .before .before .before .before .before .before .before .before .args .qubits) (c .before .before .before .before .before .before .before .before .before .before .before .before .before .before .before .before .before .before .before .before .before .before .before .before .args .cbits) (c .before .before .before .before .before .before .before .before .before .before .before .before .before .before .before .before .before .before .before .before .before .before .before .before .args .cap) (c .before .before .before .before .before .before .before .before .before .before .before .before .before .before .before .before .before .before .before .before .before .before .before .before .args .gates .now) _ passed in
-    let k = c .before .before .before .before .before .before .before .before .before .before .before .before .before .before .check-needs .ensures in
-    let ok = sym (k .same) ∙ c .before .before .before .before .before .before .before .before .before .before .enum-told2 .given .1 in
-    let n1 = new-words (c .before .before .before .before .before .before .before .before .before .before .before .before .before .before .before .before .before .before .before .before .before .before .before .before .args .qubits) (c .before .before .before .before .before .before .before .before .before .before .before .before .before .before .before .before .before .before .before .before .before .before .before .before .args .cbits) (c .before .before .before .before .before .before .before .before .before .before .before .before .before .before .before .before .before .before .before .before .before .before .before .before .args .owner) (c .before .before .before .before .before .before .before .before .before .before .before .before .before .before .before .before .before .before .before .before .before .before .before .before .args .nodes .now) (c .before .before .before .before .before .before .before .before .before .before .before .before .before .before .before .before .before .before .before .before .before .before .before .before .args .frame .now) (new-fine (c .before .before .before .before .before .before .before .before .before .before .before .before .before .before .before .before .before .before .before .before .before .before .before .before .args .qubits) (c .before .before .before .before .before .before .before .before .before .before .before .before .before .before .before .before .before .before .before .before .before .before .before .before .args .cbits) (c .before .before .before .before .before .before .before .before .before .before .before .before .before .before .before .before .before .before .before .before .before .before .before .before .args .gates .now) (c .before .before .before .before .before .before .before .before .before .before .before .before .before .before .before .before .before .before .before .before .before .before .before .before .args .cap) (c .before .before .before .before .before .before .before .before .before .before .before .before .before .before .before .before .before .before .before .before .before .before .before .before .args .nodes .now) (c .before .before .before .before .before .before .before .before .before .before .before .before .before .before .before .before .before .before .before .before .before .before .before .before .args .operations .now) (c .before .before .before .before .before .before .before .before .before .before .before .before .before .before .before .before .before .before .before .before .before .before .before .before .args .frame .now) (c .before .before .before .before .before .before .before .before .before .before .before .before .before .before .before .before .before .before .before .before .before .before .before .before .args .planes .now) _ _ g ok (start-least (c .before .before .before .before .before .before .before .before .before .before .before .before .before .before .before .before .before .before .before .before .before .before .before .before .args .qubits) (c .before .before .before .before .before .before .before .before .before .before .before .before .before .before .before .before .before .before .before .before .before .before .before .before .args .cap) (c .before .before .before .before .before .before .before .before .before .before .before .before .before .before .before .before .before .before .before .before .before .before .before .before .args .gates .now))) in
-    absurd (not-refused (newHeader (c .before .before .before .before .before .before .before .before .before .before .before .before .before .before .before .before .before .before .before .before .before .before .before .before .args .qubits) (c .before .before .before .before .before .before .before .before .before .before .before .before .before .before .before .before .before .before .before .before .before .before .before .before .args .cbits) (c .before .before .before .before .before .before .before .before .before .before .before .before .before .before .before .before .before .before .before .before .before .before .before .before .args .owner)) _ _ (c .before .before .before .before .before .before .before .new .ensures .0 ∙ n1 .0) (c .before .created .given .1))
+    let created = c .before .created in
+    let new = c .before .before .before .before .before .before .before .new in
+    let enum-told2 = c .before .before .before .before .before .before .before .before .before .before .enum-told2 in
+    let check-needs = c .before .before .before .before .before .before .before .before .before .before .before .before .before .before .check-needs in
+    let back12 = c .before .before .before .before .before .before .before .before .before .before .before .before in
+    let the-enum-told = back12 .before .before .before .before .enum-told in
+    let check-gates = back12 .before .before .before .before .before .before .check-gates in
+    let args = back12 .before .before .before .before .before .before .before .before .before .before .before .before .args in
+    let passed = sym (check-gates .ensures) ∙ the-enum-told .given .1 in
+    let g = gates-fit (args .qubits) (args .cbits) (args .cap) (args .gates .now) _ passed in
+    let k = check-needs .ensures in
+    let ok = sym (k .same) ∙ enum-told2 .given .1 in
+    let n1 = new-words (args .qubits) (args .cbits) (args .owner) (args .nodes .now) (args .frame .now) (new-fine (args .qubits) (args .cbits)
+    (args .gates .now) (args .cap) (args .nodes .now) (args .operations .now) (args .frame .now) (args .planes .now) _ _ g ok (start-least
+    (args .qubits) (args .cap) (args .gates .now))) in
+    absurd (not-refused (newHeader (args .qubits) (args .cbits) (args .owner)) _ _ (new .ensures .0 ∙ n1 .0) (created .given .1))
 
 enum-told-3 : tie.Need-enum-told-3
 enum-told-3 c = search needs
@@ -74,18 +96,38 @@ part-words-requires c κs = search needs
 
 write-records-requires : tie.Need-write-records-requires
 write-records-requires c κs =
-    let passed = sym (c .before .before .before .before .before .before .before .before .before .before .before .before .before .before .before .before .before .before .before .before .before .before .check-gates .ensures) ∙ c .before .before .before .before .before .before .before .before .before .before .before .before .before .before .before .before .before .before .before .before .enum-told .given .1 in
-    let g = gates-fit (c .before .before .before .before .before .before .before .before .before .before .before .before .before .before .before .before .before .before .before .before .before .before .before .before .before .before .before .before .args .qubits) (c .before .before .before .before .before .before .before .before .before .before .before .before .before .before .before .before .before .before .before .before .before .before .before .before .before .before .before .before .args .cbits) (c .before .before .before .before .before .before .before .before .before .before .before .before .before .before .before .before .before .before .before .before .before .before .before .before .before .before .before .before .args .cap) (c .before .before .before .before .before .before .before .before .before .before .before .before .before .before .before .before .before .before .before .before .before .before .before .before .before .before .before .before .args .gates .now) _ passed in
-    let k = c .before .before .before .before .before .before .before .before .before .before .before .before .before .before .before .before .before .before .check-needs .ensures in
-    let ok = sym (k .same) ∙ c .before .before .before .before .before .before .before .before .before .before .before .before .before .before .enum-told2 .given .1 in
-    let n1 = new-words (c .before .before .before .before .before .before .before .before .before .before .before .before .before .before .before .before .before .before .before .before .before .before .before .before .before .before .before .before .args .qubits) (c .before .before .before .before .before .before .before .before .before .before .before .before .before .before .before .before .before .before .before .before .before .before .before .before .before .before .before .before .args .cbits) (c .before .before .before .before .before .before .before .before .before .before .before .before .before .before .before .before .before .before .before .before .before .before .before .before .before .before .before .before .args .owner) (c .before .before .before .before .before .before .before .before .before .before .before .before .before .before .before .before .before .before .before .before .before .before .before .before .before .before .before .before .args .nodes .now) (c .before .before .before .before .before .before .before .before .before .before .before .before .before .before .before .before .before .before .before .before .before .before .before .before .before .before .before .before .args .frame .now) (new-fine (c .before .before .before .before .before .before .before .before .before .before .before .before .before .before .before .before .before .before .before .before .before .before .before .before .before .before .before .before .args .qubits) (c .before .before .before .before .before .before .before .before .before .before .before .before .before .before .before .before .before .before .before .before .before .before .before .before .before .before .before .before .args .cbits) (c .before .before .before .before .before .before .before .before .before .before .before .before .before .before .before .before .before .before .before .before .before .before .before .before .before .before .before .before .args .gates .now) (c .before .before .before .before .before .before .before .before .before .before .before .before .before .before .before .before .before .before .before .before .before .before .before .before .before .before .before .before .args .cap) (c .before .before .before .before .before .before .before .before .before .before .before .before .before .before .before .before .before .before .before .before .before .before .before .before .before .before .before .before .args .nodes .now) (c .before .before .before .before .before .before .before .before .before .before .before .before .before .before .before .before .before .before .before .before .before .before .before .before .before .before .before .before .args .operations .now) (c .before .before .before .before .before .before .before .before .before .before .before .before .before .before .before .before .before .before .before .before .before .before .before .before .before .before .before .before .args .frame .now) (c .before .before .before .before .before .before .before .before .before .before .before .before .before .before .before .before .before .before .before .before .before .before .before .before .before .before .before .before .args .planes .now) _ _ g ok (start-least (c .before .before .before .before .before .before .before .before .before .before .before .before .before .before .before .before .before .before .before .before .before .before .before .before .before .before .before .before .args .qubits) (c .before .before .before .before .before .before .before .before .before .before .before .before .before .before .before .before .before .before .before .before .before .before .before .before .before .before .before .before .args .cap) (c .before .before .before .before .before .before .before .before .before .before .before .before .before .before .before .before .before .before .before .before .before .before .before .before .before .before .before .before .args .gates .now))) in
-    let room = room-from (c .before .before .before .before .before .before .before .before .before .before .before .before .before .before .before .before .before .before .before .before .before .before .before .before .before .before .before .before .args .qubits) (c .before .before .before .before .before .before .before .before .before .before .before .before .before .before .before .before .before .before .before .before .before .before .before .before .before .before .before .before .args .cap) (c .before .before .before .before .before .before .before .before .before .before .before .before .before .before .before .before .before .before .before .before .before .before .before .before .before .before .before .before .args .gates .now) (c .before .before .before .before .before .before .before .before .before .before .before .before .before .before .before .before .before .before .before .before .before .before .before .before .before .before .before .before .args .nodes .now) (c .before .before .before .before .before .before .before .before .before .before .before .before .before .before .before .before .before .before .before .before .before .before .before .before .before .before .before .before .args .operations .now) (c .before .before .before .before .before .before .before .before .before .before .before .before .before .before .before .before .before .before .before .before .before .before .before .before .before .before .before .before .args .frame .now) _ _ ok refl refl in (
+    let part-words = c .before .before .before .before .part-words in
+    let new = c .before .before .before .before .before .before .before .before .before .before .before .new in
+    let enum-told2 = c .before .before .before .before .before .before .before .before .before .before .before .before .before .before .enum-told2 in
+    let back12 = c .before .before .before .before .before .before .before .before .before .before .before .before in
+    let check-needs = back12 .before .before .before .before .before .before .check-needs in
+    let the-enum-told = back12 .before .before .before .before .before .before .before .before .enum-told in
+    let check-gates = back12 .before .before .before .before .before .before .before .before .before .before .check-gates in
+    let back24 = back12 .before .before .before .before .before .before .before .before .before .before .before .before in
+    let args = back24 .before .before .before .before .args in
+    let passed = sym (check-gates .ensures) ∙ the-enum-told .given .1 in
+    let g = gates-fit (args .qubits) (args .cbits) (args .cap) (args .gates .now) _ passed in
+    let k = check-needs .ensures in
+    let ok = sym (k .same) ∙ enum-told2 .given .1 in
+    let n1 = new-words (args .qubits) (args .cbits) (args .owner) (args .nodes .now) (args .frame .now) (new-fine (args .qubits) (args .cbits)
+    (args .gates .now) (args .cap) (args .nodes .now) (args .operations .now) (args .frame .now) (args .planes .now) _ _ g ok (start-least
+    (args .qubits) (args .cap) (args .gates .now))) in
+    let room = room-from (args .qubits) (args .cap) (args .gates .now) (args .nodes .now) (args .operations .now) (args .frame .now) _ _ ok refl refl in (
       g .fits,
       (
-        room-again (c .before .before .before .before .before .before .before .before .before .before .before .before .before .before .before .before .before .before .before .before .before .before .before .before .before .before .before .before .args .qubits) (c .before .before .before .before .before .before .before .before .before .before .before .before .before .before .before .before .before .before .before .before .before .before .before .before .before .before .before .before .args .cap) (c .before .before .before .before .before .before .before .before .before .before .before .before .before .before .before .before .before .before .before .before .before .before .before .before .before .before .before .before .args .gates .now) (c .before .before .before .before .before .before .before .before .before .before .before .before .before .before .before .before .before .before .before .before .before .before .before .before .before .before .before .before .args .nodes .now) (c .before .before .before .before .before .before .before .before .before .before .before .before .before .before .before .before .before .before .before .before .before .before .before .before .before .before .before .before .args .operations .now) _ (room .0) (omega (arith, c .before .before .before .before .before .before .before .before .before .before .before .new .kept)),
+        room-again (args .qubits) (args .cap) (args .gates .now) (args .nodes .now) (args .operations .now) _ (room .0) (omega (arith, new .kept)),
         (
-          (c .before .before .before .before .part-words .ensures, (λ on. let r = g .planes on in rw (c .before .before .before .before .part-words .ensures) (omega (arith, r, c .before .before .before .before .before .before .before .before .before .before .before .before .before .before .before .before .before .before .check-needs .kept))), g .qubits, g .size, omega (arith, room .1, c .before .before .before .before .before .before .before .before .before .before .before .new .kept)),
-          (start-again (startNodes (c .before .before .before .before .before .before .before .before .before .before .before .before .before .before .before .before .before .before .before .before .before .before .before .before .before .before .before .before .args .qubits)) (c .before .before .before .before .before .before .before .before .before .before .before .before .before .before .before .before .before .before .before .before .before .before .before .before .before .before .before .before .args .nodes .now) _ (c .before .before .before .before .before .before .before .before .before .before .before .new .ensures .1 .0 ∙ n1 .1), start-again (startFrame (c .before .before .before .before .before .before .before .before .before .before .before .before .before .before .before .before .before .before .before .before .before .before .before .before .before .before .before .before .args .qubits)) (c .before .before .before .before .before .before .before .before .before .before .before .before .before .before .before .before .before .before .before .before .before .before .before .before .before .before .before .before .args .frame .now) _ (c .before .before .before .before .before .before .before .before .before .before .before .new .ensures .1 .1 ∙ n1 .2)),
+          (
+            part-words .ensures,
+            (λ on. let r = g .planes on in rw (part-words .ensures) (omega (arith, r, check-needs .kept))),
+            g .qubits,
+            g .size,
+            omega (arith, room .1, new .kept),
+          ),
+          (
+            start-again (startNodes (args .qubits)) (args .nodes .now) _ (new .ensures .1 .0 ∙ n1 .1),
+            start-again (startFrame (args .qubits)) (args .frame .now) _ (new .ensures .1 .1 ∙ n1 .2),
+          ),
         ),
       ),
     )
@@ -107,19 +149,31 @@ same-length-8 c = omega (arith, c .before .before .before .before .before .befor
 
 returns-4 : tie.Need-returns-4
 returns-4 c =
-    let passed = sym (c .before .before .before .before .before .before .before .before .before .before .before .before .before .before .before .before .before .before .before .before .before .before .before .before .before .before .before .before .before .before .before .before .check-gates .ensures) ∙ c .before .before .before .before .before .before .before .before .before .before .before .before .before .before .before .before .before .before .before .before .before .before .before .before .before .before .before .before .before .before .enum-told .given .1 in
-    let g = gates-fit (c .before .before .before .before .before .before .before .before .before .before .before .before .before .before .before .before .before .before .before .before .before .before .before .before .before .before .before .before .before .before .before .before .before .before .before .before .before .before .args .qubits) (c .before .before .before .before .before .before .before .before .before .before .before .before .before .before .before .before .before .before .before .before .before .before .before .before .before .before .before .before .before .before .before .before .before .before .before .before .before .before .args .cbits) (c .before .before .before .before .before .before .before .before .before .before .before .before .before .before .before .before .before .before .before .before .before .before .before .before .before .before .before .before .before .before .before .before .before .before .before .before .before .before .args .cap) (c .before .before .before .before .before .before .before .before .before .before .before .before .before .before .before .before .before .before .before .before .before .before .before .before .before .before .before .before .before .before .before .before .before .before .before .before .before .before .args .gates .now) _ passed in
-    let k = c .before .before .before .before .before .before .before .before .before .before .before .before .before .before .before .before .before .before .before .before .before .before .before .before .before .before .before .before .check-needs .ensures in
-    let ok = sym (k .same) ∙ c .before .before .before .before .before .before .before .before .before .before .before .before .before .before .before .before .before .before .before .before .before .before .before .before .enum-told2 .given .1 in
-    let counts = counts-are (c .before .before .before .before .before .before .before .before .before .before .before .before .before .before .before .before .before .before .before .before .before .before .before .before .before .before .before .before .before .before .before .before .before .before .before .before .before .before .args .qubits) (c .before .before .before .before .before .before .before .before .before .before .before .before .before .before .before .before .before .before .before .before .before .before .before .before .before .before .before .before .before .before .before .before .before .before .before .before .before .before .args .cap) (c .before .before .before .before .before .before .before .before .before .before .before .before .before .before .before .before .before .before .before .before .before .before .before .before .before .before .before .before .before .before .before .before .before .before .before .before .before .before .args .gates .now) in
-    let n1 = new-words (c .before .before .before .before .before .before .before .before .before .before .before .before .before .before .before .before .before .before .before .before .before .before .before .before .before .before .before .before .before .before .before .before .before .before .before .before .before .before .args .qubits) (c .before .before .before .before .before .before .before .before .before .before .before .before .before .before .before .before .before .before .before .before .before .before .before .before .before .before .before .before .before .before .before .before .before .before .before .before .before .before .args .cbits) (c .before .before .before .before .before .before .before .before .before .before .before .before .before .before .before .before .before .before .before .before .before .before .before .before .before .before .before .before .before .before .before .before .before .before .before .before .before .before .args .owner) (c .before .before .before .before .before .before .before .before .before .before .before .before .before .before .before .before .before .before .before .before .before .before .before .before .before .before .before .before .before .before .before .before .before .before .before .before .before .before .args .nodes .now) (c .before .before .before .before .before .before .before .before .before .before .before .before .before .before .before .before .before .before .before .before .before .before .before .before .before .before .before .before .before .before .before .before .before .before .before .before .before .before .args .frame .now) (new-fine (c .before .before .before .before .before .before .before .before .before .before .before .before .before .before .before .before .before .before .before .before .before .before .before .before .before .before .before .before .before .before .before .before .before .before .before .before .before .before .args .qubits) (c .before .before .before .before .before .before .before .before .before .before .before .before .before .before .before .before .before .before .before .before .before .before .before .before .before .before .before .before .before .before .before .before .before .before .before .before .before .before .args .cbits) (c .before .before .before .before .before .before .before .before .before .before .before .before .before .before .before .before .before .before .before .before .before .before .before .before .before .before .before .before .before .before .before .before .before .before .before .before .before .before .args .gates .now) (c .before .before .before .before .before .before .before .before .before .before .before .before .before .before .before .before .before .before .before .before .before .before .before .before .before .before .before .before .before .before .before .before .before .before .before .before .before .before .args .cap) (c .before .before .before .before .before .before .before .before .before .before .before .before .before .before .before .before .before .before .before .before .before .before .before .before .before .before .before .before .before .before .before .before .before .before .before .before .before .before .args .nodes .now) (c .before .before .before .before .before .before .before .before .before .before .before .before .before .before .before .before .before .before .before .before .before .before .before .before .before .before .before .before .before .before .before .before .before .before .before .before .before .before .args .operations .now) (c .before .before .before .before .before .before .before .before .before .before .before .before .before .before .before .before .before .before .before .before .before .before .before .before .before .before .before .before .before .before .before .before .before .before .before .before .before .before .args .frame .now) (c .before .before .before .before .before .before .before .before .before .before .before .before .before .before .before .before .before .before .before .before .before .before .before .before .before .before .before .before .before .before .before .before .before .before .before .before .before .before .args .planes .now) _ _ g ok (start-least (c .before .before .before .before .before .before .before .before .before .before .before .before .before .before .before .before .before .before .before .before .before .before .before .before .before .before .before .before .before .before .before .before .before .before .before .before .before .before .args .qubits) (c .before .before .before .before .before .before .before .before .before .before .before .before .before .before .before .before .before .before .before .before .before .before .before .before .before .before .before .before .before .before .before .before .before .before .before .before .before .before .args .cap) (c .before .before .before .before .before .before .before .before .before .before .before .before .before .before .before .before .before .before .before .before .before .before .before .before .before .before .before .before .before .before .before .before .before .before .before .before .before .before .args .gates .now))) in
-    let e = c .before .before .before .before .before .before .before .before .before .write-records .ensures in
+    let write-records = c .before .before .before .before .before .before .before .before .before .write-records in
+    let back12 = c .before .before .before .before .before .before .before .before .before .before .before .before in
+    let new = back12 .before .before .before .before .before .before .before .before .before .new in
+    let enum-told2 = back12 .before .before .before .before .before .before .before .before .before .before .before .before .enum-told2 in
+    let back24 = back12 .before .before .before .before .before .before .before .before .before .before .before .before in
+    let check-needs = back24 .before .before .before .before .check-needs in
+    let the-enum-told = back24 .before .before .before .before .before .before .enum-told in
+    let check-gates = back24 .before .before .before .before .before .before .before .before .check-gates in
+    let args = back24 .before .before .before .before .before .before .before .before .before .before .before .before .before .before .args in
+    let passed = sym (check-gates .ensures) ∙ the-enum-told .given .1 in
+    let g = gates-fit (args .qubits) (args .cbits) (args .cap) (args .gates .now) _ passed in
+    let k = check-needs .ensures in
+    let ok = sym (k .same) ∙ enum-told2 .given .1 in
+    let counts = counts-are (args .qubits) (args .cap) (args .gates .now) in
+    let n1 = new-words (args .qubits) (args .cbits) (args .owner) (args .nodes .now) (args .frame .now) (new-fine (args .qubits) (args .cbits)
+    (args .gates .now) (args .cap) (args .nodes .now) (args .operations .now) (args .frame .now) (args .planes .now) _ _ g ok (start-least
+    (args .qubits) (args .cap) (args .gates .now))) in
+    let e = write-records .ensures in
     let len = e .1 .1 .1 .1 .1 in
     rw (c .header-of .ensures)
-    (made (c .before .before .before .before .before .before .before .before .before .before .before .before .before .before .before .before .before .before .before .before .before .before .before .before .before .before .before .before .before .before .before .before .before .before .before .before .before .before .args .qubits) (c .before .before .before .before .before .before .before .before .before .before .before .before .before .before .before .before .before .before .before .before .before .before .before .before .before .before .before .before .before .before .before .before .before .before .before .before .before .before .args .cbits) (c .before .before .before .before .before .before .before .before .before .before .before .before .before .before .before .before .before .before .before .before .before .before .before .before .before .before .before .before .before .before .before .before .before .before .before .before .before .before .args .owner) (c .before .before .before .before .before .before .before .before .before .before .before .before .before .before .before .before .before .before .before .before .before .before .before .before .before .before .before .before .before .before .before .before .before .before .before .before .before .before .args .cap) (c .before .before .before .before .before .before .before .before .before .before .before .before .before .before .before .before .before .before .before .before .before .before .before .before .before .before .before .before .before .before .before .before .before .before .before .before .before .before .args .gates .now) (c .before .before .before .before .before .before .before .before .before .before .before .before .before .before .before .before .before .before .before .before .before .before .before .before .before .before .before .before .before .before .before .before .before .before .before .before .before .before .args .nodes .now) (c .before .before .before .before .before .before .before .before .before .before .before .before .before .before .before .before .before .before .before .before .before .before .before .before .before .before .before .before .before .before .before .before .before .before .before .before .before .before .args .operations .now) (c .before .before .before .before .before .before .before .before .before .before .before .before .before .before .before .before .before .before .before .before .before .before .before .before .before .before .before .before .before .before .before .before .before .before .before .before .before .before .args .frame .now) (c .before .before .before .before .before .before .before .before .before .before .before .before .before .before .before .before .before .before .before .before .before .before .before .before .before .before .before .before .before .before .before .before .before .before .before .before .before .before .args .planes .now) passed _ _ (counts .0) (counts .1) ok _ _ _ _ _ _ _ (e .0 .0) (e .0 .1) (e .0 .2)
-    (over-start (c .before .before .before .before .before .before .before .before .before .before .before .before .before .before .before .before .before .before .before .before .before .before .before .before .before .before .before .before .before .before .before .before .before .before .before .before .before .before .args .qubits) (c .before .before .before .before .before .before .before .before .before .before .before .before .before .before .before .before .before .before .before .before .before .before .before .before .before .before .before .before .before .before .before .before .before .before .before .before .before .before .args .cap) (c .before .before .before .before .before .before .before .before .before .before .before .before .before .before .before .before .before .before .before .before .before .before .before .before .before .before .before .before .before .before .before .before .before .before .before .before .before .before .args .gates .now) (c .before .before .before .before .before .before .before .before .before .before .before .before .before .before .before .before .before .before .before .before .before .before .before .before .before .before .before .before .before .before .before .before .before .before .before .before .before .before .args .nodes .now) _ _ (c .before .before .before .before .before .before .before .before .before .before .before .before .before .before .before .before .before .before .before .before .before .new .ensures .1 .0 ∙ n1 .1) (e .1 .0) (len .0))
+    (made (args .qubits) (args .cbits) (args .owner) (args .cap) (args .gates .now) (args .nodes .now) (args .operations .now) (args .frame .now)
+    (args .planes .now) passed _ _ (counts .0) (counts .1) ok _ _ _ _ _ _ _ (e .0 .0) (e .0 .1) (e .0 .2)
+    (over-start (args .qubits) (args .cap) (args .gates .now) (args .nodes .now) _ _ (new .ensures .1 .0 ∙ n1 .1) (e .1 .0) (len .0))
     (e .1 .1 .0)
-    (over-frame (c .before .before .before .before .before .before .before .before .before .before .before .before .before .before .before .before .before .before .before .before .before .before .before .before .before .before .before .before .before .before .before .before .before .before .before .before .before .before .args .qubits) (c .before .before .before .before .before .before .before .before .before .before .before .before .before .before .before .before .before .before .before .before .before .before .before .before .before .before .before .before .before .before .before .before .before .before .before .before .before .before .args .cap) (c .before .before .before .before .before .before .before .before .before .before .before .before .before .before .before .before .before .before .before .before .before .before .before .before .before .before .before .before .before .before .before .before .before .before .before .before .before .before .args .gates .now) (c .before .before .before .before .before .before .before .before .before .before .before .before .before .before .before .before .before .before .before .before .before .before .before .before .before .before .before .before .before .before .before .before .before .before .before .before .before .before .args .frame .now) _ _ (c .before .before .before .before .before .before .before .before .before .before .before .before .before .before .before .before .before .before .before .before .before .new .ensures .1 .1 ∙ n1 .2) (e .1 .1 .1 .0) (len .1))
+    (over-frame (args .qubits) (args .cap) (args .gates .now) (args .frame .now) _ _ (new .ensures .1 .1 ∙ n1 .2) (e .1 .1 .1 .0) (len .1))
     (e .1 .1 .1 .1 .0 ∙ k .planes _))
 
 pub to-pbc-spec : {M : Type 1} → statement M

@@ -66,8 +66,15 @@ cost-of-requires c κs = search needs
 
 add-requires : tie.Need-add-requires Inv-loop μ-loop
 add-requires c κs =
-    let p = c .before .before .before .before .before .before .before .before .before .before .before .before .before .before .before .before .before .before .pre .1 in
-    ((omega (arith, c .before .before .before .before .before .before .before .before .before .before .loop .inv .2 .few .0, c .before .before .before .before .before .before .before .before .before .loop-test .taken, p .3), omega (arith, c .before .before .before .before .before .before .before .before .before .before .loop .inv .2 .few .1, c .before .before .before .before .before .before .before .before .before .loop-test .taken, p .3)), few-cost (c .before .before .before .before .before .before .before .before .kind-at .result) _ (c .cost-of .ensures))
+    let kind-at = c .before .before .before .before .before .before .before .before .kind-at in
+    let loop-test = c .before .before .before .before .before .before .before .before .before .loop-test in
+    let the-loop = c .before .before .before .before .before .before .before .before .before .before .loop in
+    let back12 = c .before .before .before .before .before .before .before .before .before .before .before .before in
+    let pre = back12 .before .before .before .before .before .before .pre in
+    let p = pre .1 in (
+      (omega (arith, the-loop .inv .2 .few .0, loop-test .taken, p .3), omega (arith, the-loop .inv .2 .few .1, loop-test .taken, p .3)),
+      few-cost (kind-at .result) _ (c .cost-of .ensures),
+    )
 
 add-i : tie.Need-add-i Inv-loop μ-loop
 add-i c = omega (arith, c .before .before .before .before .before .before .before .before .before .before .loop-test .taken, c .before .before .before .before .before .before .before .before .before .before .before .before .before .before .before .before .before .before .before .pre .1 .3)
@@ -77,10 +84,22 @@ loop-less c = omega (arith, c .before .before .before .before .before .before .b
 
 loop-again : tie.Need-loop-again Inv-loop μ-loop
 loop-again c =
-    let a = c .before .before .before .before .before .before .before .before .before .before .before .before .before .before .before .before .before .before .before .args in (
-      omega (arith, c .before .before .before .before .before .before .before .before .before .before .loop-test .taken),
-      omega (arith, c .before .before .before .before .decide-under .kept, c .before .before .before .before .before .before .before .before .before .before .before .loop .inv .1),
-      count-more (a .n) (AtMost (a .most)) (a .gates .now) _ _ _ (c .before .before .before .before .before .before .before .before .before .before .before .loop .i) (c .before .before .before .before .before .before .before .before .before .kind-at .result) _ _ _ (c .before .before .before .before .decide-under .result) _ _ _ (c .before .before .before .before .before .before .before .before .before .before .before .loop .inv .2) (c .before .before .before .before .before .before .before .before .before .before .loop-test .taken) (c .before .before .before .before .decide-under .ensures) (c .before .cost-of .ensures) (c .add .ensures) (c .before .before .before .before .before .before .before .before .before .kind-at .ensures) (c .before .before .before .before .before .before .before .before .operand-at .ensures) (c .before .before .before .before .before .before .before .operand-at2 .ensures) (c .before .before .before .before .before .before .operand-at3 .ensures),
+    let cost-of = c .before .cost-of in
+    let decide-under = c .before .before .before .before .decide-under in
+    let operand-at3 = c .before .before .before .before .before .before .operand-at3 in
+    let operand-at2 = c .before .before .before .before .before .before .before .operand-at2 in
+    let operand-at = c .before .before .before .before .before .before .before .before .operand-at in
+    let kind-at = c .before .before .before .before .before .before .before .before .before .kind-at in
+    let loop-test = c .before .before .before .before .before .before .before .before .before .before .loop-test in
+    let the-loop = c .before .before .before .before .before .before .before .before .before .before .before .loop in
+    let back12 = c .before .before .before .before .before .before .before .before .before .before .before .before in
+    let args = back12 .before .before .before .before .before .before .before .args in
+    let a = args in (
+      omega (arith, loop-test .taken),
+      omega (arith, decide-under .kept, the-loop .inv .1),
+      count-more (a .n) (AtMost (a .most)) (a .gates .now) _ _ _ (the-loop .i) (kind-at .result) _ _ _ (decide-under .result) _ _ _ (the-loop .inv .2)
+          (loop-test .taken) (decide-under .ensures) (cost-of .ensures) (c .add .ensures) (kind-at .ensures) (operand-at .ensures) (operand-at2 .ensures)
+          (operand-at3 .ensures),
     )
 
 same-length : tie.Need-same-length Inv-loop μ-loop

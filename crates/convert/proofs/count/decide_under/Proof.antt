@@ -14,13 +14,23 @@ tests-requires : tie.Need-tests-requires
 tests-requires c κs = search needs
 
 plane-record-requires : tie.Need-plane-record-requires
-plane-record-requires c κs = (valid-of (c .before .before .before .before .args .n) (c .before .before .before .before .args .kind) (c .before .before .before .before .args .a) (c .before .before .before .before .args .b) (c .before .before .before .before .args .d) (c .before .before .before .before .pre .0), (c .before .before .before .before .pre .1 .1, c .before .before .before .before .pre .1 .2))
+plane-record-requires c κs =
+    let args = c .before .before .before .before .args in
+    let pre = c .before .before .before .before .pre in
+    (valid-of (args .n) (args .kind) (args .a) (args .b) (args .d) (pre .0), (pre .1 .1, pre .1 .2))
 
 same-length : tie.Need-same-length
 same-length c = search needs
 
 returns : tie.Need-returns
-returns c = decided-untested (c .before .before .before .before .before .before .before .args .n) (c .before .before .before .before .before .before .before .args .l) (c .before .before .before .before .before .before .before .args .most) (c .before .before .before .before .before .before .before .args .kind) (c .before .before .before .before .before .before .before .args .a) (c .before .before .before .before .before .before .before .args .b) (c .before .before .before .before .before .before .before .args .d) (c .before .before .before .before .before .before .before .args .planes .now) _ (c .before .before .before .before .before .before .before .pre .1 .0) (c .before .before .before .before .before .before .before .pre .0) (sym (c .before .before .before .before .before .tests .ensures) ∙ c .before .before .before .before .if1 .taken) (c .before .before .plane-record .ensures)
+returns c =
+    let plane-record = c .before .before .plane-record in
+    let if1 = c .before .before .before .before .if1 in
+    let tests = c .before .before .before .before .before .tests in
+    let args = c .before .before .before .before .before .before .before .args in
+    let pre = c .before .before .before .before .before .before .before .pre in
+    decided-untested (args .n) (args .l) (args .most) (args .kind) (args .a) (args .b) (args .d) (args .planes .now) _ (pre .1 .0) (pre .0) (sym
+    (tests .ensures) ∙ if1 .taken) (plane-record .ensures)
 
 heavy-requires : tie.Need-heavy-requires
 heavy-requires c κs = search needs
@@ -32,7 +42,15 @@ same-length-2 : tie.Need-same-length-2
 same-length-2 c = search needs
 
 returns-2 : tie.Need-returns-2
-returns-2 c = decided-tested (c .before .before .before .before .before .before .before .before .before .args .n) (c .before .before .before .before .before .before .before .before .before .args .l) (c .before .before .before .before .before .before .before .before .before .args .most) (c .before .before .before .before .before .before .before .before .before .args .kind) (c .before .before .before .before .before .before .before .before .before .args .a) (c .before .before .before .before .before .before .before .before .before .args .b) (c .before .before .before .before .before .before .before .before .before .args .d) (c .before .before .before .before .before .before .before .before .before .args .planes .now) (c .before .before .before .before .heavy .result) _ (c .before .before .before .before .before .before .before .before .before .pre .1 .0) (c .before .before .before .before .before .before .before .before .before .pre .0) (λ e. c .before .before .before .before .before .before .if1 .left (c .before .before .before .before .before .before .before .tests .ensures ∙ e)) (c .before .before .before .before .heavy .ensures) (c .before .before .refresh .ensures)
+returns-2 c =
+    let refresh = c .before .before .refresh in
+    let heavy = c .before .before .before .before .heavy in
+    let if1 = c .before .before .before .before .before .before .if1 in
+    let tests = c .before .before .before .before .before .before .before .tests in
+    let args = c .before .before .before .before .before .before .before .before .before .args in
+    let pre = c .before .before .before .before .before .before .before .before .before .pre in
+    decided-tested (args .n) (args .l) (args .most) (args .kind) (args .a) (args .b) (args .d) (args .planes .now) (heavy .result) _ (pre .1 .0)
+    (pre .0) (λ e. if1 .left (tests .ensures ∙ e)) (heavy .ensures) (refresh .ensures)
 
 pub decide-under-spec : {M : Type 1} → statement M
 decide-under-spec =

@@ -28,8 +28,13 @@ same-length c = search needs
 
 returns-2 : tie.Need-returns-2
 returns-2 c =
-    let f = not-false (c .before .before .before .before .before .is-capped .result) (c .before .before .before .before .if1 .left) in
-    prepared (c .before .before .before .before .before .before .before .args .n) (c .before .before .before .before .before .before .before .args .l) (c .before .before .before .before .before .before .before .args .cap) (c .before .before .before .before .before .before .before .args .planes .now) _ (c .before .before .before .before .before .before .before .pre .0) (c .before .before .before .before .before .before .before .pre .1) (rw (← c .before .before .before .before .before .is-capped .ensures, f) (c .before .before .reset .ensures))
+    let reset = c .before .before .reset in
+    let if1 = c .before .before .before .before .if1 in
+    let is-capped = c .before .before .before .before .before .is-capped in
+    let args = c .before .before .before .before .before .before .before .args in
+    let pre = c .before .before .before .before .before .before .before .pre in
+    let f = not-false (is-capped .result) (if1 .left) in
+    prepared (args .n) (args .l) (args .cap) (args .planes .now) _ (pre .0) (pre .1) (rw (← is-capped .ensures, f) (reset .ensures))
 
 pub prepare-spec : {M : Type 1} → statement M
 prepare-spec = tie.close (tie.spec is-capped-requires returns reset-requires same-length returns-2)

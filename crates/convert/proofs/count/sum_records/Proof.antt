@@ -40,7 +40,14 @@ cost-of-requires : tie.Need-cost-of-requires Inv-loop μ-loop
 cost-of-requires c κs = search needs
 
 add-requires : tie.Need-add-requires Inv-loop μ-loop
-add-requires c κs = ((omega (arith, c .before .before .before .loop .inv .2, c .before .before .loop-test .taken, c .before .before .before .before .before .before .pre .1), omega (arith, c .before .before .before .loop .inv .3, c .before .before .loop-test .taken, c .before .before .before .before .before .before .pre .1)), few-cost (c .before .kind-at .result) (c .cost-of .result) (c .cost-of .ensures))
+add-requires c κs =
+    let kind-at = c .before .kind-at in
+    let loop-test = c .before .before .loop-test in
+    let the-loop = c .before .before .before .loop in
+    let pre = c .before .before .before .before .before .before .pre in (
+      (omega (arith, the-loop .inv .2, loop-test .taken, pre .1), omega (arith, the-loop .inv .3, loop-test .taken, pre .1)),
+      few-cost (kind-at .result) (c .cost-of .result) (c .cost-of .ensures),
+    )
 
 add-i : tie.Need-add-i Inv-loop μ-loop
 add-i c = omega (arith, c .before .before .before .loop-test .taken)
@@ -50,11 +57,17 @@ loop-less c = omega (arith, c .before .before .before .loop-test .taken)
 
 loop-again : tie.Need-loop-again Inv-loop μ-loop
 loop-again c =
-    let f = costs-few false (c .before .before .before .before .loop .k) (c .before .cost-of .result) (few-cost (c .before .before .kind-at .result) (c .before .cost-of .result) (c .before .cost-of .ensures)) in (
-      omega (arith, c .before .before .before .loop-test .taken),
-      sum-more (c .before .before .before .before .before .before .before .args .gates .now) (c .before .before .before .before .loop .i) (c .before .before .before .before .loop .k) (c .before .cost-of .result) (c .add .result) (c .before .before .before .loop-test .taken) (c .before .cost-of .ensures ∙ rw (c .before .before .kind-at .ensures)) (c .add .ensures) ∙ c .before .before .before .before .loop .inv .1,
-      rw (c .add .ensures) (omega (arith, f .0, c .before .before .before .before .loop .inv .2)),
-      rw (c .add .ensures) (omega (arith, f .1, c .before .before .before .before .loop .inv .3)),
+    let cost-of = c .before .cost-of in
+    let kind-at = c .before .before .kind-at in
+    let loop-test = c .before .before .before .loop-test in
+    let the-loop = c .before .before .before .before .loop in
+    let args = c .before .before .before .before .before .before .before .args in
+    let f = costs-few false (the-loop .k) (cost-of .result) (few-cost (kind-at .result) (cost-of .result) (cost-of .ensures)) in (
+      omega (arith, loop-test .taken),
+      sum-more (args .gates .now) (the-loop .i) (the-loop .k) (cost-of .result) (c .add .result) (loop-test .taken) (cost-of .ensures ∙ rw
+          (kind-at .ensures)) (c .add .ensures) ∙ the-loop .inv .1,
+      rw (c .add .ensures) (omega (arith, f .0, the-loop .inv .2)),
+      rw (c .add .ensures) (omega (arith, f .1, the-loop .inv .3)),
     )
 
 is-capped-requires : tie.Need-is-capped-requires Inv-loop μ-loop

@@ -24,7 +24,12 @@ same-length-2 : tie.Need-same-length-2
 same-length-2 c = search needs
 
 returns : tie.Need-returns
-returns c = cnot-flushed (c .before .before .before .before .before .before .before .before .before .before .before .args .c) (c .before .before .before .before .before .before .before .before .before .before .before .args .t) (c .before .before .before .before .before .before .id-z .ensures) (c .before .before .before .before .before .id-x .ensures) (c .before .before .before .before .put-joint .ensures)
+returns c =
+    let put-joint = c .before .before .before .before .put-joint in
+    let id-x = c .before .before .before .before .before .id-x in
+    let id-z = c .before .before .before .before .before .before .id-z in
+    let args = c .before .before .before .before .before .before .before .before .before .before .before .args in
+    cnot-flushed (args .c) (args .t) (id-z .ensures) (id-x .ensures) (put-joint .ensures)
 
 pub flush-cnot-spec : {M : Type 1} → statement M
 flush-cnot-spec =

@@ -23,7 +23,12 @@ same-length-2 : tie.Need-same-length-2
 same-length-2 c = search needs
 
 returns : tie.Need-returns
-returns c = cz-flushed (c .before .before .before .before .before .before .before .before .before .before .before .args .c) (c .before .before .before .before .before .before .before .before .before .before .before .args .t) (c .before .before .before .before .before .before .id-z .ensures) (c .before .before .before .before .before .id-z2 .ensures) (c .before .before .before .before .put-joint .ensures)
+returns c =
+    let put-joint = c .before .before .before .before .put-joint in
+    let id-z2 = c .before .before .before .before .before .id-z2 in
+    let id-z = c .before .before .before .before .before .before .id-z in
+    let args = c .before .before .before .before .before .before .before .before .before .before .before .args in
+    cz-flushed (args .c) (args .t) (id-z .ensures) (id-z2 .ensures) (put-joint .ensures)
 
 pub flush-cz-spec : {M : Type 1} → statement M
 flush-cz-spec =

@@ -31,7 +31,15 @@ same-length : tie.Need-same-length
 same-length c = search needs
 
 returns : tie.Need-returns
-returns c = h-flushed (c .before .before .before .before .before .before .before .before .before .before .before .before .before .before .before .before .before .args .q) (c .before .before .before .before .before .before .before .before .before .before .before .before .before .before .id-z .ensures) (c .before .before .before .before .before .before .before .before .id-x .ensures) (c .before .before .before .before .before .before .before .before .before .before .before .before .put-rotation .ensures) (c .before .before .before .before .before .before .before .put-rotation2 .ensures) (c .before .before .before .put-rotation3 .ensures) (c .made .ensures)
+returns c =
+    let put-rotation3 = c .before .before .before .put-rotation3 in
+    let put-rotation2 = c .before .before .before .before .before .before .before .put-rotation2 in
+    let id-x = c .before .before .before .before .before .before .before .before .id-x in
+    let put-rotation = c .before .before .before .before .before .before .before .before .before .before .before .before .put-rotation in
+    let id-z = c .before .before .before .before .before .before .before .before .before .before .before .before .before .before .id-z in
+    let back12 = c .before .before .before .before .before .before .before .before .before .before .before .before in
+    let args = back12 .before .before .before .before .before .args in
+    h-flushed (args .q) (id-z .ensures) (id-x .ensures) (put-rotation .ensures) (put-rotation2 .ensures) (put-rotation3 .ensures) (c .made .ensures)
 
 pub flush-h-spec : {M : Type 1} → statement M
 flush-h-spec =

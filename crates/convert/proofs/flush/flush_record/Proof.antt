@@ -114,9 +114,14 @@ flush-s-requires-2 c κs =
 flush-h-requires-3 : tie.Need-flush-h-requires-3
 unfolding recordGates lowerAs
 flush-h-requires-3 c κs =
-    let r0 = rw (c .before .before .before .before .before .before .before .before .before .before .before .before .before .before .before .before .enum-told9 .given .1) at (c .before .before .before .before .before .before .before .before .before .before .before .before .before .before .before .before .before .before .before .before .pre) in
-    let r1 = flush-tail r0 (c .before .before .before .before .before .before .before .before .before .before .before .before .before .flush-h2 .ensures) (omega (arith, c .before .before .before .before .before .before .before .before .before .before .before .before .before .flush-h2 .kept)) (omega (arith, c .before .before .before .before .before .before .before .before .before .before .before .before .before .flush-h2 .kept)) in
-    let r2 = flush-tail r1 (c .before .before .before .before .before .before .flush-s2 .ensures) (omega (arith, c .before .before .before .before .before .before .flush-s2 .kept)) (omega (arith, c .before .before .before .before .before .before .flush-s2 .kept)) in
+    let flush-s2 = c .before .before .before .before .before .before .flush-s2 in
+    let flush-h2 = c .before .before .before .before .before .before .before .before .before .before .before .before .before .flush-h2 in
+    let back12 = c .before .before .before .before .before .before .before .before .before .before .before .before in
+    let enum-told9 = back12 .before .before .before .before .enum-told9 in
+    let pre = back12 .before .before .before .before .before .before .before .before .pre in
+    let r0 = rw (enum-told9 .given .1) at pre in
+    let r1 = flush-tail r0 (flush-h2 .ensures) (omega (arith, flush-h2 .kept)) (omega (arith, flush-h2 .kept)) in
+    let r2 = flush-tail r1 (flush-s2 .ensures) (omega (arith, flush-s2 .kept)) (omega (arith, flush-s2 .kept)) in
     flush-head r2
 
 enum-told-10 : tie.Need-enum-told-10
@@ -138,9 +143,14 @@ flush-cnot-requires-3 c κs =
 flush-cnot-requires-4 : tie.Need-flush-cnot-requires-4
 unfolding recordGates lowerAs
 flush-cnot-requires-4 c κs =
-    let r0 = rw (c .before .before .before .before .before .before .before .before .before .before .before .before .before .before .before .before .enum-told10 .given .1) at (c .before .before .before .before .before .before .before .before .before .before .before .before .before .before .before .before .before .before .before .before .pre) in
-    let r1 = flush-tail r0 (c .before .before .before .before .before .before .before .before .before .before .before .before .before .flush-cnot2 .ensures) (omega (arith, c .before .before .before .before .before .before .before .before .before .before .before .before .before .flush-cnot2 .kept)) (omega (arith, c .before .before .before .before .before .before .before .before .before .before .before .before .before .flush-cnot2 .kept)) in
-    let r2 = flush-tail r1 (c .before .before .before .before .before .before .flush-cnot3 .ensures) (omega (arith, c .before .before .before .before .before .before .flush-cnot3 .kept)) (omega (arith, c .before .before .before .before .before .before .flush-cnot3 .kept)) in
+    let flush-cnot3 = c .before .before .before .before .before .before .flush-cnot3 in
+    let flush-cnot2 = c .before .before .before .before .before .before .before .before .before .before .before .before .before .flush-cnot2 in
+    let back12 = c .before .before .before .before .before .before .before .before .before .before .before .before in
+    let enum-told10 = back12 .before .before .before .before .enum-told10 in
+    let pre = back12 .before .before .before .before .before .before .before .before .pre in
+    let r0 = rw (enum-told10 .given .1) at pre in
+    let r1 = flush-tail r0 (flush-cnot2 .ensures) (omega (arith, flush-cnot2 .kept)) (omega (arith, flush-cnot2 .kept)) in
+    let r2 = flush-tail r1 (flush-cnot3 .ensures) (omega (arith, flush-cnot3 .kept)) (omega (arith, flush-cnot3 .kept)) in
     flush-head r2
 
 enum-told-11 : tie.Need-enum-told-11
@@ -162,9 +172,14 @@ flush-cnot-requires-5 c κs =
 flush-s-requires-3 : tie.Need-flush-s-requires-3
 unfolding recordGates lowerAs
 flush-s-requires-3 c κs =
-    let r0 = rw (c .before .before .before .before .before .before .before .before .before .before .before .before .before .before .before .before .enum-told11 .given .1) at (c .before .before .before .before .before .before .before .before .before .before .before .before .before .before .before .before .before .before .before .before .pre) in
-    let r1 = flush-tail r0 (c .before .before .before .before .before .before .before .before .before .before .before .before .before .flush-sdg2 .ensures) (omega (arith, c .before .before .before .before .before .before .before .before .before .before .before .before .before .flush-sdg2 .kept)) (omega (arith, c .before .before .before .before .before .before .before .before .before .before .before .before .before .flush-sdg2 .kept)) in
-    let r2 = flush-tail r1 (c .before .before .before .before .before .before .flush-cnot5 .ensures) (omega (arith, c .before .before .before .before .before .before .flush-cnot5 .kept)) (omega (arith, c .before .before .before .before .before .before .flush-cnot5 .kept)) in
+    let flush-cnot5 = c .before .before .before .before .before .before .flush-cnot5 in
+    let flush-sdg2 = c .before .before .before .before .before .before .before .before .before .before .before .before .before .flush-sdg2 in
+    let back12 = c .before .before .before .before .before .before .before .before .before .before .before .before in
+    let enum-told11 = back12 .before .before .before .before .enum-told11 in
+    let pre = back12 .before .before .before .before .before .before .before .before .pre in
+    let r0 = rw (enum-told11 .given .1) at pre in
+    let r1 = flush-tail r0 (flush-sdg2 .ensures) (omega (arith, flush-sdg2 .kept)) (omega (arith, flush-sdg2 .kept)) in
+    let r2 = flush-tail r1 (flush-cnot5 .ensures) (omega (arith, flush-cnot5 .kept)) (omega (arith, flush-cnot5 .kept)) in
     flush-head r2
 
 same-length : tie.Need-same-length
@@ -255,7 +270,13 @@ same-length-18 c = search needs
 
 returns-9 : tie.Need-returns-9
 unfolding recordGates lowerAs
-returns-9 c = rw (c .before .before .before .before .before .before .before .before .before .before .before .before .before .before .before .before .before .before .before .before .before .enum-told9 .given .1) (more-flushed (c .before .before .before .before .before .before .before .before .before .before .before .before .before .before .before .before .before .before .flush-h2 .ensures) (more-flushed (c .before .before .before .before .before .before .before .before .before .before .before .flush-s2 .ensures) (c .before .before .before .before .flush-h3 .ensures)))
+returns-9 c =
+    let flush-h3 = c .before .before .before .before .flush-h3 in
+    let flush-s2 = c .before .before .before .before .before .before .before .before .before .before .before .flush-s2 in
+    let back12 = c .before .before .before .before .before .before .before .before .before .before .before .before in
+    let flush-h2 = back12 .before .before .before .before .before .before .flush-h2 in
+    let enum-told9 = back12 .before .before .before .before .before .before .before .before .before .enum-told9 in
+    rw (enum-told9 .given .1) (more-flushed (flush-h2 .ensures) (more-flushed (flush-s2 .ensures) (flush-h3 .ensures)))
 
 same-length-19 : tie.Need-same-length-19
 same-length-19 c = search needs
@@ -265,7 +286,13 @@ same-length-20 c = search needs
 
 returns-10 : tie.Need-returns-10
 unfolding recordGates lowerAs
-returns-10 c = rw (c .before .before .before .before .before .before .before .before .before .before .before .before .before .before .before .before .before .before .before .before .before .enum-told10 .given .1) (more-flushed (c .before .before .before .before .before .before .before .before .before .before .before .before .before .before .before .before .before .before .flush-cnot2 .ensures) (more-flushed (c .before .before .before .before .before .before .before .before .before .before .before .flush-cnot3 .ensures) (c .before .before .before .before .flush-cnot4 .ensures)))
+returns-10 c =
+    let flush-cnot4 = c .before .before .before .before .flush-cnot4 in
+    let flush-cnot3 = c .before .before .before .before .before .before .before .before .before .before .before .flush-cnot3 in
+    let back12 = c .before .before .before .before .before .before .before .before .before .before .before .before in
+    let flush-cnot2 = back12 .before .before .before .before .before .before .flush-cnot2 in
+    let enum-told10 = back12 .before .before .before .before .before .before .before .before .before .enum-told10 in
+    rw (enum-told10 .given .1) (more-flushed (flush-cnot2 .ensures) (more-flushed (flush-cnot3 .ensures) (flush-cnot4 .ensures)))
 
 same-length-21 : tie.Need-same-length-21
 same-length-21 c = search needs
@@ -275,7 +302,13 @@ same-length-22 c = search needs
 
 returns-11 : tie.Need-returns-11
 unfolding recordGates lowerAs
-returns-11 c = rw (c .before .before .before .before .before .before .before .before .before .before .before .before .before .before .before .before .before .before .before .before .before .enum-told11 .given .1) (more-flushed (c .before .before .before .before .before .before .before .before .before .before .before .before .before .before .before .before .before .before .flush-sdg2 .ensures) (more-flushed (c .before .before .before .before .before .before .before .before .before .before .before .flush-cnot5 .ensures) (c .before .before .before .before .flush-s3 .ensures)))
+returns-11 c =
+    let flush-s3 = c .before .before .before .before .flush-s3 in
+    let flush-cnot5 = c .before .before .before .before .before .before .before .before .before .before .before .flush-cnot5 in
+    let back12 = c .before .before .before .before .before .before .before .before .before .before .before .before in
+    let flush-sdg2 = back12 .before .before .before .before .before .before .flush-sdg2 in
+    let enum-told11 = back12 .before .before .before .before .before .before .before .before .before .enum-told11 in
+    rw (enum-told11 .given .1) (more-flushed (flush-sdg2 .ensures) (more-flushed (flush-cnot5 .ensures) (flush-s3 .ensures)))
 
 returns-12 : tie.Need-returns-12
 returns-12 c =

@@ -55,12 +55,23 @@ loop-less c = omega (arith, c .before .before .before .before .before .before .b
 
 loop-again : tie.Need-loop-again Inv-loop μ-loop
 loop-again c =
-    let a = c .before .before .before .before .before .before .before .before .before .before .before .before .before .before .before .args in (
-      omega (arith, c .before .before .before .before .before .before .before .before .before .before .loop-test .taken),
-      omega (arith, c .before .before .before .before .flush-record .kept, c .before .before .before .before .before .before .before .before .before .before .before .loop .inv .1),
-      omega (arith, c .before .before .before .before .flush-record .kept, c .before .before .before .before .before .before .before .before .before .before .before .loop .inv .2),
-      flush-more (a .n) (a .gates .now) (a .from) (a .count) _ _ _ _ _ _ _ _ (c .before .before .before .before .before .before .before .before .before .before .before .loop .k) (c .before .before .before .before .before .before .before .before .before .before .before .loop .inv .3) (c .before .before .before .before .before .before .before .before .before .before .loop-test .taken) _ _ _ _
-          (rw (c .before .before .before .before .before .before .before .before .before .kind-at .ensures, c .before .before .before .before .before .before .before .before .operand-at .ensures, c .before .before .before .before .before .before .before .operand-at2 .ensures) at (c .before .before .before .before .flush-record .ensures)) (omega (arith, c .before .before .before .before .flush-record .kept)) (omega (arith, c .before .before .before .before .flush-record .kept)),
+    let flush-record = c .before .before .before .before .flush-record in
+    let operand-at2 = c .before .before .before .before .before .before .before .operand-at2 in
+    let operand-at = c .before .before .before .before .before .before .before .before .operand-at in
+    let kind-at = c .before .before .before .before .before .before .before .before .before .kind-at in
+    let loop-test = c .before .before .before .before .before .before .before .before .before .before .loop-test in
+    let the-loop = c .before .before .before .before .before .before .before .before .before .before .before .loop in
+    let back12 = c .before .before .before .before .before .before .before .before .before .before .before .before in
+    let args = back12 .before .before .before .args in
+    let a = args in (
+      omega (arith, loop-test .taken),
+      omega (arith, flush-record .kept, the-loop .inv .1),
+      omega (arith, flush-record .kept, the-loop .inv .2),
+      flush-more (a .n) (a .gates .now) (a .from) (a .count) _ _ _ _ _ _ _ _ (the-loop .k) (the-loop .inv .3) (loop-test .taken) _ _ _ _
+          (rw (kind-at .ensures, operand-at .ensures, operand-at2 .ensures) at (flush-record .ensures)) (omega (arith, flush-record .kept)) (omega (
+            arith,
+            flush-record .kept,
+          )),
     )
 
 same-length : tie.Need-same-length Inv-loop μ-loop

@@ -34,7 +34,15 @@ same-length-2 : tie.Need-same-length-2
 same-length-2 c = search needs
 
 returns : tie.Need-returns
-returns c = joint-put (c .before .before .before .before .before .before .before .before .before .before .before .before .before .before .before .before .before .before .before .before .args .w .nodes) (c .before .before .before .before .before .before .before .before .before .before .before .before .before .before .before .before .before .before .before .before .args .nodes .now) (c .before .before .before .before .before .before .before .before .before .before .before .before .before .before .before .before .before .before .before .before .args .w .operations) (c .before .before .before .before .before .before .before .before .before .before .before .before .before .before .before .before .before .before .before .before .args .operations .now) (c .before .before .before .before .before .before .before .before .before .before .before .before .before .before .before .before .before .before .before .before .args .left) (c .before .before .before .before .before .before .before .before .before .before .before .before .before .before .before .before .before .before .before .before .args .right) refl (c .before .before .before .before .before .before .before .before .before .before .before .before .before .before .before .push .ensures) (c .before .before .before .before .before .before .before .before .before .before .before .put-rotation .ensures) (c .before .before .before .before .before .before .before .put-rotation2 .ensures) (c .before .before .before .put-rotation3 .ensures) (c .made .ensures)
+returns c =
+    let put-rotation3 = c .before .before .before .put-rotation3 in
+    let put-rotation2 = c .before .before .before .before .before .before .before .put-rotation2 in
+    let put-rotation = c .before .before .before .before .before .before .before .before .before .before .before .put-rotation in
+    let back12 = c .before .before .before .before .before .before .before .before .before .before .before .before in
+    let push = back12 .before .before .before .push in
+    let args = back12 .before .before .before .before .before .before .before .before .args in
+    joint-put (args .w .nodes) (args .nodes .now) (args .w .operations) (args .operations .now) (args .left) (args .right) refl (push .ensures)
+    (put-rotation .ensures) (put-rotation2 .ensures) (put-rotation3 .ensures) (c .made .ensures)
 
 pub put-joint-spec : {M : Type 1} → statement M
 put-joint-spec =

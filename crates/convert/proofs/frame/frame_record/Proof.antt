@@ -114,9 +114,14 @@ gate-s-requires-2 c κs =
 gate-h-requires-3 : tie.Need-gate-h-requires-3
 unfolding recordGates lowerAs
 gate-h-requires-3 c κs =
-    let r0 = rw (c .before .before .before .before .before .before .before .before .before .before .before .before .before .before .before .before .enum-told9 .given .1) at (c .before .before .before .before .before .before .before .before .before .before .before .before .before .before .before .before .before .before .before .before .pre) in
-    let r1 = tail-ready r0 (c .before .before .before .before .before .before .before .before .before .before .before .before .before .gate-h2 .ensures) (omega (arith, c .before .before .before .before .before .before .before .before .before .before .before .before .before .gate-h2 .kept)) (omega (arith, c .before .before .before .before .before .before .before .before .before .before .before .before .before .gate-h2 .kept)) in
-    let r2 = tail-ready r1 (c .before .before .before .before .before .before .gate-s2 .ensures) (omega (arith, c .before .before .before .before .before .before .gate-s2 .kept)) (omega (arith, c .before .before .before .before .before .before .gate-s2 .kept)) in
+    let gate-s2 = c .before .before .before .before .before .before .gate-s2 in
+    let gate-h2 = c .before .before .before .before .before .before .before .before .before .before .before .before .before .gate-h2 in
+    let back12 = c .before .before .before .before .before .before .before .before .before .before .before .before in
+    let enum-told9 = back12 .before .before .before .before .enum-told9 in
+    let pre = back12 .before .before .before .before .before .before .before .before .pre in
+    let r0 = rw (enum-told9 .given .1) at pre in
+    let r1 = tail-ready r0 (gate-h2 .ensures) (omega (arith, gate-h2 .kept)) (omega (arith, gate-h2 .kept)) in
+    let r2 = tail-ready r1 (gate-s2 .ensures) (omega (arith, gate-s2 .kept)) (omega (arith, gate-s2 .kept)) in
     head-ready r2
 
 enum-told-10 : tie.Need-enum-told-10
@@ -138,9 +143,14 @@ gate-cnot-requires-3 c κs =
 gate-cnot-requires-4 : tie.Need-gate-cnot-requires-4
 unfolding recordGates lowerAs
 gate-cnot-requires-4 c κs =
-    let r0 = rw (c .before .before .before .before .before .before .before .before .before .before .before .before .before .before .before .before .enum-told10 .given .1) at (c .before .before .before .before .before .before .before .before .before .before .before .before .before .before .before .before .before .before .before .before .pre) in
-    let r1 = tail-ready r0 (c .before .before .before .before .before .before .before .before .before .before .before .before .before .gate-cnot2 .ensures) (omega (arith, c .before .before .before .before .before .before .before .before .before .before .before .before .before .gate-cnot2 .kept)) (omega (arith, c .before .before .before .before .before .before .before .before .before .before .before .before .before .gate-cnot2 .kept)) in
-    let r2 = tail-ready r1 (c .before .before .before .before .before .before .gate-cnot3 .ensures) (omega (arith, c .before .before .before .before .before .before .gate-cnot3 .kept)) (omega (arith, c .before .before .before .before .before .before .gate-cnot3 .kept)) in
+    let gate-cnot3 = c .before .before .before .before .before .before .gate-cnot3 in
+    let gate-cnot2 = c .before .before .before .before .before .before .before .before .before .before .before .before .before .gate-cnot2 in
+    let back12 = c .before .before .before .before .before .before .before .before .before .before .before .before in
+    let enum-told10 = back12 .before .before .before .before .enum-told10 in
+    let pre = back12 .before .before .before .before .before .before .before .before .pre in
+    let r0 = rw (enum-told10 .given .1) at pre in
+    let r1 = tail-ready r0 (gate-cnot2 .ensures) (omega (arith, gate-cnot2 .kept)) (omega (arith, gate-cnot2 .kept)) in
+    let r2 = tail-ready r1 (gate-cnot3 .ensures) (omega (arith, gate-cnot3 .kept)) (omega (arith, gate-cnot3 .kept)) in
     head-ready r2
 
 enum-told-11 : tie.Need-enum-told-11
@@ -162,9 +172,14 @@ gate-cnot-requires-5 c κs =
 gate-s-requires-3 : tie.Need-gate-s-requires-3
 unfolding recordGates lowerAs
 gate-s-requires-3 c κs =
-    let r0 = rw (c .before .before .before .before .before .before .before .before .before .before .before .before .before .before .before .before .enum-told11 .given .1) at (c .before .before .before .before .before .before .before .before .before .before .before .before .before .before .before .before .before .before .before .before .pre) in
-    let r1 = tail-ready r0 (c .before .before .before .before .before .before .before .before .before .before .before .before .before .gate-sdg2 .ensures) (omega (arith, c .before .before .before .before .before .before .before .before .before .before .before .before .before .gate-sdg2 .kept)) (omega (arith, c .before .before .before .before .before .before .before .before .before .before .before .before .before .gate-sdg2 .kept)) in
-    let r2 = tail-ready r1 (c .before .before .before .before .before .before .gate-cnot5 .ensures) (omega (arith, c .before .before .before .before .before .before .gate-cnot5 .kept)) (omega (arith, c .before .before .before .before .before .before .gate-cnot5 .kept)) in
+    let gate-cnot5 = c .before .before .before .before .before .before .gate-cnot5 in
+    let gate-sdg2 = c .before .before .before .before .before .before .before .before .before .before .before .before .before .gate-sdg2 in
+    let back12 = c .before .before .before .before .before .before .before .before .before .before .before .before in
+    let enum-told11 = back12 .before .before .before .before .enum-told11 in
+    let pre = back12 .before .before .before .before .before .before .before .before .pre in
+    let r0 = rw (enum-told11 .given .1) at pre in
+    let r1 = tail-ready r0 (gate-sdg2 .ensures) (omega (arith, gate-sdg2 .kept)) (omega (arith, gate-sdg2 .kept)) in
+    let r2 = tail-ready r1 (gate-cnot5 .ensures) (omega (arith, gate-cnot5 .kept)) (omega (arith, gate-cnot5 .kept)) in
     head-ready r2
 
 same-length : tie.Need-same-length
@@ -255,7 +270,13 @@ same-length-18 c = search needs
 
 returns-9 : tie.Need-returns-9
 unfolding recordGates lowerAs
-returns-9 c = rw (c .before .before .before .before .before .before .before .before .before .before .before .before .before .before .before .before .before .before .before .before .before .enum-told9 .given .1) (more-ran (c .before .before .before .before .before .before .before .before .before .before .before .before .before .before .before .before .before .before .gate-h2 .ensures) (more-ran (c .before .before .before .before .before .before .before .before .before .before .before .gate-s2 .ensures) (c .before .before .before .before .gate-h3 .ensures)))
+returns-9 c =
+    let gate-h3 = c .before .before .before .before .gate-h3 in
+    let gate-s2 = c .before .before .before .before .before .before .before .before .before .before .before .gate-s2 in
+    let back12 = c .before .before .before .before .before .before .before .before .before .before .before .before in
+    let gate-h2 = back12 .before .before .before .before .before .before .gate-h2 in
+    let enum-told9 = back12 .before .before .before .before .before .before .before .before .before .enum-told9 in
+    rw (enum-told9 .given .1) (more-ran (gate-h2 .ensures) (more-ran (gate-s2 .ensures) (gate-h3 .ensures)))
 
 same-length-19 : tie.Need-same-length-19
 same-length-19 c = search needs
@@ -265,7 +286,13 @@ same-length-20 c = search needs
 
 returns-10 : tie.Need-returns-10
 unfolding recordGates lowerAs
-returns-10 c = rw (c .before .before .before .before .before .before .before .before .before .before .before .before .before .before .before .before .before .before .before .before .before .enum-told10 .given .1) (more-ran (c .before .before .before .before .before .before .before .before .before .before .before .before .before .before .before .before .before .before .gate-cnot2 .ensures) (more-ran (c .before .before .before .before .before .before .before .before .before .before .before .gate-cnot3 .ensures) (c .before .before .before .before .gate-cnot4 .ensures)))
+returns-10 c =
+    let gate-cnot4 = c .before .before .before .before .gate-cnot4 in
+    let gate-cnot3 = c .before .before .before .before .before .before .before .before .before .before .before .gate-cnot3 in
+    let back12 = c .before .before .before .before .before .before .before .before .before .before .before .before in
+    let gate-cnot2 = back12 .before .before .before .before .before .before .gate-cnot2 in
+    let enum-told10 = back12 .before .before .before .before .before .before .before .before .before .enum-told10 in
+    rw (enum-told10 .given .1) (more-ran (gate-cnot2 .ensures) (more-ran (gate-cnot3 .ensures) (gate-cnot4 .ensures)))
 
 same-length-21 : tie.Need-same-length-21
 same-length-21 c = search needs
@@ -275,7 +302,13 @@ same-length-22 c = search needs
 
 returns-11 : tie.Need-returns-11
 unfolding recordGates lowerAs
-returns-11 c = rw (c .before .before .before .before .before .before .before .before .before .before .before .before .before .before .before .before .before .before .before .before .before .enum-told11 .given .1) (more-ran (c .before .before .before .before .before .before .before .before .before .before .before .before .before .before .before .before .before .before .gate-sdg2 .ensures) (more-ran (c .before .before .before .before .before .before .before .before .before .before .before .gate-cnot5 .ensures) (c .before .before .before .before .gate-s3 .ensures)))
+returns-11 c =
+    let gate-s3 = c .before .before .before .before .gate-s3 in
+    let gate-cnot5 = c .before .before .before .before .before .before .before .before .before .before .before .gate-cnot5 in
+    let back12 = c .before .before .before .before .before .before .before .before .before .before .before .before in
+    let gate-sdg2 = back12 .before .before .before .before .before .before .gate-sdg2 in
+    let enum-told11 = back12 .before .before .before .before .before .before .before .before .before .enum-told11 in
+    rw (enum-told11 .given .1) (more-ran (gate-sdg2 .ensures) (more-ran (gate-cnot5 .ensures) (gate-s3 .ensures)))
 
 returns-12 : tie.Need-returns-12
 returns-12 c =

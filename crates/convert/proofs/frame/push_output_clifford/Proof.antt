@@ -32,7 +32,12 @@ of-requires : tie.Need-of-requires
 of-requires c κs = search needs
 
 append-requires : tie.Need-append-requires
-append-requires c κs = rw (c .of .ensures) (clifford-ready (c .before .before .before .before .before .before .before .before .before .before .args .header) (c .before .before .before .before .before .before .before .before .before .before .args .nodes .now) (c .before .before .before .before .before .before .before .before .before .before .args .frame .now) (c .before .before .before .before .before .before .before .before .before .before .args .kind) (c .before .before .before .before .before .before .before .before .before .before .args .a) (c .before .before .before .before .before .before .before .before .before .before .args .b) (sym (c .before .before .before .before .before .before .check-clifford .ensures) ∙ c .before .before .before .before .enum-told .given .1))
+append-requires c κs =
+    let the-enum-told = c .before .before .before .before .enum-told in
+    let check-clifford = c .before .before .before .before .before .before .check-clifford in
+    let args = c .before .before .before .before .before .before .before .before .before .before .args in
+    rw (c .of .ensures) (clifford-ready (args .header) (args .nodes .now) (args .frame .now) (args .kind) (args .a) (args .b) (sym
+    (check-clifford .ensures) ∙ the-enum-told .given .1))
 
 with-nodes-requires : tie.Need-with-nodes-requires
 with-nodes-requires c κs = search needs
@@ -46,9 +51,19 @@ same-length-3 c = search needs
 returns-2 : tie.Need-returns-2
 unfolding cliffordStep
 returns-2 c =
-    let e = sym (c .before .before .before .before .before .before .before .before .before .before .before .before .check-clifford .ensures) ∙ c .before .before .before .before .before .before .before .before .before .before .enum-told .given .1 in
-    let d = clifford-done (c .before .before .before .before .before .before .before .before .before .before .before .before .before .before .before .before .args .header) (c .before .before .before .before .before .before .before .before .before .before .before .before .before .before .before .before .args .nodes .now) (c .before .before .before .before .before .before .before .before .before .before .before .before .before .before .before .before .args .frame .now) (c .before .before .before .before .before .before .before .before .before .before .before .before .before .before .before .before .args .kind) (c .before .before .before .before .before .before .before .before .before .before .before .before .before .before .before .before .args .a) (c .before .before .before .before .before .before .before .before .before .before .before .before .before .before .before .before .args .b) e _ _ _ (rw (c .before .before .before .before .before .before .of .ensures) at (c .before .before .before .before .before .append .ensures)) in
-    rw e (ap FramePushedMade (c .with-nodes .ensures ∙ ap (λ (k : ℕ). withNodes k (c .before .before .before .before .before .before .before .before .before .before .before .before .before .before .before .before .args .header)) (ap (λ (s : Arena). s .count) d)), (ap (λ (s : Arena). s .nodes) d, ap (λ (s : Arena). s .frame) d))
+    let append = c .before .before .before .before .before .append in
+    let the-of = c .before .before .before .before .before .before .of in
+    let the-enum-told = c .before .before .before .before .before .before .before .before .before .before .enum-told in
+    let check-clifford = c .before .before .before .before .before .before .before .before .before .before .before .before .check-clifford in
+    let back12 = c .before .before .before .before .before .before .before .before .before .before .before .before in
+    let args = back12 .before .before .before .before .args in
+    let e = sym (check-clifford .ensures) ∙ the-enum-told .given .1 in
+    let d = clifford-done (args .header) (args .nodes .now) (args .frame .now) (args .kind) (args .a) (args .b) e _ _ _ (rw (the-of .ensures) at
+    (append .ensures)) in
+    rw e (
+      ap FramePushedMade (c .with-nodes .ensures ∙ ap (λ (k : ℕ). withNodes k (args .header)) (ap (λ (s : Arena). s .count) d)),
+      (ap (λ (s : Arena). s .nodes) d, ap (λ (s : Arena). s .frame) d),
+    )
 
 pub push-output-clifford-spec : {M : Type 1} → statement M
 push-output-clifford-spec =

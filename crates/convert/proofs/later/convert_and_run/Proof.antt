@@ -32,9 +32,32 @@ same-length-4 c = search needs
 
 returns : tie.Need-returns
 returns c =
-    let x = inputOf (c .before .before .before .before .before .before .before .before .before .before .before .before .before .before .before .before .before .before .before .before .before .before .before .before .before .before .before .before .before .before .before .before .args .qubits) (c .before .before .before .before .before .before .before .before .before .before .before .before .before .before .before .before .before .before .before .before .before .before .before .before .before .before .before .before .before .before .before .before .args .cbits) (c .before .before .before .before .before .before .before .before .before .before .before .before .before .before .before .before .before .before .before .before .before .before .before .before .before .before .before .before .before .before .before .before .args .owner) (c .before .before .before .before .before .before .before .before .before .before .before .before .before .before .before .before .before .before .before .before .before .before .before .before .before .before .before .before .before .before .before .before .args .cap) (c .before .before .before .before .before .before .before .before .before .before .before .before .before .before .before .before .before .before .before .before .before .before .before .before .before .before .before .before .before .before .before .before .args .gates .now) (c .before .before .before .before .before .before .before .before .before .before .before .before .before .before .before .before .before .before .before .before .before .before .before .before .before .before .before .before .before .before .before .before .args .nodes .now) (c .before .before .before .before .before .before .before .before .before .before .before .before .before .before .before .before .before .before .before .before .before .before .before .before .before .before .before .before .before .before .before .before .args .operations .now) (c .before .before .before .before .before .before .before .before .before .before .before .before .before .before .before .before .before .before .before .before .before .before .before .before .before .before .before .before .before .before .before .before .args .frame .now) (c .before .before .before .before .before .before .before .before .before .before .before .before .before .before .before .before .before .before .before .before .before .before .before .before .before .before .before .before .before .before .before .before .args .planes .now) in
-    let p = run-made x (c .before .before .before .before .before .before .before .before .before .before .before .before .before .before .before .before .before .before .before .before .before .before .before .before .before .before .before .before .before .before .before .before .args .calls .now) _ _ _ _ (c .before .before .before .before .before .before .before .before .before .before .before .before .before .before .before .before .before .before .before .before .before .to-pbc .ensures .1 .0) (c .before .before .before .before .before .before .before .before .before .before .before .before .before .before .before .before .before .before .before .before .before .to-pbc .ensures .1 .1 .0) (c .before .before .before .before .before .before .before .before .before .before .before .before .before .before .before .before .before .before .before .before .before .to-pbc .ensures .1 .1 .1 .0) (c .before .before .before .before .before .before .before .before .before .before .before .before .before .before .before .before .before .before .before .before .before .to-pbc .ensures .1 .1 .1 .1) _ _ _ _ _ (sym (c .before .before .before .before .before .before .before .before .before .before .before .converted .given .1) ∙ c .before .before .before .before .before .before .before .before .before .before .before .before .before .before .before .before .before .before .before .before .before .to-pbc .ensures .0) (c .before .before .before .before .before .before .run-calls .ensures .0) (c .before .before .before .before .before .before .run-calls .ensures .1 .0) (c .before .before .before .before .before .before .run-calls .ensures .1 .1 .0) (c .before .before .before .before .before .before .run-calls .ensures .1 .1 .1) in
-    (ap (λ s. s .answer) p, (ap (λ s. s .nodes) p, (ap (λ s. s .operations) p, (ap (λ s. s .frame) p, (ap (λ s. s .planes) p, demand3-of x (c .before .before .before .before .before .before .before .before .before .before .before .before .before .before .before .before .before .before .before .before .before .before .before .before .before .before .before .before .before .before .before .before .args .calls .now) _ p)))))
+    let run-calls = c .before .before .before .before .before .before .run-calls in
+    let converted = c .before .before .before .before .before .before .before .before .before .before .before .converted in
+    let back12 = c .before .before .before .before .before .before .before .before .before .before .before .before in
+    let to-pbc = back12 .before .before .before .before .before .before .before .before .before .to-pbc in
+    let back24 = back12 .before .before .before .before .before .before .before .before .before .before .before .before in
+    let args = back24 .before .before .before .before .before .before .before .before .args in
+    let x = inputOf (args .qubits) (args .cbits) (args .owner) (args .cap) (args .gates .now) (args .nodes .now) (args .operations .now)
+    (args .frame .now) (args .planes .now) in
+    let p = run-made x (args .calls .now) _ _ _ _ (to-pbc .ensures .1 .0) (to-pbc .ensures .1 .1 .0) (to-pbc .ensures .1 .1 .1 .0)
+    (to-pbc .ensures .1 .1 .1 .1) _ _ _ _ _ (sym (converted .given .1) ∙ to-pbc .ensures .0) (run-calls .ensures .0) (run-calls .ensures .1 .0)
+    (run-calls .ensures .1 .1 .0) (run-calls .ensures .1 .1 .1) in (
+      ap (λ s. s .answer) p,
+      (
+        ap (λ s. s .nodes) p,
+        (
+          ap (λ s. s .operations) p,
+          (
+            ap (λ s. s .frame) p,
+            (
+              ap (λ s. s .planes) p,
+              demand3-of x (args .calls .now) _ p,
+            ),
+          ),
+        ),
+      ),
+    )
 
 same-length-5 : tie.Need-same-length-5
 same-length-5 c = search needs
@@ -50,9 +73,29 @@ same-length-8 c = search needs
 
 returns-2 : tie.Need-returns-2
 returns-2 c =
-    let x = inputOf (c .before .before .before .before .before .before .before .before .before .before .before .before .before .before .before .before .before .before .before .before .before .before .args .qubits) (c .before .before .before .before .before .before .before .before .before .before .before .before .before .before .before .before .before .before .before .before .before .before .args .cbits) (c .before .before .before .before .before .before .before .before .before .before .before .before .before .before .before .before .before .before .before .before .before .before .args .owner) (c .before .before .before .before .before .before .before .before .before .before .before .before .before .before .before .before .before .before .before .before .before .before .args .cap) (c .before .before .before .before .before .before .before .before .before .before .before .before .before .before .before .before .before .before .before .before .before .before .args .gates .now) (c .before .before .before .before .before .before .before .before .before .before .before .before .before .before .before .before .before .before .before .before .before .before .args .nodes .now) (c .before .before .before .before .before .before .before .before .before .before .before .before .before .before .before .before .before .before .before .before .before .before .args .operations .now) (c .before .before .before .before .before .before .before .before .before .before .before .before .before .before .before .before .before .before .before .before .before .before .args .frame .now) (c .before .before .before .before .before .before .before .before .before .before .before .before .before .before .before .before .before .before .before .before .before .before .args .planes .now) in
-    let p = run-refused x (c .before .before .before .before .before .before .before .before .before .before .before .before .before .before .before .before .before .before .before .before .before .before .args .calls .now) _ _ _ _ (c .before .before .before .before .before .before .before .before .before .before .before .to-pbc .ensures .1 .0) (c .before .before .before .before .before .before .before .before .before .before .before .to-pbc .ensures .1 .1 .0) (c .before .before .before .before .before .before .before .before .before .before .before .to-pbc .ensures .1 .1 .1 .0) (c .before .before .before .before .before .before .before .before .before .before .before .to-pbc .ensures .1 .1 .1 .1) _ (sym (c .before .converted2 .given .1) ∙ c .before .before .before .before .before .before .before .before .before .before .before .to-pbc .ensures .0) in
-    (ap (λ s. s .answer) p, (ap (λ s. s .nodes) p, (ap (λ s. s .operations) p, (ap (λ s. s .frame) p, (ap (λ s. s .planes) p, demand3-of x (c .before .before .before .before .before .before .before .before .before .before .before .before .before .before .before .before .before .before .before .before .before .before .args .calls .now) _ p)))))
+    let converted2 = c .before .converted2 in
+    let to-pbc = c .before .before .before .before .before .before .before .before .before .before .before .to-pbc in
+    let back12 = c .before .before .before .before .before .before .before .before .before .before .before .before in
+    let args = back12 .before .before .before .before .before .before .before .before .before .before .args in
+    let x = inputOf (args .qubits) (args .cbits) (args .owner) (args .cap) (args .gates .now) (args .nodes .now) (args .operations .now)
+    (args .frame .now) (args .planes .now) in
+    let p = run-refused x (args .calls .now) _ _ _ _ (to-pbc .ensures .1 .0) (to-pbc .ensures .1 .1 .0) (to-pbc .ensures .1 .1 .1 .0)
+    (to-pbc .ensures .1 .1 .1 .1) _ (sym (converted2 .given .1) ∙ to-pbc .ensures .0) in (
+      ap (λ s. s .answer) p,
+      (
+        ap (λ s. s .nodes) p,
+        (
+          ap (λ s. s .operations) p,
+          (
+            ap (λ s. s .frame) p,
+            (
+              ap (λ s. s .planes) p,
+              demand3-of x (args .calls .now) _ p,
+            ),
+          ),
+        ),
+      ),
+    )
 
 pub convert-and-run-spec : {M : Type 1} → statement M
 convert-and-run-spec =

@@ -32,40 +32,70 @@ same-length-2 c = search needs
 
 returns : tie.Need-returns
 unfolding callIn
-returns c = called-frame (c .before .before .before .before .before .before .before .before .before .before .before .args .header) _ (c .before .before .before .before .before .before .before .before .before .before .before .args .nodes .now) (c .before .before .before .before .before .before .before .before .before .before .before .args .operations .now) (c .before .before .before .before .before .before .before .before .before .before .before .args .frame .now) (c .before .before .before .before .before .before .before .before .before .before .before .args .w) _ _ (c .before .before .before .before .run-frame .ensures .0) (c .before .before .before .before .run-frame .ensures .1 .0) (c .before .before .before .before .run-frame .ensures .1 .1)
-    ∙ ap (λ k. called (callAs k (c .before .before .before .before .before .before .before .before .before .before .before .args .operations .now) (c .before .before .before .before .before .before .before .before .before .before .before .args .w)) (circuitOf (c .before .before .before .before .before .before .before .before .before .before .before .args .header) (c .before .before .before .before .before .before .before .before .before .before .before .args .nodes .now) (c .before .before .before .before .before .before .before .before .before .before .before .args .operations .now) (c .before .before .before .before .before .before .before .before .before .before .before .args .frame .now))) (sym (c .before .before .before .before .before .before .before .match .keys1))
+returns c =
+    let run-frame = c .before .before .before .before .run-frame in
+    let the-match = c .before .before .before .before .before .before .before .match in
+    let args = c .before .before .before .before .before .before .before .before .before .before .before .args in
+    called-frame (args .header) _ (args .nodes .now) (args .operations .now) (args .frame .now) (args .w) _ _ (run-frame .ensures .0)
+    (run-frame .ensures .1 .0) (run-frame .ensures .1 .1)
+    ∙ ap (λ k. called (callAs k (args .operations .now) (args .w)) (circuitOf (args .header) (args .nodes .now) (args .operations .now)
+    (args .frame .now))) (sym (the-match .keys1))
 
 same-length-3 : tie.Need-same-length-3
 same-length-3 c = search needs
 
 returns-2 : tie.Need-returns-2
 unfolding callIn
-returns-2 c = called-single (c .before .before .before .before .before .before .before .before .args .header) _ (c .before .before .before .before .before .before .before .before .args .nodes .now) (c .before .before .before .before .before .before .before .before .args .operations .now) (c .before .before .before .before .before .before .before .before .args .frame .now) (c .before .before .before .before .before .before .before .before .args .w) _ (c .before .before .run-single .ensures .0) (c .before .before .run-single .ensures .1)
-    ∙ ap (λ k. called (callAs k (c .before .before .before .before .before .before .before .before .args .operations .now) (c .before .before .before .before .before .before .before .before .args .w)) (circuitOf (c .before .before .before .before .before .before .before .before .args .header) (c .before .before .before .before .before .before .before .before .args .nodes .now) (c .before .before .before .before .before .before .before .before .args .operations .now) (c .before .before .before .before .before .before .before .before .args .frame .now))) (sym (c .before .before .before .before .match .keys2))
+returns-2 c =
+    let run-single = c .before .before .run-single in
+    let the-match = c .before .before .before .before .match in
+    let args = c .before .before .before .before .before .before .before .before .args in
+    called-single (args .header) _ (args .nodes .now) (args .operations .now) (args .frame .now) (args .w) _ (run-single .ensures .0)
+    (run-single .ensures .1)
+    ∙ ap (λ k. called (callAs k (args .operations .now) (args .w)) (circuitOf (args .header) (args .nodes .now) (args .operations .now)
+    (args .frame .now))) (sym (the-match .keys2))
 
 same-length-4 : tie.Need-same-length-4
 same-length-4 c = search needs
 
 returns-3 : tie.Need-returns-3
 unfolding callIn
-returns-3 c = called-product (c .before .before .before .before .before .before .before .before .args .header) _ (c .before .before .before .before .before .before .before .before .args .nodes .now) (c .before .before .before .before .before .before .before .before .args .operations .now) (c .before .before .before .before .before .before .before .before .args .frame .now) (c .before .before .before .before .before .before .before .before .args .w) _ (c .before .before .run-product .ensures .0) (c .before .before .run-product .ensures .1)
-    ∙ ap (λ k. called (callAs k (c .before .before .before .before .before .before .before .before .args .operations .now) (c .before .before .before .before .before .before .before .before .args .w)) (circuitOf (c .before .before .before .before .before .before .before .before .args .header) (c .before .before .before .before .before .before .before .before .args .nodes .now) (c .before .before .before .before .before .before .before .before .args .operations .now) (c .before .before .before .before .before .before .before .before .args .frame .now))) (sym (c .before .before .before .before .match .keys3))
+returns-3 c =
+    let run-product = c .before .before .run-product in
+    let the-match = c .before .before .before .before .match in
+    let args = c .before .before .before .before .before .before .before .before .args in
+    called-product (args .header) _ (args .nodes .now) (args .operations .now) (args .frame .now) (args .w) _ (run-product .ensures .0)
+    (run-product .ensures .1)
+    ∙ ap (λ k. called (callAs k (args .operations .now) (args .w)) (circuitOf (args .header) (args .nodes .now) (args .operations .now)
+    (args .frame .now))) (sym (the-match .keys3))
 
 same-length-5 : tie.Need-same-length-5
 same-length-5 c = search needs
 
 returns-4 : tie.Need-returns-4
 unfolding callIn
-returns-4 c = called-rotate (c .before .before .before .before .before .before .before .before .args .header) _ (c .before .before .before .before .before .before .before .before .args .nodes .now) (c .before .before .before .before .before .before .before .before .args .operations .now) (c .before .before .before .before .before .before .before .before .args .frame .now) (c .before .before .before .before .before .before .before .before .args .w) _ (c .before .before .run-rotate .ensures .0) (c .before .before .run-rotate .ensures .1)
-    ∙ ap (λ k. called (callAs k (c .before .before .before .before .before .before .before .before .args .operations .now) (c .before .before .before .before .before .before .before .before .args .w)) (circuitOf (c .before .before .before .before .before .before .before .before .args .header) (c .before .before .before .before .before .before .before .before .args .nodes .now) (c .before .before .before .before .before .before .before .before .args .operations .now) (c .before .before .before .before .before .before .before .before .args .frame .now))) (sym (c .before .before .before .before .match .keys4))
+returns-4 c =
+    let run-rotate = c .before .before .run-rotate in
+    let the-match = c .before .before .before .before .match in
+    let args = c .before .before .before .before .before .before .before .before .args in
+    called-rotate (args .header) _ (args .nodes .now) (args .operations .now) (args .frame .now) (args .w) _ (run-rotate .ensures .0)
+    (run-rotate .ensures .1)
+    ∙ ap (λ k. called (callAs k (args .operations .now) (args .w)) (circuitOf (args .header) (args .nodes .now) (args .operations .now)
+    (args .frame .now))) (sym (the-match .keys4))
 
 same-length-6 : tie.Need-same-length-6
 same-length-6 c = search needs
 
 returns-5 : tie.Need-returns-5
 unfolding callIn
-returns-5 c = called-measure (c .before .before .before .before .before .before .before .before .args .header) _ (c .before .before .before .before .before .before .before .before .args .nodes .now) (c .before .before .before .before .before .before .before .before .args .operations .now) (c .before .before .before .before .before .before .before .before .args .frame .now) (c .before .before .before .before .before .before .before .before .args .w) _ (c .before .before .run-measure .ensures .0) (c .before .before .run-measure .ensures .1)
-    ∙ ap (λ k. called (callAs k (c .before .before .before .before .before .before .before .before .args .operations .now) (c .before .before .before .before .before .before .before .before .args .w)) (circuitOf (c .before .before .before .before .before .before .before .before .args .header) (c .before .before .before .before .before .before .before .before .args .nodes .now) (c .before .before .before .before .before .before .before .before .args .operations .now) (c .before .before .before .before .before .before .before .before .args .frame .now))) (sym (c .before .before .before .before .match .keys5))
+returns-5 c =
+    let run-measure = c .before .before .run-measure in
+    let the-match = c .before .before .before .before .match in
+    let args = c .before .before .before .before .before .before .before .before .args in
+    called-measure (args .header) _ (args .nodes .now) (args .operations .now) (args .frame .now) (args .w) _ (run-measure .ensures .0)
+    (run-measure .ensures .1)
+    ∙ ap (λ k. called (callAs k (args .operations .now) (args .w)) (circuitOf (args .header) (args .nodes .now) (args .operations .now)
+    (args .frame .now))) (sym (the-match .keys5))
 
 same-length-7 : tie.Need-same-length-7
 same-length-7 c = search needs
@@ -73,10 +103,15 @@ same-length-7 c = search needs
 returns-6 : tie.Need-returns-6
 unfolding callIn
 returns-6 c =
-    let others = c .before .before .before .before .match .rest in
-    called-conditional (c .before .before .before .before .before .before .before .before .args .header) _ (c .before .before .before .before .before .before .before .before .args .nodes .now) (c .before .before .before .before .before .before .before .before .args .operations .now) (c .before .before .before .before .before .before .before .before .args .frame .now) (c .before .before .before .before .before .before .before .before .args .w) _ (c .before .before .run-conditional .ensures .0) (c .before .before .run-conditional .ensures .1)
-    ∙ ap (λ a. called a (circuitOf (c .before .before .before .before .before .before .before .before .args .header) (c .before .before .before .before .before .before .before .before .args .nodes .now) (c .before .before .before .before .before .before .before .before .args .operations .now) (c .before .before .before .before .before .before .before .before .args .frame .now)))
-    (sym (call-rest (c .before .before .before .before .before .before .before .before .args .w .kind) (c .before .before .before .before .before .before .before .before .args .operations .now) (c .before .before .before .before .before .before .before .before .args .w) (others .0 .0 .0 .0 .1) (others .0 .0 .0 .1) (others .0 .0 .1) (others .0 .1) (others .1)))
+    let run-conditional = c .before .before .run-conditional in
+    let the-match = c .before .before .before .before .match in
+    let args = c .before .before .before .before .before .before .before .before .args in
+    let others = the-match .rest in
+    called-conditional (args .header) _ (args .nodes .now) (args .operations .now) (args .frame .now) (args .w) _ (run-conditional .ensures .0)
+    (run-conditional .ensures .1)
+    ∙ ap (λ a. called a (circuitOf (args .header) (args .nodes .now) (args .operations .now) (args .frame .now)))
+    (sym (call-rest (args .w .kind) (args .operations .now) (args .w) (others .0 .0 .0 .0 .1) (others .0 .0 .0 .1) (others .0 .0 .1) (others .0 .1)
+    (others .1)))
 
 pub run-call-spec : {M : Type 1} → statement M
 run-call-spec =

@@ -35,12 +35,19 @@ loop-less c = omega (arith, c .before .before .before .before .before .before .b
 
 loop-again : tie.Need-loop-again Inv-loop μ-loop
 loop-again c =
-    let at = c .before .before .before .before .before .before .before .before .before .before .before .before .loop in (
-      omega (arith, c .before .before .before .before .before .before .before .before .before .before .before .loop-test .taken),
-      omega (arith, c .before .before .before .before .before .before .run-call .kept, at .inv .1),
-      omega (arith, c .before .before .before .before .before .before .run-call .kept, at .inv .2),
-      omega (arith, c .before .before .before .before .before .before .run-call .kept, at .inv .3),
-      ran-more (c .before .before .before .before .before .before .before .before .before .before .before .before .before .before .before .before .before .args .calls .now) (at .i) _ _ _ (at .inv .4) (c .before .before .before .before .before .before .run-call .ensures ∙ ap (λ w. called (callIn (at .operations) w) (circuitOf (at .last) (at .nodes) (at .operations) (at .frame))) (c .before .before .before .before .before .before .before .before .before .before .words-at .ensures)),
+    let run-call = c .before .before .before .before .before .before .run-call in
+    let words-at = c .before .before .before .before .before .before .before .before .before .before .words-at in
+    let loop-test = c .before .before .before .before .before .before .before .before .before .before .before .loop-test in
+    let the-loop = c .before .before .before .before .before .before .before .before .before .before .before .before .loop in
+    let back12 = c .before .before .before .before .before .before .before .before .before .before .before .before in
+    let args = back12 .before .before .before .before .before .args in
+    let at = the-loop in (
+      omega (arith, loop-test .taken),
+      omega (arith, run-call .kept, at .inv .1),
+      omega (arith, run-call .kept, at .inv .2),
+      omega (arith, run-call .kept, at .inv .3),
+      ran-more (args .calls .now) (at .i) _ _ _ (at .inv .4) (run-call .ensures ∙ ap (λ w. called (callIn (at .operations) w) (circuitOf (at .last)
+          (at .nodes) (at .operations) (at .frame))) (words-at .ensures)),
     )
 
 same-length : tie.Need-same-length Inv-loop μ-loop
@@ -55,8 +62,11 @@ same-length-3 c = c .before .loop .inv .3
 returns : tie.Need-returns Inv-loop μ-loop
 unfolding ran
 returns c =
-    let end : c .before .loop .i ≡ length (c .before .before .before .before .before .before .args .calls .now) / 6 = omega (arith, c .loop-test .left, c .before .loop .inv .0) in
-    let all = (c .before .loop .inv .4 ∙ ap (λ k. ranTo (c .before .before .before .before .before .before .args .calls .now) k (circuitOf (c .before .before .before .before .before .before .args .header) (c .before .before .before .before .before .before .args .nodes .now) (c .before .before .before .before .before .before .args .operations .now) (c .before .before .before .before .before .before .args .frame .now))) end) in
+    let the-loop = c .before .loop in
+    let args = c .before .before .before .before .before .before .args in
+    let end : the-loop .i ≡ length (args .calls .now) / 6 = omega (arith, c .loop-test .left, the-loop .inv .0) in
+    let all = (the-loop .inv .4 ∙ ap (λ k. ranTo (args .calls .now) k (circuitOf (args .header) (args .nodes .now) (args .operations .now)
+    (args .frame .now))) end) in
     (ap (λ s. s .store .header) all, (ap (λ s. s .store .nodes) all, (ap (λ s. s .operations) all, ap (λ s. s .store .frame) all)))
 
 pub run-calls-spec : {M : Type 1} → statement M

@@ -25,10 +25,17 @@ same-length : tie.Need-same-length
 same-length c = search needs
 
 returns : tie.Need-returns
-returns c = (
-  c .after-pushed .ensures ∙ ap (λ a. headerPushed a (c .before .before .before .before .before .before .before .before .before .args .header)) (c .before .before .before .conditional-rotate .ensures .0 ∙ (λ i. conditionalStep (c .before .before .before .before .before .before .before .before .before .args .header) (c .before .before .before .before .before .before .before .before .before .args .operations .now) (c .before .before .before .before .before .before .axis-in .ensures i) (c .before .before .before .before .before .angle-in .ensures i) (c .before .before .before .before .measurement-in .ensures i) .answer)),
-  c .before .before .before .conditional-rotate .ensures .1 ∙ (λ i. conditionalStep (c .before .before .before .before .before .before .before .before .before .args .header) (c .before .before .before .before .before .before .before .before .before .args .operations .now) (c .before .before .before .before .before .before .axis-in .ensures i) (c .before .before .before .before .before .angle-in .ensures i) (c .before .before .before .before .measurement-in .ensures i) .words),
-)
+returns c =
+    let conditional-rotate = c .before .before .before .conditional-rotate in
+    let measurement-in = c .before .before .before .before .measurement-in in
+    let angle-in = c .before .before .before .before .before .angle-in in
+    let axis-in = c .before .before .before .before .before .before .axis-in in
+    let args = c .before .before .before .before .before .before .before .before .before .args in (
+      c .after-pushed .ensures ∙ ap (λ a. headerPushed a (args .header)) (conditional-rotate .ensures .0 ∙ (λ i. conditionalStep (args .header)
+          (args .operations .now) (axis-in .ensures i) (angle-in .ensures i) (measurement-in .ensures i) .answer)),
+      conditional-rotate .ensures .1 ∙ (λ i. conditionalStep (args .header) (args .operations .now) (axis-in .ensures i) (angle-in .ensures i)
+          (measurement-in .ensures i) .words),
+    )
 
 pub run-conditional-spec : {M : Type 1} → statement M
 run-conditional-spec =

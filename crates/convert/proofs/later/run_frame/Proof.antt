@@ -28,10 +28,21 @@ same-length-2 : tie.Need-same-length-2
 same-length-2 c = search needs
 
 returns : tie.Need-returns
-returns c = (
-  c .after-frame .ensures ∙ ap (λ a. headerFrame a (c .before .before .before .before .before .before .before .before .before .before .before .before .before .args .header)) (c .before .before .before .before .before .push-output-clifford .ensures .0 ∙ (λ i. cliffordStep (c .before .before .before .before .before .before .before .before .before .before .before .before .before .args .header) (c .before .before .before .before .before .before .before .before .before .before .before .before .before .args .nodes .now) (c .before .before .before .before .before .before .before .before .before .before .before .before .before .args .frame .now) (c .before .before .before .before .before .before .before .before .low-word .ensures i) (c .before .before .before .before .before .before .before .low-word2 .ensures i) (c .before .before .before .before .before .before .low-word3 .ensures i) .answer)),
-  (c .before .before .before .before .before .push-output-clifford .ensures .1 .0 ∙ (λ i. cliffordStep (c .before .before .before .before .before .before .before .before .before .before .before .before .before .args .header) (c .before .before .before .before .before .before .before .before .before .before .before .before .before .args .nodes .now) (c .before .before .before .before .before .before .before .before .before .before .before .before .before .args .frame .now) (c .before .before .before .before .before .before .before .before .low-word .ensures i) (c .before .before .before .before .before .before .before .low-word2 .ensures i) (c .before .before .before .before .before .before .low-word3 .ensures i) .words .nodes), c .before .before .before .before .before .push-output-clifford .ensures .1 .1 ∙ (λ i. cliffordStep (c .before .before .before .before .before .before .before .before .before .before .before .before .before .args .header) (c .before .before .before .before .before .before .before .before .before .before .before .before .before .args .nodes .now) (c .before .before .before .before .before .before .before .before .before .before .before .before .before .args .frame .now) (c .before .before .before .before .before .before .before .before .low-word .ensures i) (c .before .before .before .before .before .before .before .low-word2 .ensures i) (c .before .before .before .before .before .before .low-word3 .ensures i) .words .frame)),
-)
+returns c =
+    let push-output-clifford = c .before .before .before .before .before .push-output-clifford in
+    let low-word3 = c .before .before .before .before .before .before .low-word3 in
+    let low-word2 = c .before .before .before .before .before .before .before .low-word2 in
+    let low-word = c .before .before .before .before .before .before .before .before .low-word in
+    let args = c .before .before .before .before .before .before .before .before .before .before .before .before .before .args in (
+      c .after-frame .ensures ∙ ap (λ a. headerFrame a (args .header)) (push-output-clifford .ensures .0 ∙ (λ i. cliffordStep (args .header)
+          (args .nodes .now) (args .frame .now) (low-word .ensures i) (low-word2 .ensures i) (low-word3 .ensures i) .answer)),
+      (
+        push-output-clifford .ensures .1 .0 ∙ (λ i. cliffordStep (args .header) (args .nodes .now) (args .frame .now) (low-word .ensures i)
+            (low-word2 .ensures i) (low-word3 .ensures i) .words .nodes),
+        push-output-clifford .ensures .1 .1 ∙ (λ i. cliffordStep (args .header) (args .nodes .now) (args .frame .now) (low-word .ensures i)
+            (low-word2 .ensures i) (low-word3 .ensures i) .words .frame),
+      ),
+    )
 
 pub run-frame-spec : {M : Type 1} → statement M
 run-frame-spec =

@@ -22,10 +22,15 @@ same-length : tie.Need-same-length
 same-length c = search needs
 
 returns : tie.Need-returns
-returns c = (
-  c .after-measured .ensures ∙ ap (λ a. headerMeasured a (c .before .before .before .before .before .before .before .before .args .header)) (c .before .before .before .measure .ensures .0 ∙ (λ i. measureStep (c .before .before .before .before .before .before .before .before .args .header) (c .before .before .before .before .before .before .before .before .args .operations .now) (c .before .before .before .before .before .axis-in .ensures i) (c .before .before .before .before .target-in .ensures i) .answer)),
-  c .before .before .before .measure .ensures .1 ∙ (λ i. measureStep (c .before .before .before .before .before .before .before .before .args .header) (c .before .before .before .before .before .before .before .before .args .operations .now) (c .before .before .before .before .before .axis-in .ensures i) (c .before .before .before .before .target-in .ensures i) .words),
-)
+returns c =
+    let measure = c .before .before .before .measure in
+    let target-in = c .before .before .before .before .target-in in
+    let axis-in = c .before .before .before .before .before .axis-in in
+    let args = c .before .before .before .before .before .before .before .before .args in (
+      c .after-measured .ensures ∙ ap (λ a. headerMeasured a (args .header)) (measure .ensures .0 ∙ (λ i. measureStep (args .header)
+          (args .operations .now) (axis-in .ensures i) (target-in .ensures i) .answer)),
+      measure .ensures .1 ∙ (λ i. measureStep (args .header) (args .operations .now) (axis-in .ensures i) (target-in .ensures i) .words),
+    )
 
 pub run-measure-spec : {M : Type 1} → statement M
 run-measure-spec =

@@ -22,10 +22,15 @@ same-length : tie.Need-same-length
 same-length c = search needs
 
 returns : tie.Need-returns
-returns c = (
-  c .after-product .ensures ∙ ap (λ a. headerProduct a (c .before .before .before .before .before .before .before .before .args .header)) (c .before .before .before .product .ensures .0 ∙ (λ i. productStep (c .before .before .before .before .before .before .before .before .args .header) (c .before .before .before .before .before .before .before .before .args .nodes .now) (c .before .before .before .before .before .ref-in .ensures i) (c .before .before .before .before .ref-in2 .ensures i) .answer)),
-  c .before .before .before .product .ensures .1 ∙ (λ i. productStep (c .before .before .before .before .before .before .before .before .args .header) (c .before .before .before .before .before .before .before .before .args .nodes .now) (c .before .before .before .before .before .ref-in .ensures i) (c .before .before .before .before .ref-in2 .ensures i) .words),
-)
+returns c =
+    let product = c .before .before .before .product in
+    let ref-in2 = c .before .before .before .before .ref-in2 in
+    let ref-in = c .before .before .before .before .before .ref-in in
+    let args = c .before .before .before .before .before .before .before .before .args in (
+      c .after-product .ensures ∙ ap (λ a. headerProduct a (args .header)) (product .ensures .0 ∙ (λ i. productStep (args .header) (args .nodes .now)
+          (ref-in .ensures i) (ref-in2 .ensures i) .answer)),
+      product .ensures .1 ∙ (λ i. productStep (args .header) (args .nodes .now) (ref-in .ensures i) (ref-in2 .ensures i) .words),
+    )
 
 pub run-product-spec : {M : Type 1} → statement M
 run-product-spec =

@@ -22,10 +22,15 @@ same-length : tie.Need-same-length
 same-length c = search needs
 
 returns : tie.Need-returns
-returns c = (
-  c .after-pushed .ensures ∙ ap (λ a. headerPushed a (c .before .before .before .before .before .before .before .before .args .header)) (c .before .before .before .rotate .ensures .0 ∙ (λ i. rotateStep (c .before .before .before .before .before .before .before .before .args .header) (c .before .before .before .before .before .before .before .before .args .operations .now) (c .before .before .before .before .before .axis-in .ensures i) (c .before .before .before .before .angle-in .ensures i) .answer)),
-  c .before .before .before .rotate .ensures .1 ∙ (λ i. rotateStep (c .before .before .before .before .before .before .before .before .args .header) (c .before .before .before .before .before .before .before .before .args .operations .now) (c .before .before .before .before .before .axis-in .ensures i) (c .before .before .before .before .angle-in .ensures i) .words),
-)
+returns c =
+    let rotate = c .before .before .before .rotate in
+    let angle-in = c .before .before .before .before .angle-in in
+    let axis-in = c .before .before .before .before .before .axis-in in
+    let args = c .before .before .before .before .before .before .before .before .args in (
+      c .after-pushed .ensures ∙ ap (λ a. headerPushed a (args .header)) (rotate .ensures .0 ∙ (λ i. rotateStep (args .header) (args .operations .now)
+          (axis-in .ensures i) (angle-in .ensures i) .answer)),
+      rotate .ensures .1 ∙ (λ i. rotateStep (args .header) (args .operations .now) (axis-in .ensures i) (angle-in .ensures i) .words),
+    )
 
 pub run-rotate-spec : {M : Type 1} → statement M
 run-rotate-spec =

@@ -22,10 +22,15 @@ same-length : tie.Need-same-length
 same-length c = search needs
 
 returns : tie.Need-returns
-returns c = (
-  c .after-single .ensures ∙ ap (λ a. headerSingle a (c .before .before .before .before .before .before .before .before .args .header)) (c .before .before .before .single .ensures .0 ∙ (λ i. singleStep (c .before .before .before .before .before .before .before .before .args .header) (c .before .before .before .before .before .before .before .before .args .nodes .now) (c .before .before .before .before .before .low-word .ensures i) (c .before .before .before .before .letter-in .ensures i) .answer)),
-  c .before .before .before .single .ensures .1 ∙ (λ i. singleStep (c .before .before .before .before .before .before .before .before .args .header) (c .before .before .before .before .before .before .before .before .args .nodes .now) (c .before .before .before .before .before .low-word .ensures i) (c .before .before .before .before .letter-in .ensures i) .words),
-)
+returns c =
+    let single = c .before .before .before .single in
+    let letter-in = c .before .before .before .before .letter-in in
+    let low-word = c .before .before .before .before .before .low-word in
+    let args = c .before .before .before .before .before .before .before .before .args in (
+      c .after-single .ensures ∙ ap (λ a. headerSingle a (args .header)) (single .ensures .0 ∙ (λ i. singleStep (args .header) (args .nodes .now)
+          (low-word .ensures i) (letter-in .ensures i) .answer)),
+      single .ensures .1 ∙ (λ i. singleStep (args .header) (args .nodes .now) (low-word .ensures i) (letter-in .ensures i) .words),
+    )
 
 pub run-single-spec : {M : Type 1} → statement M
 run-single-spec =

@@ -16,7 +16,11 @@ start-frame-requires : tie.Need-start-frame-requires
 start-frame-requires c κs = search needs
 
 flush-records-requires : tie.Need-flush-records-requires
-flush-records-requires c κs = (c .before .before .before .before .before .before .before .before .before .before .before .pre .0 (not-false (c .before .before .before .before .before .before .before .before .before .before .before .args .flushed) (c .before .before .before .before .before .before .if1 .left)), c .before .before .before .before .before .before .before .before .before .before .before .pre .1 .0)
+flush-records-requires c κs =
+    let if1 = c .before .before .before .before .before .before .if1 in
+    let pre = c .before .before .before .before .before .before .before .before .before .before .before .pre in
+    let args = c .before .before .before .before .before .before .before .before .before .before .before .args in
+    (pre .0 (not-false (args .flushed) (if1 .left)), pre .1 .0)
 
 same-length : tie.Need-same-length
 same-length c = search needs
@@ -28,7 +32,13 @@ same-length-3 : tie.Need-same-length-3
 same-length-3 c = search needs
 
 returns-2 : tie.Need-returns-2
-returns-2 c = is-flushed (c .before .before .before .before .before .before .before .before .before .before .before .before .before .before .before .before .args .n) (not-false (c .before .before .before .before .before .before .before .before .before .before .before .before .before .before .before .before .args .flushed) (c .before .before .before .before .before .before .before .before .before .before .before .if1 .left)) (c .before .before .before .before .flush-records .ensures) (c .before .before .before .before .before .before .before .before .before .start-frame .ensures)
+returns-2 c =
+    let flush-records = c .before .before .before .before .flush-records in
+    let start-frame = c .before .before .before .before .before .before .before .before .before .start-frame in
+    let if1 = c .before .before .before .before .before .before .before .before .before .before .before .if1 in
+    let back12 = c .before .before .before .before .before .before .before .before .before .before .before .before in
+    let args = back12 .before .before .before .before .args in
+    is-flushed (args .n) (not-false (args .flushed) (if1 .left)) (flush-records .ensures) (start-frame .ensures)
 
 pub flush-if-spec : {M : Type 1} → statement M
 flush-if-spec =

@@ -24,7 +24,15 @@ same-length : tie.Need-same-length
 same-length c = search needs
 
 returns : tie.Need-returns
-returns c = four-put (c .before .before .before .before .before .before .before .before .before .before .before .before .before .before .before .before .before .args .count) (c .before .before .before .before .before .before .before .before .before .before .before .before .before .before .before .before .before .args .nodes .now) (c .before .before .before .before .before .before .before .before .before .before .before .before .before .before .before .before .before .args .a) (c .before .before .before .before .before .before .before .before .before .before .before .before .before .before .before .before .before .args .b) (c .before .before .before .before .before .before .before .before .before .before .before .before .before .before .before .before .before .args .d) _ _ _ _ _ _ _ _ (c .before .before .before .before .before .before .before .before .before .before .before .before .before .before .push .ensures) (c .before .before .before .before .before .before .before .before .before .before .push2 .ensures) (c .before .before .before .before .before .before .push3 .ensures) (c .before .before .push4 .ensures)
+returns c =
+    let push4 = c .before .before .push4 in
+    let push3 = c .before .before .before .before .before .before .push3 in
+    let push2 = c .before .before .before .before .before .before .before .before .before .before .push2 in
+    let push = c .before .before .before .before .before .before .before .before .before .before .before .before .before .before .push in
+    let back12 = c .before .before .before .before .before .before .before .before .before .before .before .before in
+    let args = back12 .before .before .before .before .before .args in
+    four-put (args .count) (args .nodes .now) (args .a) (args .b) (args .d) _ _ _ _ _ _ _ _ (push .ensures) (push2 .ensures) (push3 .ensures)
+    (push4 .ensures)
 
 pub put-four-spec : {M : Type 1} → statement M
 put-four-spec =

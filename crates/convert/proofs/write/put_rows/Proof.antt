@@ -30,7 +30,14 @@ row-angle-requires : tie.Need-row-angle-requires Inv-loop μ-loop
 row-angle-requires c κs = c .before .before .before .loop-test .taken
 
 put-rotation-requires : tie.Need-put-rotation-requires Inv-loop μ-loop
-put-rotation-requires c κs = (omega (arith, c .before .before .before .before .before .loop .inv .2, c .before .before .before .before .loop-test .taken, c .before .before .before .before .before .before .before .pre .1), omega (arith, c .before .before .before .before .before .loop .inv .2, c .before .before .before .before .before .loop .inv .1, c .before .before .before .before .loop-test .taken, c .before .before .before .before .before .before .before .pre .2), c .row-angle .ensures .1)
+put-rotation-requires c κs =
+    let loop-test = c .before .before .before .before .loop-test in
+    let the-loop = c .before .before .before .before .before .loop in
+    let pre = c .before .before .before .before .before .before .before .pre in (
+      omega (arith, the-loop .inv .2, loop-test .taken, pre .1),
+      omega (arith, the-loop .inv .2, the-loop .inv .1, loop-test .taken, pre .2),
+      c .row-angle .ensures .1,
+    )
 
 add-row : tie.Need-add-row Inv-loop μ-loop
 add-row c = search needs
@@ -39,12 +46,20 @@ loop-less : tie.Need-loop-less Inv-loop μ-loop
 loop-less c = search needs
 
 loop-again : tie.Need-loop-again Inv-loop μ-loop
-loop-again c = (
-  omega (arith, c .before .before .before .before .before .before .before .loop-test .taken),
-  omega (arith, c .before .before .put-rotation .kept, c .before .before .before .before .before .before .before .before .loop .inv .1),
-  omega (arith, c .before .before .put-rotation .ensures .0, c .before .before .before .before .before .before .before .before .loop .inv .2),
-  rows-more (c .before .before .before .before .before .before .before .before .loop .row) (c .before .before .before .before .before .before .before .before .before .before .args .a) (c .before .before .before .before .before .before .before .before .before .before .args .b) (c .before .before .before .before .before .before .before .before .before .before .args .d) (c .before .before .before .before .before .before .before .before .before .before .args .joint) (c .before .before .before .before .before .before .before .before .before .before .args .index) (c .before .before .before .before .before .before .before .before .before .before .args .operations .now) _ _ _ _ _ _ _ (c .before .before .before .before .before .before .before .before .loop .inv .3) (c .before .before .before .before .before .before .row-subset .ensures) (c .before .before .before .before .before .subset-word .ensures) (c .before .before .before .row-angle .ensures .0) (c .before .before .put-rotation .ensures),
-)
+loop-again c =
+    let put-rotation = c .before .before .put-rotation in
+    let row-angle = c .before .before .before .row-angle in
+    let subset-word = c .before .before .before .before .before .subset-word in
+    let row-subset = c .before .before .before .before .before .before .row-subset in
+    let loop-test = c .before .before .before .before .before .before .before .loop-test in
+    let the-loop = c .before .before .before .before .before .before .before .before .loop in
+    let args = c .before .before .before .before .before .before .before .before .before .before .args in (
+      omega (arith, loop-test .taken),
+      omega (arith, put-rotation .kept, the-loop .inv .1),
+      omega (arith, put-rotation .ensures .0, the-loop .inv .2),
+      rows-more (the-loop .row) (args .a) (args .b) (args .d) (args .joint) (args .index) (args .operations .now) _ _ _ _ _ _ _ (the-loop .inv .3)
+          (row-subset .ensures) (subset-word .ensures) (row-angle .ensures .0) (put-rotation .ensures),
+    )
 
 same-length : tie.Need-same-length Inv-loop μ-loop
 same-length c = search needs

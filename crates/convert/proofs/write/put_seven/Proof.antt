@@ -21,7 +21,12 @@ same-length-2 : tie.Need-same-length-2
 same-length-2 c = search needs
 
 returns : tie.Need-returns
-returns c = seven-put (c .before .before .before .before .before .before .before .before .before .before .before .args .w .nodes) (c .before .before .before .before .before .before .before .before .before .before .before .args .nodes .now) (c .before .before .before .before .before .before .before .before .before .before .before .args .w .operations) (c .before .before .before .before .before .before .before .before .before .before .before .args .operations .now) (c .before .before .before .before .before .before .before .before .before .before .before .args .a) (c .before .before .before .before .before .before .before .before .before .before .before .args .b) (c .before .before .before .before .before .before .before .before .before .before .before .args .d) _ _ _ _ _ _ (c .before .before .before .before .before .before .before .put-four .ensures) (c .before .before .before .put-rows .ensures) (c .made .ensures)
+returns c =
+    let put-rows = c .before .before .before .put-rows in
+    let put-four = c .before .before .before .before .before .before .before .put-four in
+    let args = c .before .before .before .before .before .before .before .before .before .before .before .args in
+    seven-put (args .w .nodes) (args .nodes .now) (args .w .operations) (args .operations .now) (args .a) (args .b) (args .d) _ _ _ _ _ _
+    (put-four .ensures) (put-rows .ensures) (c .made .ensures)
 
 pub put-seven-spec : {M : Type 1} → statement M
 put-seven-spec =

@@ -207,14 +207,24 @@ same-length c = search needs
 
 returns : tie.Need-returns
 unfolding putRecord
-returns c = rw (c .before .before .before .before .before .before .enum-told .given .1) (op-put (c .before .before .before .before .before .before .before .before .before .before .before .args .w .nodes) (c .before .before .before .before .before .before .before .before .before .before .before .args .nodes .now) (c .before .before .before .before .before .before .before .before .before .before .before .args .w .operations) (c .before .before .before .before .before .before .before .before .before .before .before .args .operations .now) (rotateWords (getD (c .before .before .before .before .before .before .before .before .before .before .before .args .frame .now) (c .before .before .before .before .before .before .before .before .before .before .before .args .n + c .before .before .before .before .before .before .before .before .before .before .before .args .a) 0) 1) _ _ _ _ (c .before .before .before .put-rotation .ensures) (c .made .ensures))
+returns c =
+    let put-rotation = c .before .before .before .put-rotation in
+    let the-enum-told = c .before .before .before .before .before .before .enum-told in
+    let args = c .before .before .before .before .before .before .before .before .before .before .before .args in
+    rw (the-enum-told .given .1) (op-put (args .w .nodes) (args .nodes .now) (args .w .operations) (args .operations .now) (rotateWords (getD
+    (args .frame .now) (args .n + args .a) 0) 1) _ _ _ _ (put-rotation .ensures) (c .made .ensures))
 
 same-length-2 : tie.Need-same-length-2
 same-length-2 c = search needs
 
 returns-2 : tie.Need-returns-2
 unfolding putRecord
-returns-2 c = rw (c .before .before .before .before .before .before .enum-told2 .given .1) (op-put (c .before .before .before .before .before .before .before .before .before .before .before .args .w .nodes) (c .before .before .before .before .before .before .before .before .before .before .before .args .nodes .now) (c .before .before .before .before .before .before .before .before .before .before .before .args .w .operations) (c .before .before .before .before .before .before .before .before .before .before .before .args .operations .now) (rotateWords (getD (c .before .before .before .before .before .before .before .before .before .before .before .args .frame .now) (c .before .before .before .before .before .before .before .before .before .before .before .args .n + c .before .before .before .before .before .before .before .before .before .before .before .args .a) 0) 7) _ _ _ _ (c .before .before .before .put-rotation2 .ensures) (c .made2 .ensures))
+returns-2 c =
+    let put-rotation2 = c .before .before .before .put-rotation2 in
+    let enum-told2 = c .before .before .before .before .before .before .enum-told2 in
+    let args = c .before .before .before .before .before .before .before .before .before .before .before .args in
+    rw (enum-told2 .given .1) (op-put (args .w .nodes) (args .nodes .now) (args .w .operations) (args .operations .now) (rotateWords (getD
+    (args .frame .now) (args .n + args .a) 0) 7) _ _ _ _ (put-rotation2 .ensures) (c .made2 .ensures))
 
 same-length-3 : tie.Need-same-length-3
 same-length-3 c = search needs
@@ -241,7 +251,12 @@ same-length-7 c = search needs
 
 returns-5 : tie.Need-returns-5
 unfolding putRecord
-returns-5 c = rw (c .before .before .before .before .before .before .enum-told5 .given .1) (op-put (c .before .before .before .before .before .before .before .before .before .before .before .args .w .nodes) (c .before .before .before .before .before .before .before .before .before .before .before .args .nodes .now) (c .before .before .before .before .before .before .before .before .before .before .before .args .w .operations) (c .before .before .before .before .before .before .before .before .before .before .before .args .operations .now) (measureWords (getD (c .before .before .before .before .before .before .before .before .before .before .before .args .frame .now) (c .before .before .before .before .before .before .before .before .before .before .before .args .n + c .before .before .before .before .before .before .before .before .before .before .before .args .a) 0) (c .before .before .before .before .before .before .before .before .before .before .before .args .given) (Bit (c .before .before .before .before .before .before .before .before .before .before .before .args .b))) _ _ _ _ (c .before .before .before .put-operation .ensures) (c .made3 .ensures))
+returns-5 c =
+    let put-operation = c .before .before .before .put-operation in
+    let enum-told5 = c .before .before .before .before .before .before .enum-told5 in
+    let args = c .before .before .before .before .before .before .before .before .before .before .before .args in
+    rw (enum-told5 .given .1) (op-put (args .w .nodes) (args .nodes .now) (args .w .operations) (args .operations .now) (measureWords (getD
+    (args .frame .now) (args .n + args .a) 0) (args .given) (Bit (args .b))) _ _ _ _ (put-operation .ensures) (c .made3 .ensures))
 
 returns-6 : tie.Need-returns-6
 returns-6 c = no-record _ _ _ _ _ _ _ _ (c .match .keys6)

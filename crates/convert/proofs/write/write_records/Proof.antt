@@ -36,14 +36,18 @@ made-requires c κs = search needs
 
 loop-holds : tie.Need-loop-holds Inv-loop μ-loop
 loop-holds c =
-    let a = c .before .before .before .before .before .before .before .before .before .before .args in (
+    let prepare = c .before .before .before .prepare in
+    let args = c .before .before .before .before .before .before .before .before .before .before .args in
+    let pre = c .before .before .before .before .before .before .before .before .before .before .pre in
+    let a = args in (
       omega arith,
       refl,
       refl,
       refl,
       refl,
-      rw (c .made .ensures .0, c .made .ensures .1) (write-start (a .n) (a .cap) (a .gates .now) (a .nodes .now) (a .frame .now) (a .operations .now) _ (c .before .before .before .before .before .before .before .before .before .before .pre .1 .1 .0 .2) (c .before .before .before .before .before .before .before .before .before .before .pre .1 .1 .1 .0) (c .before .before .before .before .before .before .before .before .before .before .pre .1 .1 .1 .1)
-          (c .before .before .before .prepare .ensures ∙ sym (planes-over (a .cap) (a .n) (start (a .n)) (start (a .n)) (a .planes .now) _ (c .before .before .before .prepare .ensures)))),
+      rw (c .made .ensures .0, c .made .ensures .1) (write-start (a .n) (a .cap) (a .gates .now) (a .nodes .now) (a .frame .now) (a .operations .now) _
+          (pre .1 .1 .0 .2) (pre .1 .1 .1 .0) (pre .1 .1 .1 .1)
+          (prepare .ensures ∙ sym (planes-over (a .cap) (a .n) (start (a .n)) (start (a .n)) (a .planes .now) _ (prepare .ensures)))),
     )
 
 kind-at-requires : tie.Need-kind-at-requires Inv-loop μ-loop
@@ -71,62 +75,222 @@ sub-flush-if c = omega (arith, c .before .before .before .before .before .before
 
 flush-if-requires : tie.Need-flush-if-requires Inv-loop μ-loop
 flush-if-requires c κs =
-    let a = c .before .before .before .before .before .before .before .before .before .before .before .before .before .before .before .before .before .before .before .before .before .before .before .args in
-    let at = c .before .before .before .before .before .before .before .before .before .before .before .before .loop .inv .5 in
-    let h = c .before .before .before .before .before .before .before .before .before .before .before .loop-test .taken in
-    let pl = write-planes (a .n) (a .cap) (a .gates .now) _ _ _ _ _ _ _ _ _ _ _ _ (c .before .before .before .before .before .before .before .before .before .before .before .before .loop .i) at h (c .before .before .before .before .before .before .before .before .before .before .before .before .before .before .before .before .before .before .before .before .before .before .before .pre .0) (c .before .before .before .before .before .before .before .before .before .before .before .before .before .before .before .before .before .before .before .before .before .before .before .pre .1 .1 .0 .2) (c .before .before .before .before .before .before .before .before .before .before .before .before .before .before .before .before .before .before .before .before .before .before .before .pre .1 .0) (c .before .before .before .before .before .before .before .before .before .before .before .before .loop .inv .1, c .before .before .before .before .before .before .before .before .before .before .before .before .loop .inv .2, omega (arith, c .before .before .before .before .before .before .before .before .before .before .before .before .loop .inv .3, c .before .before .before .before .before .before .before .before .before .before .before .before .before .before .before .before .before .before .before .before .before .before .before .pre .1 .1 .0 .4)) (c .before .before .before .before .before .decide .result) _ (rw (c .before .before .before .before .before .before .before .before .before .before .kind-at .ensures, c .before .before .before .before .before .before .before .before .before .operand-at .ensures, c .before .before .before .before .before .before .before .before .operand-at2 .ensures, c .before .before .before .before .before .before .before .operand-at3 .ensures) at (c .before .before .before .before .before .decide .ensures)) in
-    ((λ on. write-flush (a .n) (a .cap) (a .gates .now) _ _ _ _ _ _ _ _ _ _ _ _ (c .before .before .before .before .before .before .before .before .before .before .before .before .loop .i) at h (c .before .before .before .before .before .before .before .before .before .before .before .before .before .before .before .before .before .before .before .before .before .before .before .pre .0) (c .before .before .before .before .before .before .before .before .before .before .before .before .before .before .before .before .before .before .before .before .before .before .before .pre .1 .1 .0 .2) (c .before .before .before .before .before .before .before .before .before .before .before .before .before .before .before .before .before .before .before .before .before .before .before .pre .1 .0) (c .before .before .before .before .before .before .before .before .before .before .before .before .loop .inv .1, c .before .before .before .before .before .before .before .before .before .before .before .before .loop .inv .2, omega (arith, c .before .before .before .before .before .before .before .before .before .before .before .before .loop .inv .3, c .before .before .before .before .before .before .before .before .before .before .before .before .before .before .before .before .before .before .before .before .before .before .before .pre .1 .1 .0 .4)) (c .before .before .before .before .before .decide .result) (pl .0) on), (omega (arith, at .past, h), c .before .before .before .before .before .before .before .before .before .before .before .before .before .before .before .before .before .before .before .before .before .before .before .pre .1 .1 .0 .2, omega (arith, c .before .before .before .before .before .before .before .before .before .before .before .before .loop .inv .3, c .before .before .before .before .before .before .before .before .before .before .before .before .before .before .before .before .before .before .before .before .before .before .before .pre .1 .1 .0 .4)))
+    let decide = c .before .before .before .before .before .decide in
+    let operand-at3 = c .before .before .before .before .before .before .before .operand-at3 in
+    let operand-at2 = c .before .before .before .before .before .before .before .before .operand-at2 in
+    let operand-at = c .before .before .before .before .before .before .before .before .before .operand-at in
+    let kind-at = c .before .before .before .before .before .before .before .before .before .before .kind-at in
+    let loop-test = c .before .before .before .before .before .before .before .before .before .before .before .loop-test in
+    let the-loop = c .before .before .before .before .before .before .before .before .before .before .before .before .loop in
+    let back12 = c .before .before .before .before .before .before .before .before .before .before .before .before in
+    let args = back12 .before .before .before .before .before .before .before .before .before .before .before .args in
+    let pre = back12 .before .before .before .before .before .before .before .before .before .before .before .pre in
+    let a = args in
+    let at = the-loop .inv .5 in
+    let h = loop-test .taken in
+    let pl = write-planes (a .n) (a .cap) (a .gates .now) _ _ _ _ _ _ _ _ _ _ _ _ (the-loop .i) at h (pre .0) (pre .1 .1 .0 .2) (pre .1 .0)
+    (the-loop .inv .1, the-loop .inv .2, omega (arith, the-loop .inv .3, pre .1 .1 .0 .4)) (decide .result) _ (rw (
+      kind-at .ensures,
+      operand-at .ensures,
+      operand-at2 .ensures,
+      operand-at3 .ensures,
+    ) at (decide .ensures)) in (
+      (λ on. write-flush (a .n) (a .cap) (a .gates .now) _ _ _ _ _ _ _ _ _ _ _ _ (the-loop .i) at h (pre .0) (pre .1 .1 .0 .2) (pre .1 .0)
+          (the-loop .inv .1, the-loop .inv .2, omega (arith, the-loop .inv .3, pre .1 .1 .0 .4)) (decide .result) (pl .0) on),
+      (
+        omega (arith, at .past, h),
+        pre .1 .1 .0 .2,
+        omega (arith, the-loop .inv .3, pre .1 .1 .0 .4),
+      ),
+    )
 
 frame-record-requires : tie.Need-frame-record-requires Inv-loop μ-loop
 frame-record-requires c κs =
-    let a = c .before .before .before .before .before .before .before .before .before .before .before .before .before .before .before .before .before .before .before .before .before .before .before .before .before .before .before .before .before .before .before .before .args in
-    let at = c .before .before .before .before .before .before .before .before .before .before .before .before .before .before .before .before .before .before .before .before .before .loop .inv .5 in
-    let h = c .before .before .before .before .before .before .before .before .before .before .before .before .before .before .before .before .before .before .before .before .loop-test .taken in
-    let pl = write-planes (a .n) (a .cap) (a .gates .now) _ _ _ _ _ _ _ _ _ _ _ _ (c .before .before .before .before .before .before .before .before .before .before .before .before .before .before .before .before .before .before .before .before .before .loop .i) at h (c .before .before .before .before .before .before .before .before .before .before .before .before .before .before .before .before .before .before .before .before .before .before .before .before .before .before .before .before .before .before .before .before .pre .0) (c .before .before .before .before .before .before .before .before .before .before .before .before .before .before .before .before .before .before .before .before .before .before .before .before .before .before .before .before .before .before .before .before .pre .1 .1 .0 .2) (c .before .before .before .before .before .before .before .before .before .before .before .before .before .before .before .before .before .before .before .before .before .before .before .before .before .before .before .before .before .before .before .before .pre .1 .0) (c .before .before .before .before .before .before .before .before .before .before .before .before .before .before .before .before .before .before .before .before .before .loop .inv .1, c .before .before .before .before .before .before .before .before .before .before .before .before .before .before .before .before .before .before .before .before .before .loop .inv .2, omega (arith, c .before .before .before .before .before .before .before .before .before .before .before .before .before .before .before .before .before .before .before .before .before .loop .inv .3, c .before .before .before .before .before .before .before .before .before .before .before .before .before .before .before .before .before .before .before .before .before .before .before .before .before .before .before .before .before .before .before .before .pre .1 .1 .0 .4)) (c .before .before .before .before .before .before .before .before .before .before .before .before .before .before .decide .result) _ (rw (c .before .before .before .before .before .before .before .before .before .before .before .before .before .before .before .before .before .before .before .kind-at .ensures, c .before .before .before .before .before .before .before .before .before .before .before .before .before .before .before .before .before .before .operand-at .ensures, c .before .before .before .before .before .before .before .before .before .before .before .before .before .before .before .before .before .operand-at2 .ensures, c .before .before .before .before .before .before .before .before .before .before .before .before .before .before .before .before .operand-at3 .ensures) at (c .before .before .before .before .before .before .before .before .before .before .before .before .before .before .decide .ensures)) in
-    rw (c .before .before .before .before .before .before .before .before .before .before .before .before .before .before .before .before .before .before .before .kind-at .ensures, c .before .before .before .before .before .before .before .before .before .before .before .before .before .before .before .before .before .before .operand-at .ensures, c .before .before .before .before .before .before .before .before .before .before .before .before .before .before .before .before .before .operand-at2 .ensures) (write-frames (a .n) (a .cap) (a .gates .now) _ _ _ _ _ _ _ _ _ _ _ _ (c .before .before .before .before .before .before .before .before .before .before .before .before .before .before .before .before .before .before .before .before .before .loop .i) at h (c .before .before .before .before .before .before .before .before .before .before .before .before .before .before .before .before .before .before .before .before .before .before .before .before .before .before .before .before .before .before .before .before .pre .0) (c .before .before .before .before .before .before .before .before .before .before .before .before .before .before .before .before .before .before .before .before .before .before .before .before .before .before .before .before .before .before .before .before .pre .1 .1 .0 .2) (c .before .before .before .before .before .before .before .before .before .before .before .before .before .before .before .before .before .before .before .before .before .before .before .before .before .before .before .before .before .before .before .before .pre .1 .0) (c .before .before .before .before .before .before .before .before .before .before .before .before .before .before .before .before .before .before .before .before .before .loop .inv .1, c .before .before .before .before .before .before .before .before .before .before .before .before .before .before .before .before .before .before .before .before .before .loop .inv .2, omega (arith, c .before .before .before .before .before .before .before .before .before .before .before .before .before .before .before .before .before .before .before .before .before .loop .inv .3, c .before .before .before .before .before .before .before .before .before .before .before .before .before .before .before .before .before .before .before .before .before .before .before .before .before .before .before .before .before .before .before .before .pre .1 .1 .0 .4)) (c .before .before .before .before .before .before .before .before .before .before .before .before .before .before .decide .result) (pl .0) _ _ _ _ _ (c .before .before .before .before .before .before .before .before .flush-if .ensures) (omega (arith, c .before .before .before .before .before .before .before .before .flush-if .kept), omega (arith, c .before .before .before .before .before .before .before .before .flush-if .kept), omega (arith, c .before .before .before .before .before .before .before .before .flush-if .kept)))
+    let flush-if = c .before .before .before .before .before .before .before .before .flush-if in
+    let decide = c .before .before .before .before .before .before .before .before .before .before .before .before .before .before .decide in
+    let back12 = c .before .before .before .before .before .before .before .before .before .before .before .before in
+    let operand-at3 = back12 .before .before .before .before .operand-at3 in
+    let operand-at2 = back12 .before .before .before .before .before .operand-at2 in
+    let operand-at = back12 .before .before .before .before .before .before .operand-at in
+    let kind-at = back12 .before .before .before .before .before .before .before .kind-at in
+    let loop-test = back12 .before .before .before .before .before .before .before .before .loop-test in
+    let the-loop = back12 .before .before .before .before .before .before .before .before .before .loop in
+    let back24 = back12 .before .before .before .before .before .before .before .before .before .before .before .before in
+    let args = back24 .before .before .before .before .before .before .before .before .args in
+    let pre = back24 .before .before .before .before .before .before .before .before .pre in
+    let a = args in
+    let at = the-loop .inv .5 in
+    let h = loop-test .taken in
+    let pl = write-planes (a .n) (a .cap) (a .gates .now) _ _ _ _ _ _ _ _ _ _ _ _ (the-loop .i) at h (pre .0) (pre .1 .1 .0 .2) (pre .1 .0)
+    (the-loop .inv .1, the-loop .inv .2, omega (arith, the-loop .inv .3, pre .1 .1 .0 .4)) (decide .result) _ (rw (
+      kind-at .ensures,
+      operand-at .ensures,
+      operand-at2 .ensures,
+      operand-at3 .ensures,
+    ) at (decide .ensures)) in
+    rw (
+      kind-at .ensures,
+      operand-at .ensures,
+      operand-at2 .ensures,
+    ) (write-frames (a .n) (a .cap) (a .gates .now) _ _ _ _ _ _ _ _ _ _ _ _ (the-loop .i) at h (pre .0) (pre .1 .1 .0 .2)
+    (pre .1 .0) (
+      the-loop .inv .1,
+      the-loop .inv .2,
+      omega (
+        arith,
+        the-loop .inv .3,
+        pre .1 .1 .0 .4,
+      ),
+    ) (decide .result) (pl .0) _ _ _ _ _ (flush-if .ensures) (
+      omega (arith, flush-if .kept),
+      omega (arith, flush-if .kept),
+      omega (
+        arith,
+        flush-if .kept,
+      ),
+    ))
 
 made-requires-2 : tie.Need-made-requires-2 Inv-loop μ-loop
 made-requires-2 c κs = search needs
 
 write-record-requires : tie.Need-write-record-requires Inv-loop μ-loop
 write-record-requires c κs =
-    let a = c .before .before .before .before .before .before .before .before .before .before .before .before .before .before .before .before .before .before .before .before .before .before .before .before .before .before .before .before .before .before .before .before .before .before .before .before .before .before .before .before .before .args in
-    let at = c .before .before .before .before .before .before .before .before .before .before .before .before .before .before .before .before .before .before .before .before .before .before .before .before .before .before .before .before .before .before .loop .inv .5 in
-    let h = c .before .before .before .before .before .before .before .before .before .before .before .before .before .before .before .before .before .before .before .before .before .before .before .before .before .before .before .before .before .loop-test .taken in
-    let pl = write-planes (a .n) (a .cap) (a .gates .now) _ _ _ _ _ _ _ _ _ _ _ _ (c .before .before .before .before .before .before .before .before .before .before .before .before .before .before .before .before .before .before .before .before .before .before .before .before .before .before .before .before .before .before .loop .i) at h (c .before .before .before .before .before .before .before .before .before .before .before .before .before .before .before .before .before .before .before .before .before .before .before .before .before .before .before .before .before .before .before .before .before .before .before .before .before .before .before .before .before .pre .0) (c .before .before .before .before .before .before .before .before .before .before .before .before .before .before .before .before .before .before .before .before .before .before .before .before .before .before .before .before .before .before .before .before .before .before .before .before .before .before .before .before .before .pre .1 .1 .0 .2) (c .before .before .before .before .before .before .before .before .before .before .before .before .before .before .before .before .before .before .before .before .before .before .before .before .before .before .before .before .before .before .before .before .before .before .before .before .before .before .before .before .before .pre .1 .0) (c .before .before .before .before .before .before .before .before .before .before .before .before .before .before .before .before .before .before .before .before .before .before .before .before .before .before .before .before .before .before .loop .inv .1, c .before .before .before .before .before .before .before .before .before .before .before .before .before .before .before .before .before .before .before .before .before .before .before .before .before .before .before .before .before .before .loop .inv .2, omega (arith, c .before .before .before .before .before .before .before .before .before .before .before .before .before .before .before .before .before .before .before .before .before .before .before .before .before .before .before .before .before .before .loop .inv .3, c .before .before .before .before .before .before .before .before .before .before .before .before .before .before .before .before .before .before .before .before .before .before .before .before .before .before .before .before .before .before .before .before .before .before .before .before .before .before .before .before .before .pre .1 .1 .0 .4)) (c .before .before .before .before .before .before .before .before .before .before .before .before .before .before .before .before .before .before .before .before .before .before .before .decide .result) _ (rw (c .before .before .before .before .before .before .before .before .before .before .before .before .before .before .before .before .before .before .before .before .before .before .before .before .before .before .before .before .kind-at .ensures, c .before .before .before .before .before .before .before .before .before .before .before .before .before .before .before .before .before .before .before .before .before .before .before .before .before .before .before .operand-at .ensures, c .before .before .before .before .before .before .before .before .before .before .before .before .before .before .before .before .before .before .before .before .before .before .before .before .before .before .operand-at2 .ensures, c .before .before .before .before .before .before .before .before .before .before .before .before .before .before .before .before .before .before .before .before .before .before .before .before .before .operand-at3 .ensures) at (c .before .before .before .before .before .before .before .before .before .before .before .before .before .before .before .before .before .before .before .before .before .before .before .decide .ensures)) in
-    let d₂ = rw (c .before .before .before .before .before .before .before .before .before .before .before .before .before .before .before .before .before .before .before .before .before .before .before .before .before .before .before .before .kind-at .ensures, c .before .before .before .before .before .before .before .before .before .before .before .before .before .before .before .before .before .before .before .before .before .before .before .before .before .before .before .operand-at .ensures, c .before .before .before .before .before .before .before .before .before .before .before .before .before .before .before .before .before .before .before .before .before .before .before .before .before .before .operand-at2 .ensures) at (c .before .before .before .before .before .before .before .before .frame-record .ensures) in
-    rw (c .before .before .before .before .before .before .before .before .before .before .before .before .before .before .before .before .before .before .before .before .before .before .before .before .before .before .before .before .kind-at .ensures, c .before .before .before .before .before .before .before .before .before .before .before .before .before .before .before .before .before .before .before .before .before .before .before .before .before .before .before .operand-at .ensures, c .before .before .before .before .before .before .before .before .before .before .before .before .before .before .before .before .before .before .before .before .before .before .before .before .before .before .operand-at2 .ensures, c .before .before .before .before .before .before .before .before .before .before .before .before .before .before .before .before .before .before .before .before .before .before .before .before .before .operand-at3 .ensures, c .before .before .before .made2 .ensures .0, c .before .before .before .made2 .ensures .1)
-    (write-ready (a .n) (a .cap) (a .gates .now) _ _ _ _ _ _ _ _ _ _ _ _ (c .before .before .before .before .before .before .before .before .before .before .before .before .before .before .before .before .before .before .before .before .before .before .before .before .before .before .before .before .before .before .loop .i) at h (c .before .before .before .before .before .before .before .before .before .before .before .before .before .before .before .before .before .before .before .before .before .before .before .before .before .before .before .before .before .before .before .before .before .before .before .before .before .before .before .before .before .pre .0) (c .before .before .before .before .before .before .before .before .before .before .before .before .before .before .before .before .before .before .before .before .before .before .before .before .before .before .before .before .before .before .before .before .before .before .before .before .before .before .before .before .before .pre .1 .1 .0 .2) (c .before .before .before .before .before .before .before .before .before .before .before .before .before .before .before .before .before .before .before .before .before .before .before .before .before .before .before .before .before .before .before .before .before .before .before .before .before .before .before .before .before .pre .1 .0) (c .before .before .before .before .before .before .before .before .before .before .before .before .before .before .before .before .before .before .before .before .before .before .before .before .before .before .before .before .before .before .loop .inv .1, c .before .before .before .before .before .before .before .before .before .before .before .before .before .before .before .before .before .before .before .before .before .before .before .before .before .before .before .before .before .before .loop .inv .2, omega (arith, c .before .before .before .before .before .before .before .before .before .before .before .before .before .before .before .before .before .before .before .before .before .before .before .before .before .before .before .before .before .before .loop .inv .3, c .before .before .before .before .before .before .before .before .before .before .before .before .before .before .before .before .before .before .before .before .before .before .before .before .before .before .before .before .before .before .before .before .before .before .before .before .before .before .before .before .before .pre .1 .1 .0 .4)) (c .before .before .before .before .before .before .before .before .before .before .before .before .before .before .before .before .before .before .before .before .before .before .before .decide .result) (pl .0) _ _ _ _ _ (c .before .before .before .before .before .before .before .before .before .before .before .before .before .before .before .before .before .flush-if .ensures) (omega (arith, c .before .before .before .before .before .before .before .before .before .before .before .before .before .before .before .before .before .flush-if .kept), omega (arith, c .before .before .before .before .before .before .before .before .before .before .before .before .before .before .before .before .before .flush-if .kept), omega (arith, c .before .before .before .before .before .before .before .before .before .before .before .before .before .before .before .before .before .flush-if .kept)) _ _ _ d₂ (omega (arith, c .before .before .before .before .before .before .before .before .frame-record .kept), omega (arith, c .before .before .before .before .before .before .before .before .frame-record .kept)))
+    let made2 = c .before .before .before .made2 in
+    let frame-record = c .before .before .before .before .before .before .before .before .frame-record in
+    let back12 = c .before .before .before .before .before .before .before .before .before .before .before .before in
+    let flush-if = back12 .before .before .before .before .before .flush-if in
+    let decide = back12 .before .before .before .before .before .before .before .before .before .before .before .decide in
+    let operand-at3 = back12 .before .before .before .before .before .before .before .before .before .before .before .before .before .operand-at3 in
+    let operand-at2 = back12 .before .before .before .before .before .before .before .before .before .before .before .before .before .before .operand-at2 in
+    let back24 = back12 .before .before .before .before .before .before .before .before .before .before .before .before in
+    let operand-at = back24 .before .before .before .operand-at in
+    let kind-at = back24 .before .before .before .before .kind-at in
+    let loop-test = back24 .before .before .before .before .before .loop-test in
+    let the-loop = back24 .before .before .before .before .before .before .loop in
+    let back36 = back24 .before .before .before .before .before .before .before .before .before .before .before .before in
+    let args = back36 .before .before .before .before .before .args in
+    let pre = back36 .before .before .before .before .before .pre in
+    let a = args in
+    let at = the-loop .inv .5 in
+    let h = loop-test .taken in
+    let pl = write-planes (a .n) (a .cap) (a .gates .now) _ _ _ _ _ _ _ _ _ _ _ _ (the-loop .i) at h (pre .0) (pre .1 .1 .0 .2) (pre .1 .0)
+    (the-loop .inv .1, the-loop .inv .2, omega (arith, the-loop .inv .3, pre .1 .1 .0 .4)) (decide .result) _ (rw (
+      kind-at .ensures,
+      operand-at .ensures,
+      operand-at2 .ensures,
+      operand-at3 .ensures,
+    ) at (decide .ensures)) in
+    let d₂ = rw (kind-at .ensures, operand-at .ensures, operand-at2 .ensures) at (frame-record .ensures) in
+    rw (kind-at .ensures, operand-at .ensures, operand-at2 .ensures, operand-at3 .ensures, made2 .ensures .0, made2 .ensures .1)
+    (write-ready (a .n) (a .cap) (a .gates .now) _ _ _ _ _ _ _ _ _ _ _ _ (the-loop .i) at h (pre .0) (pre .1 .1 .0 .2) (pre .1 .0) (
+      the-loop .inv .1,
+      the-loop .inv .2,
+      omega (arith, the-loop .inv .3, pre .1 .1 .0 .4),
+    ) (decide .result) (pl .0) _ _ _ _ _ (flush-if .ensures) (
+      omega (
+        arith,
+        flush-if .kept,
+      ),
+      omega (arith, flush-if .kept),
+      omega (arith, flush-if .kept),
+    ) _ _ _ d₂ (
+      omega (arith, frame-record .kept),
+      omega (
+        arith,
+        frame-record .kept,
+      ),
+    ))
 
 measures-requires : tie.Need-measures-requires Inv-loop μ-loop
 measures-requires c κs = search needs
 
 add-given : tie.Need-add-given Inv-loop μ-loop
-add-given c = omega (arith, c .before .before .before .before .before .before .before .before .before .before .before .before .before .before .before .before .before .before .before .before .before .before .before .before .before .before .before .before .before .before .before .before .before .before .before .before .loop .inv .5 .few, c .before .before .before .before .before .before .before .before .before .before .before .before .before .before .before .before .before .before .before .before .before .before .before .before .before .before .before .before .before .before .before .before .before .before .before .loop-test .taken, c .before .before .before .before .before .before .before .before .before .before .before .before .before .before .before .before .before .before .before .before .before .before .before .before .before .before .before .before .before .before .before .before .before .before .before .before .before .before .before .before .before .before .before .before .before .before .before .pre .1 .1 .0 .3, measures-few (c .before .before .before .before .before .before .before .before .before .before .before .before .before .before .before .before .before .before .before .before .before .before .before .before .before .before .before .before .before .before .before .before .before .before .kind-at .result), c .measures .ensures)
+add-given c =
+    let back12 = c .before .before .before .before .before .before .before .before .before .before .before .before in
+    let back24 = back12 .before .before .before .before .before .before .before .before .before .before .before .before in
+    let kind-at = back24 .before .before .before .before .before .before .before .before .before .before .kind-at in
+    let loop-test = back24 .before .before .before .before .before .before .before .before .before .before .before .loop-test in
+    let the-loop = back24 .before .before .before .before .before .before .before .before .before .before .before .before .loop in
+    let back36 = back24 .before .before .before .before .before .before .before .before .before .before .before .before in
+    let pre = back36 .before .before .before .before .before .before .before .before .before .before .before .pre in
+    omega (arith, the-loop .inv .5 .few, loop-test .taken, pre .1 .1 .0 .3, measures-few (kind-at .result), c .measures .ensures)
 
 later-requires : tie.Need-later-requires Inv-loop μ-loop
 later-requires c κs = search needs
 
 add-i : tie.Need-add-i Inv-loop μ-loop
-add-i c = omega (arith, c .before .before .before .before .before .before .before .before .before .before .before .before .before .before .before .before .before .before .before .before .before .before .before .before .before .before .before .before .before .before .before .before .before .before .before .before .loop-test .taken, c .before .before .before .before .before .before .before .before .before .before .before .before .before .before .before .before .before .before .before .before .before .before .before .before .before .before .before .before .before .before .before .before .before .before .before .before .before .before .before .before .before .before .before .before .before .before .before .before .pre .1 .1 .0 .3)
+add-i c =
+    let back12 = c .before .before .before .before .before .before .before .before .before .before .before .before in
+    let back24 = back12 .before .before .before .before .before .before .before .before .before .before .before .before in
+    let loop-test = back24 .before .before .before .before .before .before .before .before .before .before .before .before .loop-test in
+    let back36 = back24 .before .before .before .before .before .before .before .before .before .before .before .before in
+    let pre = back36 .before .before .before .before .before .before .before .before .before .before .before .before .pre in
+    omega (arith, loop-test .taken, pre .1 .1 .0 .3)
 
 loop-less : tie.Need-loop-less Inv-loop μ-loop
 loop-less c = omega (arith, c .before .before .before .before .before .before .before .before .before .before .before .before .before .before .before .before .before .before .before .before .before .before .before .before .before .before .before .before .before .before .before .before .before .before .before .before .loop-test .taken)
 
 loop-again : tie.Need-loop-again Inv-loop μ-loop
 loop-again c =
-    let a = c .before .before .before .before .before .before .before .before .before .before .before .before .before .before .before .before .before .before .before .before .before .before .before .before .before .before .before .before .before .before .before .before .before .before .before .before .before .before .before .before .before .before .before .before .before .before .before .before .args in
-    let at = c .before .before .before .before .before .before .before .before .before .before .before .before .before .before .before .before .before .before .before .before .before .before .before .before .before .before .before .before .before .before .before .before .before .before .before .before .before .loop .inv .5 in
-    let h = c .before .before .before .before .before .before .before .before .before .before .before .before .before .before .before .before .before .before .before .before .before .before .before .before .before .before .before .before .before .before .before .before .before .before .before .before .loop-test .taken in
-    let pl = write-planes (a .n) (a .cap) (a .gates .now) _ _ _ _ _ _ _ _ _ _ _ _ (c .before .before .before .before .before .before .before .before .before .before .before .before .before .before .before .before .before .before .before .before .before .before .before .before .before .before .before .before .before .before .before .before .before .before .before .before .before .loop .i) at h (c .before .before .before .before .before .before .before .before .before .before .before .before .before .before .before .before .before .before .before .before .before .before .before .before .before .before .before .before .before .before .before .before .before .before .before .before .before .before .before .before .before .before .before .before .before .before .before .before .pre .0) (c .before .before .before .before .before .before .before .before .before .before .before .before .before .before .before .before .before .before .before .before .before .before .before .before .before .before .before .before .before .before .before .before .before .before .before .before .before .before .before .before .before .before .before .before .before .before .before .before .pre .1 .1 .0 .2) (c .before .before .before .before .before .before .before .before .before .before .before .before .before .before .before .before .before .before .before .before .before .before .before .before .before .before .before .before .before .before .before .before .before .before .before .before .before .before .before .before .before .before .before .before .before .before .before .before .pre .1 .0) (c .before .before .before .before .before .before .before .before .before .before .before .before .before .before .before .before .before .before .before .before .before .before .before .before .before .before .before .before .before .before .before .before .before .before .before .before .before .loop .inv .1, c .before .before .before .before .before .before .before .before .before .before .before .before .before .before .before .before .before .before .before .before .before .before .before .before .before .before .before .before .before .before .before .before .before .before .before .before .before .loop .inv .2, omega (arith, c .before .before .before .before .before .before .before .before .before .before .before .before .before .before .before .before .before .before .before .before .before .before .before .before .before .before .before .before .before .before .before .before .before .before .before .before .before .loop .inv .3, c .before .before .before .before .before .before .before .before .before .before .before .before .before .before .before .before .before .before .before .before .before .before .before .before .before .before .before .before .before .before .before .before .before .before .before .before .before .before .before .before .before .before .before .before .before .before .before .before .pre .1 .1 .0 .4)) (c .before .before .before .before .before .before .before .before .before .before .before .before .before .before .before .before .before .before .before .before .before .before .before .before .before .before .before .before .before .before .decide .result) _ (rw (c .before .before .before .before .before .before .before .before .before .before .before .before .before .before .before .before .before .before .before .before .before .before .before .before .before .before .before .before .before .before .before .before .before .before .before .kind-at .ensures, c .before .before .before .before .before .before .before .before .before .before .before .before .before .before .before .before .before .before .before .before .before .before .before .before .before .before .before .before .before .before .before .before .before .before .operand-at .ensures, c .before .before .before .before .before .before .before .before .before .before .before .before .before .before .before .before .before .before .before .before .before .before .before .before .before .before .before .before .before .before .before .before .before .operand-at2 .ensures, c .before .before .before .before .before .before .before .before .before .before .before .before .before .before .before .before .before .before .before .before .before .before .before .before .before .before .before .before .before .before .before .before .operand-at3 .ensures) at (c .before .before .before .before .before .before .before .before .before .before .before .before .before .before .before .before .before .before .before .before .before .before .before .before .before .before .before .before .before .before .decide .ensures)) in
-    let d₂ = rw (c .before .before .before .before .before .before .before .before .before .before .before .before .before .before .before .before .before .before .before .before .before .before .before .before .before .before .before .before .before .before .before .before .before .before .before .kind-at .ensures, c .before .before .before .before .before .before .before .before .before .before .before .before .before .before .before .before .before .before .before .before .before .before .before .before .before .before .before .before .before .before .before .before .before .before .operand-at .ensures, c .before .before .before .before .before .before .before .before .before .before .before .before .before .before .before .before .before .before .before .before .before .before .before .before .before .before .before .before .before .before .before .before .before .operand-at2 .ensures) at (c .before .before .before .before .before .before .before .before .before .before .before .before .before .before .before .frame-record .ensures) in
-    let e₃ = rw (c .before .before .before .before .before .before .before .before .before .before .before .before .before .before .before .before .before .before .before .before .before .before .before .before .before .before .before .before .before .before .before .before .before .before .before .kind-at .ensures, c .before .before .before .before .before .before .before .before .before .before .before .before .before .before .before .before .before .before .before .before .before .before .before .before .before .before .before .before .before .before .before .before .before .before .operand-at .ensures, c .before .before .before .before .before .before .before .before .before .before .before .before .before .before .before .before .before .before .before .before .before .before .before .before .before .before .before .before .before .before .before .before .before .operand-at2 .ensures, c .before .before .before .before .before .before .before .before .before .before .before .before .before .before .before .before .before .before .before .before .before .before .before .before .before .before .before .before .before .before .before .before .operand-at3 .ensures, c .before .before .before .before .before .before .before .before .before .before .made2 .ensures .0, c .before .before .before .before .before .before .before .before .before .before .made2 .ensures .1) at (c .before .before .before .before .before .before .write-record .ensures) in (
+    let measures = c .before .measures in
+    let write-record = c .before .before .before .before .before .before .write-record in
+    let made2 = c .before .before .before .before .before .before .before .before .before .before .made2 in
+    let back12 = c .before .before .before .before .before .before .before .before .before .before .before .before in
+    let frame-record = back12 .before .before .before .frame-record in
+    let flush-if = back12 .before .before .before .before .before .before .before .before .before .before .before .before .flush-if in
+    let back24 = back12 .before .before .before .before .before .before .before .before .before .before .before .before in
+    let decide = back24 .before .before .before .before .before .before .decide in
+    let operand-at3 = back24 .before .before .before .before .before .before .before .before .operand-at3 in
+    let operand-at2 = back24 .before .before .before .before .before .before .before .before .before .operand-at2 in
+    let operand-at = back24 .before .before .before .before .before .before .before .before .before .before .operand-at in
+    let kind-at = back24 .before .before .before .before .before .before .before .before .before .before .before .kind-at in
+    let loop-test = back24 .before .before .before .before .before .before .before .before .before .before .before .before .loop-test in
+    let the-loop = back24 .before .before .before .before .before .before .before .before .before .before .before .before .before .loop in
+    let back36 = back24 .before .before .before .before .before .before .before .before .before .before .before .before in
+    let args = back36 .before .before .before .before .before .before .before .before .before .before .before .before .args in
+    let pre = back36 .before .before .before .before .before .before .before .before .before .before .before .before .pre in
+    let a = args in
+    let at = the-loop .inv .5 in
+    let h = loop-test .taken in
+    let pl = write-planes (a .n) (a .cap) (a .gates .now) _ _ _ _ _ _ _ _ _ _ _ _ (the-loop .i) at h (pre .0) (pre .1 .1 .0 .2) (pre .1 .0)
+    (the-loop .inv .1, the-loop .inv .2, omega (arith, the-loop .inv .3, pre .1 .1 .0 .4)) (decide .result) _ (rw (
+      kind-at .ensures,
+      operand-at .ensures,
+      operand-at2 .ensures,
+      operand-at3 .ensures,
+    ) at (decide .ensures)) in
+    let d₂ = rw (kind-at .ensures, operand-at .ensures, operand-at2 .ensures) at (frame-record .ensures) in
+    let e₃ = rw (
+      kind-at .ensures,
+      operand-at .ensures,
+      operand-at2 .ensures,
+      operand-at3 .ensures,
+      made2 .ensures .0,
+      made2 .ensures .1,
+    ) at (write-record .ensures) in (
       omega (arith, h),
-      omega (arith, c .before .before .before .before .before .before .before .before .before .before .before .before .before .before .before .before .before .before .before .before .before .before .before .before .flush-if .kept, c .before .before .before .before .before .before .before .before .before .before .before .before .before .before .before .frame-record .kept, c .before .before .before .before .before .before .write-record .kept, c .before .before .before .before .before .before .before .before .before .before .before .before .before .before .before .before .before .before .before .before .before .before .before .before .before .before .before .before .before .before .before .before .before .before .before .before .before .loop .inv .1),
-      omega (arith, c .before .before .before .before .before .before .before .before .before .before .before .before .before .before .before .before .before .before .before .before .before .before .before .before .flush-if .kept, c .before .before .before .before .before .before .write-record .kept, c .before .before .before .before .before .before .before .before .before .before .before .before .before .before .before .before .before .before .before .before .before .before .before .before .before .before .before .before .before .before .before .before .before .before .before .before .before .loop .inv .2),
-      omega (arith, c .before .before .before .before .before .before .before .before .before .before .before .before .before .before .before .before .before .before .before .before .before .before .before .before .flush-if .kept, c .before .before .before .before .before .before .before .before .before .before .before .before .before .before .before .frame-record .kept, c .before .before .before .before .before .before .before .before .before .before .before .before .before .before .before .before .before .before .before .before .before .before .before .before .before .before .before .before .before .before .before .before .before .before .before .before .before .loop .inv .3),
-      omega (arith, c .before .before .before .before .before .before .before .before .before .before .before .before .before .before .before .before .before .before .before .before .before .before .before .before .before .before .before .before .before .before .decide .kept, c .before .before .before .before .before .before .before .before .before .before .before .before .before .before .before .before .before .before .before .before .before .before .before .before .before .before .before .before .before .before .before .before .before .before .before .before .before .loop .inv .4),
-      write-more (a .n) (a .cap) (a .gates .now) _ _ _ _ _ _ _ _ _ _ _ _ (c .before .before .before .before .before .before .before .before .before .before .before .before .before .before .before .before .before .before .before .before .before .before .before .before .before .before .before .before .before .before .before .before .before .before .before .before .before .loop .i) at h (c .before .before .before .before .before .before .before .before .before .before .before .before .before .before .before .before .before .before .before .before .before .before .before .before .before .before .before .before .before .before .before .before .before .before .before .before .before .before .before .before .before .before .before .before .before .before .before .before .pre .0) (c .before .before .before .before .before .before .before .before .before .before .before .before .before .before .before .before .before .before .before .before .before .before .before .before .before .before .before .before .before .before .before .before .before .before .before .before .before .before .before .before .before .before .before .before .before .before .before .before .pre .1 .1 .0 .2) (c .before .before .before .before .before .before .before .before .before .before .before .before .before .before .before .before .before .before .before .before .before .before .before .before .before .before .before .before .before .before .before .before .before .before .before .before .before .before .before .before .before .before .before .before .before .before .before .before .pre .1 .0) (c .before .before .before .before .before .before .before .before .before .before .before .before .before .before .before .before .before .before .before .before .before .before .before .before .before .before .before .before .before .before .before .before .before .before .before .before .before .loop .inv .1, c .before .before .before .before .before .before .before .before .before .before .before .before .before .before .before .before .before .before .before .before .before .before .before .before .before .before .before .before .before .before .before .before .before .before .before .before .before .loop .inv .2, omega (arith, c .before .before .before .before .before .before .before .before .before .before .before .before .before .before .before .before .before .before .before .before .before .before .before .before .before .before .before .before .before .before .before .before .before .before .before .before .before .loop .inv .3, c .before .before .before .before .before .before .before .before .before .before .before .before .before .before .before .before .before .before .before .before .before .before .before .before .before .before .before .before .before .before .before .before .before .before .before .before .before .before .before .before .before .before .before .before .before .before .before .before .pre .1 .1 .0 .4)) (c .before .before .before .before .before .before .before .before .before .before .before .before .before .before .before .before .before .before .before .before .before .before .before .before .before .before .before .before .before .before .decide .result) (pl .0) _ _ _ _ _ (c .before .before .before .before .before .before .before .before .before .before .before .before .before .before .before .before .before .before .before .before .before .before .before .before .flush-if .ensures) (omega (arith, c .before .before .before .before .before .before .before .before .before .before .before .before .before .before .before .before .before .before .before .before .before .before .before .before .flush-if .kept), omega (arith, c .before .before .before .before .before .before .before .before .before .before .before .before .before .before .before .before .before .before .before .before .before .before .before .before .flush-if .kept), omega (arith, c .before .before .before .before .before .before .before .before .before .before .before .before .before .before .before .before .before .before .before .before .before .before .before .before .flush-if .kept)) _ _ _ d₂ (omega (arith, c .before .before .before .before .before .before .before .before .before .before .before .before .before .before .before .frame-record .kept), omega (arith, c .before .before .before .before .before .before .before .before .before .before .before .before .before .before .before .frame-record .kept)) _ _ _ _ _ _ _ e₃ (pl .1) (rw (c .before .measures .ensures, c .before .before .before .before .before .before .before .before .before .before .before .before .before .before .before .before .before .before .before .before .before .before .before .before .before .before .before .before .before .before .before .before .before .before .before .kind-at .ensures)) (c .later .ensures),
+      omega (arith, flush-if .kept, frame-record .kept, write-record .kept, the-loop .inv .1),
+      omega (arith, flush-if .kept, write-record .kept, the-loop .inv .2),
+      omega (arith, flush-if .kept, frame-record .kept, the-loop .inv .3),
+      omega (arith, decide .kept, the-loop .inv .4),
+      write-more (a .n) (a .cap) (a .gates .now) _ _ _ _ _ _ _ _ _ _ _ _ (the-loop .i) at h (pre .0) (pre .1 .1 .0 .2) (pre .1 .0) (
+        the-loop .inv .1,
+        the-loop .inv .2,
+        omega (arith, the-loop .inv .3, pre .1 .1 .0 .4),
+      ) (decide .result) (pl .0) _ _ _ _ _ (flush-if .ensures) (
+        omega (
+          arith,
+          flush-if .kept,
+        ),
+        omega (arith, flush-if .kept),
+        omega (arith, flush-if .kept),
+      ) _ _ _ d₂ (
+        omega (arith, frame-record .kept),
+        omega (
+          arith,
+          frame-record .kept,
+        ),
+      ) _ _ _ _ _ _ _ e₃ (pl .1) (rw (measures .ensures, kind-at .ensures)) (c .later .ensures),
     )
 
 same-length : tie.Need-same-length Inv-loop μ-loop

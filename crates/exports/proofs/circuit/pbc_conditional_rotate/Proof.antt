@@ -52,8 +52,37 @@ same-length-3 c = search needs
 
 returns-2 : tie.Need-returns-2
 unfolding conditionalCall
-returns-2 c = rw (sym (c .before .before .before .before .before .before .before .before .before .before .before .before .before .before .before .before .before .before .before .too-short .ensures) ∙ c .before .before .before .before .before .before .before .before .before .before .before .before .before .before .before .before .before .before .if1 .left, ← c .before .before .before .before .before .before .before .before .before .before .before .before .before .before .before .before .read-header .ensures, ← c .before .before .before .before .before .before .before .before .before .before .before .before .before .before .before .new .ensures, ← c .before .before .before .before .before .before .before .before .before .before .before .before .before .axis-of .ensures, ← (c .before .before .before .before .before .before .before .before .before .before .before .before .angle-of .ensures ∙ ap angleIn (toZ-ofZ w64 (c .before .before .before .before .before .before .before .before .before .before .before .before .before .before .before .before .before .before .before .before .before .before .before .args .angle) (c .before .before .before .before .before .before .before .before .before .before .before .before .before .before .before .before .before .before .before .before .before .before .before .fits .angle))))
-    (let said = c .before .before .before .before .before .before .before .before .pushed .ensures ∙ ap pushedReply (c .before .before .before .before .before .before .before .before .before .before .before .conditional-rotate .ensures .0) in (c .before .before .write-answer .ensures .0 ∙ ap numberIn said, (c .before .before .before .before .before .before .before .before .before .before .before .conditional-rotate .ensures .1, (c .before .before .before .before .before .before .write-header .ensures ∙ ap (λ k. headerLeft k (c .before .before .before .before .before .before .before .before .before .before .before .before .before .before .before .before .before .before .before .before .before .before .before .args .header .now)) said, c .before .before .write-answer .ensures .1 ∙ ap (λ k. answerLeft k (c .before .before .before .before .before .before .before .before .before .before .before .before .before .before .before .before .before .before .before .before .before .before .before .args .answer .now)) said))))
+returns-2 c =
+    let write-answer = c .before .before .write-answer in
+    let write-header = c .before .before .before .before .before .before .write-header in
+    let pushed = c .before .before .before .before .before .before .before .before .pushed in
+    let conditional-rotate = c .before .before .before .before .before .before .before .before .before .before .before .conditional-rotate in
+    let angle-of = c .before .before .before .before .before .before .before .before .before .before .before .before .angle-of in
+    let axis-of = c .before .before .before .before .before .before .before .before .before .before .before .before .before .axis-of in
+    let back12 = c .before .before .before .before .before .before .before .before .before .before .before .before in
+    let new = back12 .before .before .before .new in
+    let read-header = back12 .before .before .before .before .read-header in
+    let if1 = back12 .before .before .before .before .before .before .if1 in
+    let too-short = back12 .before .before .before .before .before .before .before .too-short in
+    let args = back12 .before .before .before .before .before .before .before .before .before .before .before .args in
+    let fits = back12 .before .before .before .before .before .before .before .before .before .before .before .fits in
+    rw (
+      sym (too-short .ensures) ∙ if1 .left,
+      ← read-header .ensures,
+      ← new .ensures,
+      ← axis-of .ensures,
+      ← (angle-of .ensures ∙ ap angleIn (toZ-ofZ w64 (args .angle) (fits .angle))),
+    )
+    (let said = pushed .ensures ∙ ap pushedReply (conditional-rotate .ensures .0) in (
+      write-answer .ensures .0 ∙ ap numberIn said,
+      (
+        conditional-rotate .ensures .1,
+        (
+          write-header .ensures ∙ ap (λ k. headerLeft k (args .header .now)) said,
+          write-answer .ensures .1 ∙ ap (λ k. answerLeft k (args .answer .now)) said,
+        ),
+      ),
+    ))
 
 pub pbc-conditional-rotate-spec : {M : Type 1} → statement M
 pbc-conditional-rotate-spec =

@@ -47,8 +47,29 @@ same-length-3 c = search needs
 
 returns-2 : tie.Need-returns-2
 unfolding productCall
-returns-2 c = rw (sym (c .before .before .before .before .before .before .before .before .before .before .before .before .before .before .before .before .before .before .too-short .ensures) ∙ c .before .before .before .before .before .before .before .before .before .before .before .before .before .before .before .before .before .if1 .left, ← c .before .before .before .before .before .before .before .before .before .before .before .before .before .before .before .read-header .ensures, ← c .before .before .before .before .before .before .before .before .before .before .before .before .before .before .handle .ensures, ← c .before .before .before .before .before .before .before .before .before .before .before .before .before .handle2 .ensures)
-    (let said = c .before .before .before .before .before .before .before .before .multiplied .ensures ∙ ap multipliedReply (c .before .before .before .before .before .before .before .before .before .before .before .product .ensures .0) in (c .before .before .write-answer .ensures .0 ∙ ap numberIn said, (c .before .before .before .before .before .before .before .before .before .before .before .product .ensures .1, (c .before .before .before .before .before .before .write-header .ensures ∙ ap (λ k. headerLeft k (c .before .before .before .before .before .before .before .before .before .before .before .before .before .before .before .before .before .before .before .before .before .before .args .header .now)) said, c .before .before .write-answer .ensures .1 ∙ ap (λ k. answerLeft k (c .before .before .before .before .before .before .before .before .before .before .before .before .before .before .before .before .before .before .before .before .before .before .args .answer .now)) said))))
+returns-2 c =
+    let write-answer = c .before .before .write-answer in
+    let write-header = c .before .before .before .before .before .before .write-header in
+    let multiplied = c .before .before .before .before .before .before .before .before .multiplied in
+    let product = c .before .before .before .before .before .before .before .before .before .before .before .product in
+    let handle2 = c .before .before .before .before .before .before .before .before .before .before .before .before .before .handle2 in
+    let handle = c .before .before .before .before .before .before .before .before .before .before .before .before .before .before .handle in
+    let back12 = c .before .before .before .before .before .before .before .before .before .before .before .before in
+    let read-header = back12 .before .before .before .read-header in
+    let if1 = back12 .before .before .before .before .before .if1 in
+    let too-short = back12 .before .before .before .before .before .before .too-short in
+    let args = back12 .before .before .before .before .before .before .before .before .before .before .args in
+    rw (sym (too-short .ensures) ∙ if1 .left, ← read-header .ensures, ← handle .ensures, ← handle2 .ensures)
+    (let said = multiplied .ensures ∙ ap multipliedReply (product .ensures .0) in (
+      write-answer .ensures .0 ∙ ap numberIn said,
+      (
+        product .ensures .1,
+        (
+          write-header .ensures ∙ ap (λ k. headerLeft k (args .header .now)) said,
+          write-answer .ensures .1 ∙ ap (λ k. answerLeft k (args .answer .now)) said,
+        ),
+      ),
+    ))
 
 pub pbc-product-spec : {M : Type 1} → statement M
 pbc-product-spec =

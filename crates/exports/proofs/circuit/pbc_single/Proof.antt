@@ -44,8 +44,28 @@ same-length-3 c = search needs
 
 returns-2 : tie.Need-returns-2
 unfolding singleCall
-returns-2 c = rw (sym (c .before .before .before .before .before .before .before .before .before .before .before .before .before .before .before .before .before .too-short .ensures) ∙ c .before .before .before .before .before .before .before .before .before .before .before .before .before .before .before .before .if1 .left, ← c .before .before .before .before .before .before .before .before .before .before .before .before .before .before .read-header .ensures, ← c .before .before .before .before .before .before .before .before .before .before .before .before .letter-of .ensures)
-    (let said = c .before .before .before .before .before .before .before .before .singled .ensures ∙ ap singledReply (c .before .before .before .before .before .before .before .before .before .before .before .single .ensures .0) in (c .before .before .write-answer .ensures .0 ∙ ap numberIn said, (c .before .before .before .before .before .before .before .before .before .before .before .single .ensures .1, (c .before .before .before .before .before .before .write-header .ensures ∙ ap (λ k. headerLeft k (c .before .before .before .before .before .before .before .before .before .before .before .before .before .before .before .before .before .before .before .before .before .args .header .now)) said, c .before .before .write-answer .ensures .1 ∙ ap (λ k. answerLeft k (c .before .before .before .before .before .before .before .before .before .before .before .before .before .before .before .before .before .before .before .before .before .args .answer .now)) said))))
+returns-2 c =
+    let write-answer = c .before .before .write-answer in
+    let write-header = c .before .before .before .before .before .before .write-header in
+    let singled = c .before .before .before .before .before .before .before .before .singled in
+    let single = c .before .before .before .before .before .before .before .before .before .before .before .single in
+    let letter-of = c .before .before .before .before .before .before .before .before .before .before .before .before .letter-of in
+    let read-header = c .before .before .before .before .before .before .before .before .before .before .before .before .before .before .read-header in
+    let back12 = c .before .before .before .before .before .before .before .before .before .before .before .before in
+    let if1 = back12 .before .before .before .before .if1 in
+    let too-short = back12 .before .before .before .before .before .too-short in
+    let args = back12 .before .before .before .before .before .before .before .before .before .args in
+    rw (sym (too-short .ensures) ∙ if1 .left, ← read-header .ensures, ← letter-of .ensures)
+    (let said = singled .ensures ∙ ap singledReply (single .ensures .0) in (
+      write-answer .ensures .0 ∙ ap numberIn said,
+      (
+        single .ensures .1,
+        (
+          write-header .ensures ∙ ap (λ k. headerLeft k (args .header .now)) said,
+          write-answer .ensures .1 ∙ ap (λ k. answerLeft k (args .answer .now)) said,
+        ),
+      ),
+    ))
 
 pub pbc-single-spec : {M : Type 1} → statement M
 pbc-single-spec =

@@ -28,7 +28,11 @@ write-header-requires : tie.Need-write-header-requires
 write-header-requires c κs = omega (arith, header-enough _ _ (sym (c .before .before .before .before .before .before .before .before .before .before .before .before .before .before .before .before .before .too-short .ensures) ∙ c .before .before .before .before .before .before .before .before .before .before .before .before .before .before .before .before .if1 .left))
 
 write-answer-requires : tie.Need-write-answer-requires
-write-answer-requires c κs = omega (arith, answer-enough _ _ (sym (c .before .before .before .before .before .before .before .before .before .before .before .before .before .before .before .before .before .before .before .before .before .too-short .ensures) ∙ c .before .before .before .before .before .before .before .before .before .before .before .before .before .before .before .before .before .before .before .before .if1 .left))
+write-answer-requires c κs =
+    let back12 = c .before .before .before .before .before .before .before .before .before .before .before .before in
+    let if1 = back12 .before .before .before .before .before .before .before .before .if1 in
+    let too-short = back12 .before .before .before .before .before .before .before .before .before .too-short in
+    omega (arith, answer-enough _ _ (sym (too-short .ensures) ∙ if1 .left))
 
 same-length : tie.Need-same-length
 same-length c = search needs
@@ -50,8 +54,37 @@ same-length-6 c = search needs
 
 returns-2 : tie.Need-returns-2
 unfolding convertCall
-returns-2 c = rw (sym (c .before .before .before .before .before .before .before .before .before .before .before .before .before .before .before .before .before .before .before .before .before .before .before .before .too-short .ensures) ∙ c .before .before .before .before .before .before .before .before .before .before .before .before .before .before .before .before .before .before .before .before .before .before .before .if1 .left, ← c .before .before .before .before .before .before .before .before .before .before .before .before .before .before .before .before .before .before .before .before .before .before .cap-of .ensures)
-    (let said = c .before .before .before .before .before .before .before .before .converted .ensures ∙ ap convertedReply (c .before .before .before .before .before .before .before .before .before .before .before .before .before .before .before .before .before .to-pbc .ensures .0) in (c .before .before .write-answer .ensures .0 ∙ ap numberIn said, (c .before .before .before .before .before .before .before .before .before .before .before .before .before .before .before .before .before .to-pbc .ensures .1 .0, (c .before .before .before .before .before .before .before .before .before .before .before .before .before .before .before .before .before .to-pbc .ensures .1 .1 .0, (c .before .before .before .before .before .before .before .before .before .before .before .before .before .before .before .before .before .to-pbc .ensures .1 .1 .1 .0, (c .before .before .before .before .before .before .before .before .before .before .before .before .before .before .before .before .before .to-pbc .ensures .1 .1 .1 .1, (c .before .before .before .before .before .before .write-header .ensures ∙ ap (λ k. headerLeft k (c .before .before .before .before .before .before .before .before .before .before .before .before .before .before .before .before .before .before .before .before .before .before .before .before .before .before .before .before .before .before .before .before .args .header .now)) said, c .before .before .write-answer .ensures .1 ∙ ap (λ k. answerLeft k (c .before .before .before .before .before .before .before .before .before .before .before .before .before .before .before .before .before .before .before .before .before .before .before .before .before .before .before .before .before .before .before .before .args .answer .now)) said)))))))
+returns-2 c =
+    let write-answer = c .before .before .write-answer in
+    let write-header = c .before .before .before .before .before .before .write-header in
+    let converted = c .before .before .before .before .before .before .before .before .converted in
+    let back12 = c .before .before .before .before .before .before .before .before .before .before .before .before in
+    let to-pbc = back12 .before .before .before .before .before .to-pbc in
+    let cap-of = back12 .before .before .before .before .before .before .before .before .before .before .cap-of in
+    let if1 = back12 .before .before .before .before .before .before .before .before .before .before .before .if1 in
+    let too-short = back12 .before .before .before .before .before .before .before .before .before .before .before .before .too-short in
+    let back24 = back12 .before .before .before .before .before .before .before .before .before .before .before .before in
+    let args = back24 .before .before .before .before .before .before .before .before .args in
+    rw (sym (too-short .ensures) ∙ if1 .left, ← cap-of .ensures)
+    (let said = converted .ensures ∙ ap convertedReply (to-pbc .ensures .0) in (
+      write-answer .ensures .0 ∙ ap numberIn said,
+      (
+        to-pbc .ensures .1 .0,
+        (
+          to-pbc .ensures .1 .1 .0,
+          (
+            to-pbc .ensures .1 .1 .1 .0,
+            (
+              to-pbc .ensures .1 .1 .1 .1,
+              (
+                write-header .ensures ∙ ap (λ k. headerLeft k (args .header .now)) said,
+                write-answer .ensures .1 ∙ ap (λ k. answerLeft k (args .answer .now)) said,
+              ),
+            ),
+          ),
+        ),
+      ),
+    ))
 
 pub pbc-convert-spec : {M : Type 1} → statement M
 pbc-convert-spec =

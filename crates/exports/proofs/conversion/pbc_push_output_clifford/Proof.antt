@@ -44,8 +44,30 @@ same-length-4 c = search needs
 
 returns-2 : tie.Need-returns-2
 unfolding cliffordCall
-returns-2 c = rw (sym (c .before .before .before .before .before .before .before .before .before .before .before .before .before .before .before .before .before .before .before .too-short .ensures) ∙ c .before .before .before .before .before .before .before .before .before .before .before .before .before .before .before .before .before .before .if1 .left, ← c .before .before .before .before .before .before .before .before .before .before .before .before .before .before .before .before .read-header .ensures)
-    (let said = c .before .before .before .before .before .before .before .before .frame-pushed .ensures ∙ ap framePushedReply (c .before .before .before .before .before .before .before .before .before .before .before .before .before .push-output-clifford .ensures .0) in (c .before .before .write-answer .ensures .0 ∙ ap numberIn said, (c .before .before .before .before .before .before .before .before .before .before .before .before .before .push-output-clifford .ensures .1 .0, (c .before .before .before .before .before .before .before .before .before .before .before .before .before .push-output-clifford .ensures .1 .1, (c .before .before .before .before .before .before .write-header .ensures ∙ ap (λ k. headerLeft k (c .before .before .before .before .before .before .before .before .before .before .before .before .before .before .before .before .before .before .before .before .before .before .before .before .args .header .now)) said, c .before .before .write-answer .ensures .1 ∙ ap (λ k. answerLeft k (c .before .before .before .before .before .before .before .before .before .before .before .before .before .before .before .before .before .before .before .before .before .before .before .before .args .answer .now)) said)))))
+returns-2 c =
+    let write-answer = c .before .before .write-answer in
+    let write-header = c .before .before .before .before .before .before .write-header in
+    let frame-pushed = c .before .before .before .before .before .before .before .before .frame-pushed in
+    let push-output-clifford = c .before .before .before .before .before .before .before .before .before .before .before .before .before .push-output-clifford in
+    let back12 = c .before .before .before .before .before .before .before .before .before .before .before .before in
+    let read-header = back12 .before .before .before .before .read-header in
+    let if1 = back12 .before .before .before .before .before .before .if1 in
+    let too-short = back12 .before .before .before .before .before .before .before .too-short in
+    let args = back12 .before .before .before .before .before .before .before .before .before .before .before .before .args in
+    rw (sym (too-short .ensures) ∙ if1 .left, ← read-header .ensures)
+    (let said = frame-pushed .ensures ∙ ap framePushedReply (push-output-clifford .ensures .0) in (
+      write-answer .ensures .0 ∙ ap numberIn said,
+      (
+        push-output-clifford .ensures .1 .0,
+        (
+          push-output-clifford .ensures .1 .1,
+          (
+            write-header .ensures ∙ ap (λ k. headerLeft k (args .header .now)) said,
+            write-answer .ensures .1 ∙ ap (λ k. answerLeft k (args .answer .now)) said,
+          ),
+        ),
+      ),
+    ))
 
 pub pbc-push-output-clifford-spec : {M : Type 1} → statement M
 pbc-push-output-clifford-spec =

@@ -44,8 +44,30 @@ same-length-4 c = search needs
 
 returns-2 : tie.Need-returns-2
 unfolding expandCall
-returns-2 c = rw (sym (c .before .before .before .before .before .before .before .before .before .before .before .before .before .before .before .before .before .before .too-short .ensures) ∙ c .before .before .before .before .before .before .before .before .before .before .before .before .before .before .before .before .before .if1 .left, ← c .before .before .before .before .before .before .before .before .before .before .before .before .before .before .before .before .read-header .ensures, ← c .before .before .before .before .before .before .before .before .before .before .before .before .before .before .before .handle .ensures)
-    (let said = c .before .before .before .before .expanded .ensures ∙ ap (expandedReply (c .before .before .before .before .before .before .before .before .before .before .before .before .before .before .before .before .read-header .result)) (c .before .before .before .before .before .before .before .before .before .before .before .expand .ensures .0) in (c .before .before .write-answer .ensures .0 ∙ ap numberIn said, (c .before .before .before .before .before .before .before .before .before .before .before .expand .ensures .1 .0, (c .before .before .before .before .before .before .before .before .before .before .before .expand .ensures .1 .1 .0, (c .before .before .before .before .before .before .before .before .before .before .before .expand .ensures .1 .1 .1, c .before .before .write-answer .ensures .1 ∙ ap (λ k. answerLeft k (c .before .before .before .before .before .before .before .before .before .before .before .before .before .before .before .before .before .before .before .before .before .before .before .before .before .args .answer .now)) said)))))
+returns-2 c =
+    let write-answer = c .before .before .write-answer in
+    let expanded = c .before .before .before .before .expanded in
+    let expand = c .before .before .before .before .before .before .before .before .before .before .before .expand in
+    let back12 = c .before .before .before .before .before .before .before .before .before .before .before .before in
+    let handle = back12 .before .before .before .handle in
+    let read-header = back12 .before .before .before .before .read-header in
+    let if1 = back12 .before .before .before .before .before .if1 in
+    let too-short = back12 .before .before .before .before .before .before .too-short in
+    let args = back12 .before .before .before .before .before .before .before .before .before .before .before .before .before .args in
+    rw (sym (too-short .ensures) ∙ if1 .left, ← read-header .ensures, ← handle .ensures)
+    (let said = expanded .ensures ∙ ap (expandedReply (read-header .result)) (expand .ensures .0) in (
+      write-answer .ensures .0 ∙ ap numberIn said,
+      (
+        expand .ensures .1 .0,
+        (
+          expand .ensures .1 .1 .0,
+          (
+            expand .ensures .1 .1 .1,
+            write-answer .ensures .1 ∙ ap (λ k. answerLeft k (args .answer .now)) said,
+          ),
+        ),
+      ),
+    ))
 
 pub pbc-expand-spec : {M : Type 1} → statement M
 pbc-expand-spec =

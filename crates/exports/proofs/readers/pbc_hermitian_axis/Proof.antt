@@ -41,8 +41,28 @@ same-length-3 c = search needs
 
 returns-2 : tie.Need-returns-2
 unfolding hermitianCall
-returns-2 c = rw (sym (c .before .before .before .before .before .before .before .before .before .before .before .before .before .before .before .too-short .ensures) ∙ c .before .before .before .before .before .before .before .before .before .before .before .before .before .before .if1 .left, ← c .before .before .before .before .before .before .before .before .before .before .before .before .before .read-header .ensures, ← c .before .before .before .before .before .before .before .before .before .before .before .before .handle .ensures)
-    (let said = c .before .before .before .before .hermitian .ensures ∙ ap (hermitianReply (c .before .before .before .before .before .before .before .before .before .before .before .before .before .read-header .result)) (c .before .before .before .before .before .before .before .before .before .hermitian-axis .ensures .0) in (c .before .before .write-answer .ensures .0 ∙ ap numberIn said, (c .before .before .before .before .before .before .before .before .before .hermitian-axis .ensures .1 .0, (c .before .before .before .before .before .before .before .before .before .hermitian-axis .ensures .1 .1, c .before .before .write-answer .ensures .1 ∙ ap (λ k. answerLeft k (c .before .before .before .before .before .before .before .before .before .before .before .before .before .before .before .before .before .before .before .before .before .args .answer .now)) said))))
+returns-2 c =
+    let write-answer = c .before .before .write-answer in
+    let hermitian = c .before .before .before .before .hermitian in
+    let hermitian-axis = c .before .before .before .before .before .before .before .before .before .hermitian-axis in
+    let handle = c .before .before .before .before .before .before .before .before .before .before .before .before .handle in
+    let read-header = c .before .before .before .before .before .before .before .before .before .before .before .before .before .read-header in
+    let if1 = c .before .before .before .before .before .before .before .before .before .before .before .before .before .before .if1 in
+    let back12 = c .before .before .before .before .before .before .before .before .before .before .before .before in
+    let too-short = back12 .before .before .before .too-short in
+    let args = back12 .before .before .before .before .before .before .before .before .before .args in
+    rw (sym (too-short .ensures) ∙ if1 .left, ← read-header .ensures, ← handle .ensures)
+    (let said = hermitian .ensures ∙ ap (hermitianReply (read-header .result)) (hermitian-axis .ensures .0) in (
+      write-answer .ensures .0
+          ∙ ap numberIn said,
+      (
+        hermitian-axis .ensures .1 .0,
+        (
+          hermitian-axis .ensures .1 .1,
+          write-answer .ensures .1 ∙ ap (λ k. answerLeft k (args .answer .now)) said,
+        ),
+      ),
+    ))
 
 pub pbc-hermitian-axis-spec : {M : Type 1} → statement M
 pbc-hermitian-axis-spec =

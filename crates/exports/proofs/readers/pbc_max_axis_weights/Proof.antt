@@ -38,8 +38,27 @@ same-length-3 c = search needs
 
 returns-2 : tie.Need-returns-2
 unfolding weightsCall
-returns-2 c = rw (sym (c .before .before .before .before .before .before .before .before .before .before .before .before .before .before .too-short .ensures) ∙ c .before .before .before .before .before .before .before .before .before .before .before .before .before .if1 .left, ← c .before .before .before .before .before .before .before .before .before .before .before .before .read-header .ensures)
-    (let said = c .before .before .before .before .weights .ensures ∙ ap (weightsReply (c .before .before .before .before .before .before .before .before .before .before .before .before .read-header .result)) (c .before .before .before .before .before .before .before .before .before .max-axis-weights .ensures .0) in (c .before .before .write-answer .ensures .0 ∙ ap numberIn said, (c .before .before .before .before .before .before .before .before .before .max-axis-weights .ensures .1 .0, (c .before .before .before .before .before .before .before .before .before .max-axis-weights .ensures .1 .1, c .before .before .write-answer .ensures .1 ∙ ap (λ k. answerLeft k (c .before .before .before .before .before .before .before .before .before .before .before .before .before .before .before .before .before .before .before .before .before .args .answer .now)) said))))
+returns-2 c =
+    let write-answer = c .before .before .write-answer in
+    let weights = c .before .before .before .before .weights in
+    let max-axis-weights = c .before .before .before .before .before .before .before .before .before .max-axis-weights in
+    let read-header = c .before .before .before .before .before .before .before .before .before .before .before .before .read-header in
+    let if1 = c .before .before .before .before .before .before .before .before .before .before .before .before .before .if1 in
+    let too-short = c .before .before .before .before .before .before .before .before .before .before .before .before .before .before .too-short in
+    let back12 = c .before .before .before .before .before .before .before .before .before .before .before .before in
+    let args = back12 .before .before .before .before .before .before .before .before .before .args in
+    rw (sym (too-short .ensures) ∙ if1 .left, ← read-header .ensures)
+    (let said = weights .ensures ∙ ap (weightsReply (read-header .result)) (max-axis-weights .ensures .0) in (
+      write-answer .ensures .0
+          ∙ ap numberIn said,
+      (
+        max-axis-weights .ensures .1 .0,
+        (
+          max-axis-weights .ensures .1 .1,
+          write-answer .ensures .1 ∙ ap (λ k. answerLeft k (args .answer .now)) said,
+        ),
+      ),
+    ))
 
 pub pbc-max-axis-weights-spec : {M : Type 1} → statement M
 pbc-max-axis-weights-spec =

@@ -40,7 +40,16 @@ same-length-2 c = search needs
 
 returns-2 : tie.Need-returns-2
 unfolding numberIn answerLeft
-returns-2 c = rw (c .before .before .before .before .before .before .before .before .reply2 .given .1) (c .number .ensures, c .before .before .before .put-answer2 .ensures ∙ ap₂ (λ i o. sets (c .before .before .before .before .before .before .before .before .before .before .before .args .words .now) 0 (i ∷ o ∷ 0 ∷ 0 ∷ [])) (c .before .before .before .before .before .index .ensures) (c .before .before .before .before .operand .ensures))
+returns-2 c =
+    let put-answer2 = c .before .before .before .put-answer2 in
+    let operand = c .before .before .before .before .operand in
+    let index = c .before .before .before .before .before .index in
+    let reply2 = c .before .before .before .before .before .before .before .before .reply2 in
+    let args = c .before .before .before .before .before .before .before .before .before .before .before .args in
+    rw (reply2 .given .1) (
+      c .number .ensures,
+      put-answer2 .ensures ∙ ap₂ (λ i o. sets (args .words .now) 0 (i ∷ o ∷ 0 ∷ 0 ∷ [])) (index .ensures) (operand .ensures),
+    )
 
 pub write-answer-spec : {M : Type 1} → statement M
 write-answer-spec =

@@ -42,7 +42,28 @@ same-length c = search needs
 
 returns-2 : tie.Need-returns-2
 unfolding conditionalCommand
-returns-2 c = let e = rw (c .before .before .before .before .before .before .before .before .before .axis .ensures, c .before .before .before .before .before .before .before .before .angle .ensures, c .before .before .before .before .before .new .ensures, c .before .before .before .before .before .before .before .owner-at .ensures, c .before .before .before .before .before .before .word .ensures) at (c .before .before .before .lent-conditional .ensures) in rw (sym (c .before .before .before .before .before .before .before .before .before .before .before .before .has-signed .ensures) ∙ not-false (c .before .before .before .before .before .before .before .before .before .before .before .before .has-signed .result) (c .before .before .before .before .before .before .before .before .before .before .before .if1 .left)) (c .pushed .ensures ∙ ap (pushedReply (c .before .before .before .before .before .before .before .before .before .before .before .before .before .before .before .args .state)) (e .0), e .1)
+returns-2 c =
+    let lent-conditional = c .before .before .before .lent-conditional in
+    let new = c .before .before .before .before .before .new in
+    let word = c .before .before .before .before .before .before .word in
+    let owner-at = c .before .before .before .before .before .before .before .owner-at in
+    let angle = c .before .before .before .before .before .before .before .before .angle in
+    let axis = c .before .before .before .before .before .before .before .before .before .axis in
+    let if1 = c .before .before .before .before .before .before .before .before .before .before .before .if1 in
+    let has-signed = c .before .before .before .before .before .before .before .before .before .before .before .before .has-signed in
+    let back12 = c .before .before .before .before .before .before .before .before .before .before .before .before in
+    let args = back12 .before .before .before .args in
+    let e = rw (
+      axis .ensures,
+      angle .ensures,
+      new .ensures,
+      owner-at .ensures,
+      word .ensures,
+    ) at (lent-conditional .ensures) in rw (sym (has-signed .ensures) ∙ not-false (has-signed .result) (if1 .left)) (
+      c .pushed .ensures
+          ∙ ap (pushedReply (args .state)) (e .0),
+      e .1,
+    )
 
 pub conditional-spec : {M : Type 1} → statement M
 conditional-spec = tie.close (tie.spec has-signed-requires bad-requires returns axis-requires angle-requires owner-at-requires word-requires new-requires lent-conditional-requires pushed-requires same-length returns-2)

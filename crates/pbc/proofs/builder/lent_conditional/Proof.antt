@@ -15,7 +15,15 @@ same-length : tie.Need-same-length
 same-length c = search needs
 
 returns : tie.Need-returns
-returns c = (c .before .before .conditional-rotate .ensures .0 ∙ whole-answer (λ part. conditionalStep (c .before .before .before .before .before .before .args .h) part (c .before .before .before .before .before .before .args .on) (c .before .before .before .before .before .before .args .by) (c .before .before .before .before .before .before .args .outcome)) (c .before .before .before .before .before .before .args .count) (c .before .before .before .before .before .before .args .operations .now) (c .before .before .before .before .if1 .taken), c .before .before .conditional-rotate .ensures .1 ∙ whole-words (λ part. conditionalStep (c .before .before .before .before .before .before .args .h) part (c .before .before .before .before .before .before .args .on) (c .before .before .before .before .before .before .args .by) (c .before .before .before .before .before .before .args .outcome)) (c .before .before .before .before .before .before .args .count) (c .before .before .before .before .before .before .args .operations .now) (c .before .before .before .before .if1 .taken))
+returns c =
+    let conditional-rotate = c .before .before .conditional-rotate in
+    let if1 = c .before .before .before .before .if1 in
+    let args = c .before .before .before .before .before .before .args in (
+      conditional-rotate .ensures .0 ∙ whole-answer (λ part. conditionalStep (args .h) part (args .on) (args .by) (args .outcome)) (args .count)
+          (args .operations .now) (if1 .taken),
+      conditional-rotate .ensures .1 ∙ whole-words (λ part. conditionalStep (args .h) part (args .on) (args .by)
+          (args .outcome)) (args .count) (args .operations .now) (if1 .taken),
+    )
 
 slice-relend-prefix-conditional-rotate : tie.Need-slice-relend-prefix-conditional-rotate
 slice-relend-prefix-conditional-rotate c = search needs
@@ -30,7 +38,13 @@ same-length-2 : tie.Need-same-length-2
 same-length-2 c = search needs
 
 returns-2 : tie.Need-returns-2
-returns-2 c = (c .before .before .conditional-rotate2 .ensures .0, part-words (λ part. conditionalStep (c .before .before .before .before .before .before .args .h) part (c .before .before .before .before .before .before .args .on) (c .before .before .before .before .before .before .args .by) (c .before .before .before .before .before .before .args .outcome)) (c .before .before .before .before .before .before .args .count) (c .before .before .before .before .before .before .args .operations .now) _ (c .before .before .conditional-rotate2 .ensures .1))
+returns-2 c =
+    let conditional-rotate2 = c .before .before .conditional-rotate2 in
+    let args = c .before .before .before .before .before .before .args in (
+      conditional-rotate2 .ensures .0,
+      part-words (λ part. conditionalStep (args .h) part (args .on) (args .by) (args .outcome)) (args .count)
+          (args .operations .now) _ (conditional-rotate2 .ensures .1),
+    )
 
 pub lent-conditional-spec : {M : Type 1} → statement M
 lent-conditional-spec = tie.close (tie.spec conditional-rotate-requires same-length returns slice-relend-prefix-conditional-rotate slice-aggregate-conditional-rotate conditional-rotate-requires-2 same-length-2 returns-2)

@@ -15,7 +15,13 @@ same-length : tie.Need-same-length
 same-length c = search needs
 
 returns : tie.Need-returns
-returns c = (c .before .before .measure .ensures .0 ∙ whole-answer (λ part. measureStep (c .before .before .before .before .before .before .args .h) part (c .before .before .before .before .before .before .args .on) (c .before .before .before .before .before .before .args .into)) (c .before .before .before .before .before .before .args .count) (c .before .before .before .before .before .before .args .operations .now) (c .before .before .before .before .if1 .taken), c .before .before .measure .ensures .1 ∙ whole-words (λ part. measureStep (c .before .before .before .before .before .before .args .h) part (c .before .before .before .before .before .before .args .on) (c .before .before .before .before .before .before .args .into)) (c .before .before .before .before .before .before .args .count) (c .before .before .before .before .before .before .args .operations .now) (c .before .before .before .before .if1 .taken))
+returns c =
+    let measure = c .before .before .measure in
+    let if1 = c .before .before .before .before .if1 in
+    let args = c .before .before .before .before .before .before .args in (
+      measure .ensures .0 ∙ whole-answer (λ part. measureStep (args .h) part (args .on) (args .into)) (args .count) (args .operations .now) (if1 .taken),
+      measure .ensures .1 ∙ whole-words (λ part. measureStep (args .h) part (args .on) (args .into)) (args .count) (args .operations .now) (if1 .taken),
+    )
 
 slice-relend-prefix-measure : tie.Need-slice-relend-prefix-measure
 slice-relend-prefix-measure c = search needs
@@ -30,7 +36,13 @@ same-length-2 : tie.Need-same-length-2
 same-length-2 c = search needs
 
 returns-2 : tie.Need-returns-2
-returns-2 c = (c .before .before .measure2 .ensures .0, part-words (λ part. measureStep (c .before .before .before .before .before .before .args .h) part (c .before .before .before .before .before .before .args .on) (c .before .before .before .before .before .before .args .into)) (c .before .before .before .before .before .before .args .count) (c .before .before .before .before .before .before .args .operations .now) _ (c .before .before .measure2 .ensures .1))
+returns-2 c =
+    let measure2 = c .before .before .measure2 in
+    let args = c .before .before .before .before .before .before .args in (
+      measure2 .ensures .0,
+      part-words (λ part. measureStep (args .h) part (args .on) (args .into)) (args .count) (args .operations .now) _
+          (measure2 .ensures .1),
+    )
 
 pub lent-measure-spec : {M : Type 1} → statement M
 lent-measure-spec = tie.close (tie.spec measure-requires same-length returns slice-relend-prefix-measure slice-aggregate-measure measure-requires-2 same-length-2 returns-2)

@@ -15,7 +15,13 @@ same-length : tie.Need-same-length
 same-length c = search needs
 
 returns : tie.Need-returns
-returns c = (c .before .before .product .ensures .0 ∙ whole-answer (λ part. productStep (c .before .before .before .before .before .before .args .h) part (c .before .before .before .before .before .before .args .left) (c .before .before .before .before .before .before .args .right)) (c .before .before .before .before .before .before .args .count) (c .before .before .before .before .before .before .args .nodes .now) (c .before .before .before .before .if1 .taken), c .before .before .product .ensures .1 ∙ whole-words (λ part. productStep (c .before .before .before .before .before .before .args .h) part (c .before .before .before .before .before .before .args .left) (c .before .before .before .before .before .before .args .right)) (c .before .before .before .before .before .before .args .count) (c .before .before .before .before .before .before .args .nodes .now) (c .before .before .before .before .if1 .taken))
+returns c =
+    let product = c .before .before .product in
+    let if1 = c .before .before .before .before .if1 in
+    let args = c .before .before .before .before .before .before .args in (
+      product .ensures .0 ∙ whole-answer (λ part. productStep (args .h) part (args .left) (args .right)) (args .count) (args .nodes .now) (if1 .taken),
+      product .ensures .1 ∙ whole-words (λ part. productStep (args .h) part (args .left) (args .right)) (args .count) (args .nodes .now) (if1 .taken),
+    )
 
 slice-relend-prefix-product : tie.Need-slice-relend-prefix-product
 slice-relend-prefix-product c = search needs
@@ -30,7 +36,13 @@ same-length-2 : tie.Need-same-length-2
 same-length-2 c = search needs
 
 returns-2 : tie.Need-returns-2
-returns-2 c = (c .before .before .product2 .ensures .0, part-words (λ part. productStep (c .before .before .before .before .before .before .args .h) part (c .before .before .before .before .before .before .args .left) (c .before .before .before .before .before .before .args .right)) (c .before .before .before .before .before .before .args .count) (c .before .before .before .before .before .before .args .nodes .now) _ (c .before .before .product2 .ensures .1))
+returns-2 c =
+    let product2 = c .before .before .product2 in
+    let args = c .before .before .before .before .before .before .args in (
+      product2 .ensures .0,
+      part-words (λ part. productStep (args .h) part (args .left) (args .right)) (args .count) (args .nodes .now) _
+          (product2 .ensures .1),
+    )
 
 pub lent-product-spec : {M : Type 1} → statement M
 lent-product-spec = tie.close (tie.spec product-requires same-length returns slice-relend-prefix-product slice-aggregate-product product-requires-2 same-length-2 returns-2)

@@ -15,7 +15,13 @@ same-length : tie.Need-same-length
 same-length c = search needs
 
 returns : tie.Need-returns
-returns c = (c .before .before .rotate .ensures .0 ∙ whole-answer (λ part. rotateStep (c .before .before .before .before .before .before .args .h) part (c .before .before .before .before .before .before .args .on) (c .before .before .before .before .before .before .args .by)) (c .before .before .before .before .before .before .args .count) (c .before .before .before .before .before .before .args .operations .now) (c .before .before .before .before .if1 .taken), c .before .before .rotate .ensures .1 ∙ whole-words (λ part. rotateStep (c .before .before .before .before .before .before .args .h) part (c .before .before .before .before .before .before .args .on) (c .before .before .before .before .before .before .args .by)) (c .before .before .before .before .before .before .args .count) (c .before .before .before .before .before .before .args .operations .now) (c .before .before .before .before .if1 .taken))
+returns c =
+    let rotate = c .before .before .rotate in
+    let if1 = c .before .before .before .before .if1 in
+    let args = c .before .before .before .before .before .before .args in (
+      rotate .ensures .0 ∙ whole-answer (λ part. rotateStep (args .h) part (args .on) (args .by)) (args .count) (args .operations .now) (if1 .taken),
+      rotate .ensures .1 ∙ whole-words (λ part. rotateStep (args .h) part (args .on) (args .by)) (args .count) (args .operations .now) (if1 .taken),
+    )
 
 slice-relend-prefix-rotate : tie.Need-slice-relend-prefix-rotate
 slice-relend-prefix-rotate c = search needs
@@ -30,7 +36,13 @@ same-length-2 : tie.Need-same-length-2
 same-length-2 c = search needs
 
 returns-2 : tie.Need-returns-2
-returns-2 c = (c .before .before .rotate2 .ensures .0, part-words (λ part. rotateStep (c .before .before .before .before .before .before .args .h) part (c .before .before .before .before .before .before .args .on) (c .before .before .before .before .before .before .args .by)) (c .before .before .before .before .before .before .args .count) (c .before .before .before .before .before .before .args .operations .now) _ (c .before .before .rotate2 .ensures .1))
+returns-2 c =
+    let rotate2 = c .before .before .rotate2 in
+    let args = c .before .before .before .before .before .before .args in (
+      rotate2 .ensures .0,
+      part-words (λ part. rotateStep (args .h) part (args .on) (args .by)) (args .count) (args .operations .now) _
+          (rotate2 .ensures .1),
+    )
 
 pub lent-rotate-spec : {M : Type 1} → statement M
 lent-rotate-spec = tie.close (tie.spec rotate-requires same-length returns slice-relend-prefix-rotate slice-aggregate-rotate rotate-requires-2 same-length-2 returns-2)

@@ -36,7 +36,23 @@ same-length c = search needs
 
 returns-2 : tie.Need-returns-2
 unfolding measureCommand
-returns-2 c = let e = rw (c .before .before .before .before .before .before .before .axis .ensures, c .before .before .before .before .before .target .ensures, c .before .before .before .before .before .before .word .ensures) at (c .before .before .before .lent-measure .ensures) in rw (sym (c .before .before .before .before .before .before .before .before .before .before .has .ensures) ∙ not-false (c .before .before .before .before .before .before .before .before .before .before .has .result) (c .before .before .before .before .before .before .before .before .before .if1 .left)) (c .measured .ensures ∙ ap (measuredReply (c .before .before .before .before .before .before .before .before .before .before .before .before .before .args .state)) (e .0), e .1)
+returns-2 c =
+    let lent-measure = c .before .before .before .lent-measure in
+    let target = c .before .before .before .before .before .target in
+    let word = c .before .before .before .before .before .before .word in
+    let axis = c .before .before .before .before .before .before .before .axis in
+    let if1 = c .before .before .before .before .before .before .before .before .before .if1 in
+    let has = c .before .before .before .before .before .before .before .before .before .before .has in
+    let args = c .before .before .before .before .before .before .before .before .before .before .before .before .before .args in
+    let e = rw (
+      axis .ensures,
+      target .ensures,
+      word .ensures,
+    ) at (lent-measure .ensures) in rw (sym (has .ensures) ∙ not-false (has .result) (if1 .left)) (
+      c .measured .ensures ∙ ap (measuredReply
+          (args .state)) (e .0),
+      e .1,
+    )
 
 pub measure-spec : {M : Type 1} → statement M
 measure-spec = tie.close (tie.spec has-requires bad-requires returns axis-requires word-requires target-requires lent-measure-requires measured-requires same-length returns-2)

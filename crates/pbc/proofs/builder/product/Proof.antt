@@ -33,7 +33,15 @@ same-length c = search needs
 
 returns-2 : tie.Need-returns-2
 unfolding productCommand
-returns-2 c = let e = rw (c .before .before .before .before .before .before .handle .ensures, c .before .before .before .before .before .handle2 .ensures) at (c .before .before .before .lent-product .ensures) in rw (sym (c .before .before .before .before .before .before .before .before .before .has .ensures) ∙ not-false (c .before .before .before .before .before .before .before .before .before .has .result) (c .before .before .before .before .before .before .before .before .if1 .left)) (c .multiplied .ensures ∙ ap (multipliedReply (c .before .before .before .before .before .before .before .before .before .before .before .before .args .state)) (e .0), e .1)
+returns-2 c =
+    let lent-product = c .before .before .before .lent-product in
+    let handle2 = c .before .before .before .before .before .handle2 in
+    let handle = c .before .before .before .before .before .before .handle in
+    let if1 = c .before .before .before .before .before .before .before .before .if1 in
+    let has = c .before .before .before .before .before .before .before .before .before .has in
+    let args = c .before .before .before .before .before .before .before .before .before .before .before .before .args in
+    let e = rw (handle .ensures, handle2 .ensures) at (lent-product .ensures) in rw (sym (has .ensures) ∙ not-false (has .result) (if1 .left))
+    (c .multiplied .ensures ∙ ap (multipliedReply (args .state)) (e .0), e .1)
 
 pub product-spec : {M : Type 1} → statement M
 product-spec = tie.close (tie.spec has-requires bad-requires returns handle-requires handle-requires-2 lent-product-requires multiplied-requires same-length returns-2)

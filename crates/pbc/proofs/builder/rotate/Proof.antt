@@ -33,7 +33,15 @@ same-length c = search needs
 
 returns-2 : tie.Need-returns-2
 unfolding rotateCommand
-returns-2 c = let e = rw (c .before .before .before .before .before .before .axis .ensures, c .before .before .before .before .before .angle .ensures) at (c .before .before .before .lent-rotate .ensures) in rw (sym (c .before .before .before .before .before .before .before .before .before .has-signed .ensures) ∙ not-false (c .before .before .before .before .before .before .before .before .before .has-signed .result) (c .before .before .before .before .before .before .before .before .if1 .left)) (c .pushed .ensures ∙ ap (pushedReply (c .before .before .before .before .before .before .before .before .before .before .before .before .args .state)) (e .0), e .1)
+returns-2 c =
+    let lent-rotate = c .before .before .before .lent-rotate in
+    let angle = c .before .before .before .before .before .angle in
+    let axis = c .before .before .before .before .before .before .axis in
+    let if1 = c .before .before .before .before .before .before .before .before .if1 in
+    let has-signed = c .before .before .before .before .before .before .before .before .before .has-signed in
+    let args = c .before .before .before .before .before .before .before .before .before .before .before .before .args in
+    let e = rw (axis .ensures, angle .ensures) at (lent-rotate .ensures) in rw (sym (has-signed .ensures) ∙ not-false (has-signed .result) (if1 .left))
+    (c .pushed .ensures ∙ ap (pushedReply (args .state)) (e .0), e .1)
 
 pub rotate-spec : {M : Type 1} → statement M
 rotate-spec = tie.close (tie.spec has-signed-requires bad-requires returns axis-requires angle-requires lent-rotate-requires pushed-requires same-length returns-2)

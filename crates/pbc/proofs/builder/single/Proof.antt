@@ -44,7 +44,23 @@ same-length c = search needs
 
 returns-3 : tie.Need-returns-3
 unfolding singleCommand
-returns-3 c = let e = rw (c .before .before .before .before .before .or-identity .ensures, c .before .before .before .before .before .before .before .before .before .word .ensures, c .before .before .before .before .before .before .word2 .ensures) at (c .before .before .before .lent-single .ensures) in rw (sym (c .before .before .before .before .before .before .before .before .before .before .before .has .ensures) ∙ not-false (c .before .before .before .before .before .before .before .before .before .before .before .has .result) (c .before .before .before .before .before .before .before .before .before .before .if1 .left), ap (ltb 3) (sym (c .before .before .before .before .before .before .before .before .before .word .ensures)) ∙ le-ltb 3 (c .before .before .before .before .before .before .before .before .before .word .result) (c .before .before .before .before .before .before .before .before .if2 .left)) (c .singled .ensures ∙ ap (singledReply (c .before .before .before .before .before .before .before .before .before .before .before .before .before .before .args .state)) (e .0), e .1)
+returns-3 c =
+    let lent-single = c .before .before .before .lent-single in
+    let or-identity = c .before .before .before .before .before .or-identity in
+    let word2 = c .before .before .before .before .before .before .word2 in
+    let if2 = c .before .before .before .before .before .before .before .before .if2 in
+    let word = c .before .before .before .before .before .before .before .before .before .word in
+    let if1 = c .before .before .before .before .before .before .before .before .before .before .if1 in
+    let has = c .before .before .before .before .before .before .before .before .before .before .before .has in
+    let args = c .before .before .before .before .before .before .before .before .before .before .before .before .before .before .args in
+    let e = rw (
+      or-identity .ensures,
+      word .ensures,
+      word2 .ensures,
+    ) at (lent-single .ensures) in rw (
+      sym (has .ensures) ∙ not-false (has .result) (if1 .left),
+      ap (ltb 3) (sym (word .ensures)) ∙ le-ltb 3 (word .result) (if2 .left),
+    ) (c .singled .ensures ∙ ap (singledReply (args .state)) (e .0), e .1)
 
 pub single-spec : {M : Type 1} → statement M
 single-spec = tie.close (tie.spec has-requires bad-requires returns word-requires bad-requires-2 returns-2 word-requires-2 or-identity-requires lent-single-requires singled-requires same-length returns-3)

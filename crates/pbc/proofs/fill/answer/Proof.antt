@@ -50,7 +50,36 @@ same-length-7 : tie.Need-same-length-7
 same-length-7 c = search needs
 
 returns : tie.Need-returns
-returns c = (c .with-header .ensures ∙ ap (λ h. headedOf (c .before .before .before .before .before .before .before .before .before .before .before .before .before .before .before .before .before .before .before .before .before .before .before .before .before .before .before .before .before .before .before .before .before .before .before .args .state) h Done) (c .before .empty .ensures), (c .before .before .before .before .before .before .before .before .before .before .before .before .before .before .before .before .before .before .before .before .before .before .fill-circuit .ensures .0 ∙ ap (λ v. replicate (length (c .before .before .before .before .before .before .before .before .before .before .before .before .before .before .before .before .before .before .before .before .before .before .before .before .before .before .before .before .before .before .before .before .before .before .before .args .nodes .now)) v) (c .before .before .before .before .before .before .before .before .before .before .before .before .before .before .before .before .before .before .before .before .before .before .before .before .before .before .word .ensures), (c .before .before .before .before .before .before .before .before .before .before .before .before .before .before .before .before .before .before .before .before .before .before .fill-circuit .ensures .1 .0 ∙ ap (λ v. replicate (length (c .before .before .before .before .before .before .before .before .before .before .before .before .before .before .before .before .before .before .before .before .before .before .before .before .before .before .before .before .before .before .before .before .before .before .before .args .operations .now)) v) (c .before .before .before .before .before .before .before .before .before .before .before .before .before .before .before .before .before .before .before .before .before .before .before .before .before .before .word .ensures), (c .before .before .before .before .before .before .before .before .before .before .before .before .before .before .before .before .before .before .before .before .before .before .fill-circuit .ensures .1 .1 ∙ ap (λ v. replicate (length (c .before .before .before .before .before .before .before .before .before .before .before .before .before .before .before .before .before .before .before .before .before .before .before .before .before .before .before .before .before .before .before .before .before .before .before .args .frame .now)) v) (c .before .before .before .before .before .before .before .before .before .before .before .before .before .before .before .before .before .before .before .before .before .before .before .before .before .before .word .ensures), (c .before .before .before .before .fill-wide .ensures ∙ ap (λ v. replicate (length (c .before .before .before .before .before .before .before .before .before .before .before .before .before .before .before .before .before .before .before .before .before .before .before .before .before .before .before .before .before .before .before .before .before .before .before .args .planes .now)) v) (c .before .before .before .before .before .before .before .before .before .before .before .before .before .before .before .before .before .before .before .before .before .before .before .before .before .before .word .ensures), (c .before .before .before .before .before .before .before .before .before .before .before .before .fill-work .ensures .0 ∙ ap (λ v. replicate (length (c .before .before .before .before .before .before .before .before .before .before .before .before .before .before .before .before .before .before .before .before .before .before .before .before .before .before .before .before .before .before .before .before .before .before .before .args .scratch .now)) v) (c .before .before .before .before .before .before .before .before .before .before .before .before .before .before .before .before .before .before .before .before .before .before .before .before .before .before .word .ensures), (c .before .before .before .before .before .before .before .before .before .before .before .before .fill-work .ensures .1 .0 ∙ ap (λ v. replicate (length (c .before .before .before .before .before .before .before .before .before .before .before .before .before .before .before .before .before .before .before .before .before .before .before .before .before .before .before .before .before .before .before .before .before .before .before .args .pool .now)) v) (c .before .before .before .before .before .before .before .before .before .before .before .before .before .before .before .before .before .before .before .before .before .before .before .before .before .before .word .ensures), c .before .before .before .before .before .before .before .before .before .before .before .before .fill-work .ensures .1 .1 ∙ ap (λ v. replicate (length (c .before .before .before .before .before .before .before .before .before .before .before .before .before .before .before .before .before .before .before .before .before .before .before .before .before .before .before .before .before .before .before .before .before .before .before .args .letters .now)) (v % 256)) (c .before .before .before .before .before .before .before .before .before .before .before .before .before .before .before .before .before .before .before .before .before .before .before .before .before .before .word .ensures))))))))
+returns c =
+    let empty = c .before .empty in
+    let fill-wide = c .before .before .before .before .fill-wide in
+    let fill-work = c .before .before .before .before .before .before .before .before .before .before .before .before .fill-work in
+    let back12 = c .before .before .before .before .before .before .before .before .before .before .before .before in
+    let fill-circuit = back12 .before .before .before .before .before .before .before .before .before .before .fill-circuit in
+    let word = back12 .before .before .before .before .before .before .before .before .before .before .before .before .before .before .word in
+    let back24 = back12 .before .before .before .before .before .before .before .before .before .before .before .before in
+    let args = back24 .before .before .before .before .before .before .before .before .before .before .before .args in (
+      c .with-header .ensures ∙ ap (λ h. headedOf (args .state) h Done) (empty .ensures),
+      (
+        fill-circuit .ensures .0 ∙ ap (λ v. replicate (length (args .nodes .now)) v) (word .ensures),
+        (
+          fill-circuit .ensures .1 .0 ∙ ap (λ v. replicate (length (args .operations .now)) v) (word .ensures),
+          (
+            fill-circuit .ensures .1 .1 ∙ ap (λ v. replicate (length (args .frame .now)) v) (word .ensures),
+            (
+              fill-wide .ensures ∙ ap (λ v. replicate (length (args .planes .now)) v) (word .ensures),
+              (
+                fill-work .ensures .0 ∙ ap (λ v. replicate (length (args .scratch .now)) v) (word .ensures),
+                (
+                  fill-work .ensures .1 .0 ∙ ap (λ v. replicate (length (args .pool .now)) v) (word .ensures),
+                  fill-work .ensures .1 .1 ∙ ap (λ v. replicate (length (args .letters .now)) (v % 256)) (word .ensures),
+                ),
+              ),
+            ),
+          ),
+        ),
+      ),
+    )
 
 pub answer-spec : {M : Type 1} → statement M
 answer-spec =

@@ -39,7 +39,16 @@ says-requires c κs = tt
 
 returns-2 : tie.Need-returns-2
 unfolding angleReply
-returns-2 c = rw (sym (c .before .before .before .before .before .has-signed .ensures) ∙ not-false (c .before .before .before .before .before .has-signed .result) (c .before .before .before .before .if1 .left)) (c .says .ensures ∙ ap (λ k. saysOf (c .before .before .before .before .before .before .before .args .state) (One k)) (c .before .eighths .ensures ∙ ap (λ k. k % 8) (c .before .before .new .ensures ∙ ap remainder8 (toZ-ofZ w64 (c .before .before .before .signed-at .result) (record { sfits = c .before .before .before .signed-at .ok }))) ∙ remainder-kept (c .before .before .before .signed-at .result) ∙ ap remainder8 (c .before .before .before .signed-at .ensures)))
+returns-2 c =
+    let eighths = c .before .eighths in
+    let new = c .before .before .new in
+    let signed-at = c .before .before .before .signed-at in
+    let if1 = c .before .before .before .before .if1 in
+    let has-signed = c .before .before .before .before .before .has-signed in
+    let args = c .before .before .before .before .before .before .before .args in
+    rw (sym (has-signed .ensures) ∙ not-false (has-signed .result) (if1 .left)) (c .says .ensures ∙ ap (λ k. saysOf (args .state) (One k))
+    (eighths .ensures ∙ ap (λ k. k % 8) (new .ensures ∙ ap remainder8 (toZ-ofZ w64 (signed-at .result) (record { sfits = signed-at .ok })))
+    ∙ remainder-kept (signed-at .result) ∙ ap remainder8 (signed-at .ensures)))
 
 pub angle-spec : {M : Type 1} → statement M
 angle-spec = tie.close (tie.spec has-signed-requires bad-requires returns signed-at-requires new-requires eighths-requires cast-t9 says-requires returns-2)

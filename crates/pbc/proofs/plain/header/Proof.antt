@@ -35,7 +35,21 @@ with-header-requires c κs = tt
 
 returns-2 : tie.Need-returns-2
 unfolding headerReply
-returns-2 c = rw (sym (c .before .before .before .before .before .before .before .has .ensures) ∙ not-false (c .before .before .before .before .before .before .before .has .result) (c .before .before .before .before .before .before .if1 .left)) (rw (c .before .before .before .before .before .word .ensures, c .before .before .before .before .word2 .ensures, c .before .before .before .word3 .ensures, c .before .before .word4 .ensures, c .before .word5 .ensures) at (c .with-header .ensures))
+returns-2 c =
+    let word5 = c .before .word5 in
+    let word4 = c .before .before .word4 in
+    let word3 = c .before .before .before .word3 in
+    let word2 = c .before .before .before .before .word2 in
+    let word = c .before .before .before .before .before .word in
+    let if1 = c .before .before .before .before .before .before .if1 in
+    let has = c .before .before .before .before .before .before .before .has in
+    rw (sym (has .ensures) ∙ not-false (has .result) (if1 .left)) (rw (
+      word .ensures,
+      word2 .ensures,
+      word3 .ensures,
+      word4 .ensures,
+      word5 .ensures,
+    ) at (c .with-header .ensures))
 
 pub header-spec : {M : Type 1} → statement M
 header-spec = tie.close (tie.spec has-requires bad-requires returns word-requires word-requires-2 word-requires-3 word-requires-4 word-requires-5 with-header-requires returns-2)

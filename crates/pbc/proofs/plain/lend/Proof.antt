@@ -41,14 +41,39 @@ bad-requires-2 c κs = tt
 
 returns-3 : tie.Need-returns-3
 unfolding lendReply
-returns-3 c = rw (sym (c .before .before .before .before .before .before .before .has .ensures) ∙ c .before .before .before .before .before .before .if1 .left, sym (c .before .before .before .before .before .has2 .ensures) ∙ not-false (c .before .before .before .before .before .has2 .result) (c .before .before .before .before .if2 .left), ap exceeds (sym (c .before .before .before .of .ensures)) ∙ sym (c .before .before .exceed .ensures) ∙ c .before .if3 .taken) (c .bad2 .ensures)
+returns-3 c =
+    let if3 = c .before .if3 in
+    let exceed = c .before .before .exceed in
+    let the-of = c .before .before .before .of in
+    let if2 = c .before .before .before .before .if2 in
+    let has2 = c .before .before .before .before .before .has2 in
+    let if1 = c .before .before .before .before .before .before .if1 in
+    let has = c .before .before .before .before .before .before .before .has in
+    rw (
+      sym (has .ensures) ∙ if1 .left,
+      sym (has2 .ensures) ∙ not-false (has2 .result) (if2 .left),
+      ap exceeds (sym (the-of .ensures)) ∙ sym (exceed .ensures) ∙ if3 .taken,
+    ) (c .bad2 .ensures)
 
 with-lends-requires-2 : tie.Need-with-lends-requires-2
 with-lends-requires-2 c κs = tt
 
 returns-4 : tie.Need-returns-4
 unfolding lendReply
-returns-4 c = rw (sym (c .before .before .before .before .before .before .before .has .ensures) ∙ c .before .before .before .before .before .before .if1 .left, sym (c .before .before .before .before .before .has2 .ensures) ∙ not-false (c .before .before .before .before .before .has2 .result) (c .before .before .before .before .if2 .left), ap exceeds (sym (c .before .before .before .of .ensures)) ∙ sym (c .before .before .exceed .ensures) ∙ c .before .if3 .left) (c .with-lends2 .ensures ∙ ap (lentOf (c .before .before .before .before .before .before .before .before .before .args .state)) (c .before .before .before .of .ensures))
+returns-4 c =
+    let if3 = c .before .if3 in
+    let exceed = c .before .before .exceed in
+    let the-of = c .before .before .before .of in
+    let if2 = c .before .before .before .before .if2 in
+    let has2 = c .before .before .before .before .before .has2 in
+    let if1 = c .before .before .before .before .before .before .if1 in
+    let has = c .before .before .before .before .before .before .before .has in
+    let args = c .before .before .before .before .before .before .before .before .before .args in
+    rw (
+      sym (has .ensures) ∙ if1 .left,
+      sym (has2 .ensures) ∙ not-false (has2 .result) (if2 .left),
+      ap exceeds (sym (the-of .ensures)) ∙ sym (exceed .ensures) ∙ if3 .left,
+    ) (c .with-lends2 .ensures ∙ ap (lentOf (args .state)) (the-of .ensures))
 
 pub lend-spec : {M : Type 1} → statement M
 lend-spec = tie.close (tie.spec has-requires all-requires with-lends-requires returns has-requires-2 bad-requires returns-2 of-requires exceed-requires bad-requires-2 returns-3 with-lends-requires-2 returns-4)

@@ -47,7 +47,19 @@ says-requires c κs = tt
 
 returns-3 : tie.Need-returns-3
 unfolding timesReply
-returns-3 c = rw (sym (c .before .before .before .before .before .before .before .before .has .ensures) ∙ not-false (c .before .before .before .before .before .before .before .before .has .result) (c .before .before .before .before .before .before .before .if1 .left), ap₂ (λ a b. ltb 3 a || ltb 3 b) (sym (c .before .before .before .before .before .before .word .ensures)) (sym (c .before .before .before .before .before .word2 .ensures)) ∙ c .before .before .before .before .if2 .left) (c .says .ensures ∙ ap (λ p. saysOf (c .before .before .before .before .before .before .before .before .before .before .args .state) (Two (p .phase) (p .pauli))) (c .before .before .before .times-numbers .ensures ∙ ap₂ numberProduct (c .before .before .before .before .before .before .word .ensures) (c .before .before .before .before .before .word2 .ensures)))
+returns-3 c =
+    let times-numbers = c .before .before .before .times-numbers in
+    let if2 = c .before .before .before .before .if2 in
+    let word2 = c .before .before .before .before .before .word2 in
+    let word = c .before .before .before .before .before .before .word in
+    let if1 = c .before .before .before .before .before .before .before .if1 in
+    let has = c .before .before .before .before .before .before .before .before .has in
+    let args = c .before .before .before .before .before .before .before .before .before .before .args in
+    rw (
+      sym (has .ensures) ∙ not-false (has .result) (if1 .left),
+      ap₂ (λ a b. ltb 3 a || ltb 3 b) (sym (word .ensures)) (sym (word2 .ensures)) ∙ if2 .left,
+    ) (c .says .ensures ∙ ap (λ p. saysOf (args .state) (Two
+    (p .phase) (p .pauli))) (times-numbers .ensures ∙ ap₂ numberProduct (word .ensures) (word2 .ensures)))
 
 pub times-spec : {M : Type 1} → statement M
 times-spec = tie.close (tie.spec has-requires bad-requires returns word-requires word-requires-2 bad-requires-2 returns-2 times-numbers-requires cast-t10 cast-t11 says-requires returns-3)

@@ -44,21 +44,47 @@ index-requires : tie.Need-index-requires
 index-requires c κs = search needs
 
 put-operation-requires : tie.Need-put-operation-requires
-put-operation-requires c κs = omega (arith, (fits-conditional (c .before .before .before .before .before .before .before .before .args .self) (length (c .before .before .before .before .before .before .before .before .args .operations .now)) (c .before .before .before .before .before .before .before .before .args .axis) (c .before .before .before .before .before .before .before .before .args .outcome) (sym (c .before .before .before .before .before .before .check-conditional .ensures) ∙ c .before .before .before .before .enum-told .given .1)))
+put-operation-requires c κs =
+    let the-enum-told = c .before .before .before .before .enum-told in
+    let check-conditional = c .before .before .before .before .before .before .check-conditional in
+    let args = c .before .before .before .before .before .before .before .before .args in
+    omega (
+      arith,
+      (fits-conditional (args .self) (length (args .operations .now)) (args .axis) (args .outcome) (sym (check-conditional .ensures)
+          ∙ the-enum-told .given .1)),
+    )
 
 with-operation-requires : tie.Need-with-operation-requires
-with-operation-requires c κs = omega (arith, (fits-conditional (c .before .before .before .before .before .before .before .before .before .before .before .args .self) (length (c .before .before .before .before .before .before .before .before .before .before .before .args .operations .now)) (c .before .before .before .before .before .before .before .before .before .before .before .args .axis) (c .before .before .before .before .before .before .before .before .before .before .before .args .outcome) (sym (c .before .before .before .before .before .before .before .before .before .check-conditional .ensures) ∙ c .before .before .before .before .before .before .before .enum-told .given .1)))
+with-operation-requires c κs =
+    let the-enum-told = c .before .before .before .before .before .before .before .enum-told in
+    let check-conditional = c .before .before .before .before .before .before .before .before .before .check-conditional in
+    let args = c .before .before .before .before .before .before .before .before .before .before .before .args in
+    omega (
+      arith,
+      (fits-conditional (args .self) (length (args .operations .now)) (args .axis) (args .outcome) (sym (check-conditional .ensures)
+          ∙ the-enum-told .given .1)),
+    )
 
 same-length : tie.Need-same-length
 same-length c = search needs
 
 returns-2 : tie.Need-returns-2
 unfolding conditionalStep
-returns-2 c = rw (sym (c .before .before .before .before .before .before .before .before .before .before .check-conditional .ensures) ∙ c .before .before .before .before .before .before .before .before .enum-told .given .1) (
-  ap PushedMade (c .with-operation .ensures),
-  c .before .before .before .put-operation .ensures ∙ ap₂ (λ k r. sets (c .before .before .before .before .before .before .before .before .before .before .before .before .args .operations .now) (4 * c .before .before .before .before .before .before .before .before .before .before .before .before .args .self .operations) ((2 + 4 * k) ∷ r .word ∷ c .before .before .before .before .index .result ∷ 0 ∷ [])) (c .before .before .before .before .before .before .before .eighths .ensures) (c .before .before .before .before .before .as-ref .ensures)
-      ∙ ap (λ m. sets (c .before .before .before .before .before .before .before .before .before .before .before .before .args .operations .now) (4 * c .before .before .before .before .before .before .before .before .before .before .before .before .args .self .operations) ((2 + 4 * eighthsOf (c .before .before .before .before .before .before .before .before .before .before .before .before .args .angle)) ∷ c .before .before .before .before .before .before .before .before .before .before .before .before .args .axis .0 .word ∷ m ∷ 0 ∷ [])) (c .before .before .before .before .index .ensures),
-)
+returns-2 c =
+    let put-operation = c .before .before .before .put-operation in
+    let index = c .before .before .before .before .index in
+    let as-ref = c .before .before .before .before .before .as-ref in
+    let eighths = c .before .before .before .before .before .before .before .eighths in
+    let the-enum-told = c .before .before .before .before .before .before .before .before .enum-told in
+    let check-conditional = c .before .before .before .before .before .before .before .before .before .before .check-conditional in
+    let args = c .before .before .before .before .before .before .before .before .before .before .before .before .args in
+    rw (sym (check-conditional .ensures) ∙ the-enum-told .given .1) (
+      ap PushedMade (c .with-operation .ensures),
+      put-operation .ensures ∙ ap₂ (λ k r. sets (args .operations .now) (4 * args .self .operations) ((2 + 4 * k) ∷ r .word ∷ index .result ∷ 0 ∷ []))
+          (eighths .ensures) (as-ref .ensures)
+          ∙ ap (λ m. sets (args .operations .now) (4 * args .self .operations) ((2 + 4 * eighthsOf (args .angle)) ∷ args .axis .0 .word ∷ m ∷ 0 ∷ []))
+          (index .ensures),
+    )
 
 pub conditional-rotate-spec : {M : Type 1} → statement M
 conditional-rotate-spec =

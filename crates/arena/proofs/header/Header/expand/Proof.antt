@@ -36,22 +36,60 @@ mul-counted : tie.Need-mul-counted
 mul-counted c = search needs
 
 slice-relend-prefix-expand-walk : tie.Need-slice-relend-prefix-expand-walk
-slice-relend-prefix-expand-walk c = (fits-expand (c .before .before .before .before .before .before .before .before .before .before .args .self) (c .before .before .before .before .before .before .before .before .before .before .args .nodes .now) (c .before .before .before .before .before .before .before .before .before .before .args .reference) (length (c .before .before .before .before .before .before .before .before .before .before .args .letters .now)) (length (c .before .before .before .before .before .before .before .before .before .before .args .scratch .now)) (sym (c .before .before .before .before .before .check-expand .ensures) ∙ c .before .before .before .enum-told .given .1)) .0 .scratch-long
+slice-relend-prefix-expand-walk c =
+    let the-enum-told = c .before .before .before .enum-told in
+    let check-expand = c .before .before .before .before .before .check-expand in
+    let args = c .before .before .before .before .before .before .before .before .before .before .args in
+    (fits-expand (args .self) (args .nodes .now) (args .reference) (length (args .letters .now)) (length (args .scratch .now)) (sym
+    (check-expand .ensures) ∙ the-enum-told .given .1)) .0 .scratch-long
 
 slice-aggregate-expand-walk : tie.Need-slice-aggregate-expand-walk
-slice-aggregate-expand-walk c = sym (part-long (c .before .before .before .before .before .before .before .before .before .before .before .args .scratch .now) (4 * c .before .before .before .before .before .before .before .before .before .before .before .args .self .nodes) ((fits-expand (c .before .before .before .before .before .before .before .before .before .before .before .args .self) (c .before .before .before .before .before .before .before .before .before .before .before .args .nodes .now) (c .before .before .before .before .before .before .before .before .before .before .before .args .reference) (length (c .before .before .before .before .before .before .before .before .before .before .before .args .letters .now)) (length (c .before .before .before .before .before .before .before .before .before .before .before .args .scratch .now)) (sym (c .before .before .before .before .before .before .check-expand .ensures) ∙ c .before .before .before .before .enum-told .given .1)) .0 .scratch-long))
+slice-aggregate-expand-walk c =
+    let the-enum-told = c .before .before .before .before .enum-told in
+    let check-expand = c .before .before .before .before .before .before .check-expand in
+    let args = c .before .before .before .before .before .before .before .before .before .before .before .args in
+    sym (part-long (args .scratch .now) (4 * args .self .nodes) ((fits-expand (args .self) (args .nodes .now) (args .reference) (length
+    (args .letters .now)) (length (args .scratch .now)) (sym (check-expand .ensures) ∙ the-enum-told .given .1)) .0 .scratch-long))
 
 slice-relend-prefix-expand-walk-2 : tie.Need-slice-relend-prefix-expand-walk-2
 slice-relend-prefix-expand-walk-2 c = search needs
 
 slice-aggregate-expand-walk-2 : tie.Need-slice-aggregate-expand-walk-2
-slice-aggregate-expand-walk-2 c = sym (part-long (c .before .before .before .before .before .before .before .before .before .before .before .before .args .pool .now) (3 * c .before .before .before .cap-of .result) (cap-fits (c .before .before .before .before .before .before .before .before .before .before .before .before .args .pool .now) (c .before .before .before .cap-of .result) (c .before .before .before .cap-of .ensures)))
+slice-aggregate-expand-walk-2 c =
+    let cap-of = c .before .before .before .cap-of in
+    let args = c .before .before .before .before .before .before .before .before .before .before .before .before .args in
+    sym (part-long (args .pool .now) (3 * cap-of .result) (cap-fits (args .pool .now) (cap-of .result) (cap-of .ensures)))
 
 expand-walk-requires : tie.Need-expand-walk-requires
-expand-walk-requires c κs = let p = fits-expand (c .before .before .before .before .before .before .before .before .before .before .before .before .args .self) (c .before .before .before .before .before .before .before .before .before .before .before .before .args .nodes .now) (c .before .before .before .before .before .before .before .before .before .before .before .before .args .reference) (length (c .before .before .before .before .before .before .before .before .before .before .before .before .args .letters .now)) (length (c .before .before .before .before .before .before .before .before .before .before .before .before .args .scratch .now)) (sym (c .before .before .before .before .before .before .before .check-expand .ensures) ∙ c .before .before .before .before .before .enum-told .given .1) in (fit-part (c .before .before .before .before .before .before .before .before .before .before .before .before .args .self) (c .before .before .before .before .before .before .before .before .before .before .before .before .args .nodes .now) (c .before .before .before .before .before .before .before .before .before .before .before .before .args .scratch .now) (4 * c .before .before .before .before .before .before .before .before .before .before .before .before .args .self .nodes) refl (p .0), p .1, p .2)
+expand-walk-requires c κs =
+    let the-enum-told = c .before .before .before .before .before .enum-told in
+    let check-expand = c .before .before .before .before .before .before .before .check-expand in
+    let args = c .before .before .before .before .before .before .before .before .before .before .before .before .args in
+    let p = fits-expand (args .self) (args .nodes .now) (args .reference) (length (args .letters .now)) (length (args .scratch .now)) (sym
+    (check-expand .ensures) ∙ the-enum-told .given .1) in (
+      fit-part (args .self) (args .nodes .now) (args .scratch .now) (4 * args .self .nodes) refl
+          (p .0),
+      p .1,
+      p .2,
+    )
 
 wipe-requires : tie.Need-wipe-requires
-wipe-requires c κs = omega (arith, front-long (c .before .before .before .before .before .before .before .before .before .before .before .before .before .before .before .before .before .before .before .before .before .args .scratch .now) (c .before .before .before .before .before .before .before .before .expand-walk .last .1 .1 .1 .0) (4 * c .before .before .before .before .before .before .before .before .before .before .before .before .before .before .before .before .before .before .before .before .before .args .self .nodes) ((fits-expand (c .before .before .before .before .before .before .before .before .before .before .before .before .before .before .before .before .before .before .before .before .before .args .self) (c .before .before .before .before .before .before .before .before .before .before .before .before .before .before .before .before .before .before .before .before .before .args .nodes .now) (c .before .before .before .before .before .before .before .before .before .before .before .before .before .before .before .before .before .before .before .before .before .args .reference) (length (c .before .before .before .before .before .before .before .before .before .before .before .before .before .before .before .before .before .before .before .before .before .args .letters .now)) (length (c .before .before .before .before .before .before .before .before .before .before .before .before .before .before .before .before .before .before .before .before .before .args .scratch .now)) (sym (c .before .before .before .before .before .before .before .before .before .before .before .before .before .before .before .before .check-expand .ensures) ∙ c .before .before .before .before .before .before .before .before .before .before .before .before .before .before .enum-told .given .1)) .0 .scratch-long) (c .before .before .before .before .before .before .before .before .expand-walk .kept .1 .1 .1 .0 ∙ part-long (c .before .before .before .before .before .before .before .before .before .before .before .before .before .before .before .before .before .before .before .before .before .args .scratch .now) (4 * c .before .before .before .before .before .before .before .before .before .before .before .before .before .before .before .before .before .before .before .before .before .args .self .nodes) ((fits-expand (c .before .before .before .before .before .before .before .before .before .before .before .before .before .before .before .before .before .before .before .before .before .args .self) (c .before .before .before .before .before .before .before .before .before .before .before .before .before .before .before .before .before .before .before .before .before .args .nodes .now) (c .before .before .before .before .before .before .before .before .before .before .before .before .before .before .before .before .before .before .before .before .before .args .reference) (length (c .before .before .before .before .before .before .before .before .before .before .before .before .before .before .before .before .before .before .before .before .before .args .letters .now)) (length (c .before .before .before .before .before .before .before .before .before .before .before .before .before .before .before .before .before .before .before .before .before .args .scratch .now)) (sym (c .before .before .before .before .before .before .before .before .before .before .before .before .before .before .before .before .check-expand .ensures) ∙ c .before .before .before .before .before .before .before .before .before .before .before .before .before .before .enum-told .given .1)) .0 .scratch-long)), (fits-expand (c .before .before .before .before .before .before .before .before .before .before .before .before .before .before .before .before .before .before .before .before .before .args .self) (c .before .before .before .before .before .before .before .before .before .before .before .before .before .before .before .before .before .before .before .before .before .args .nodes .now) (c .before .before .before .before .before .before .before .before .before .before .before .before .before .before .before .before .before .before .before .before .before .args .reference) (length (c .before .before .before .before .before .before .before .before .before .before .before .before .before .before .before .before .before .before .before .before .before .args .letters .now)) (length (c .before .before .before .before .before .before .before .before .before .before .before .before .before .before .before .before .before .before .before .before .before .args .scratch .now)) (sym (c .before .before .before .before .before .before .before .before .before .before .before .before .before .before .before .before .check-expand .ensures) ∙ c .before .before .before .before .before .before .before .before .before .before .before .before .before .before .enum-told .given .1)) .0 .scratch-long)
+wipe-requires c κs =
+    let expand-walk = c .before .before .before .before .before .before .before .before .expand-walk in
+    let the-enum-told = c .before .before .before .before .before .before .before .before .before .before .before .before .before .before .enum-told in
+    let back12 = c .before .before .before .before .before .before .before .before .before .before .before .before in
+    let check-expand = back12 .before .before .before .before .check-expand in
+    let args = back12 .before .before .before .before .before .before .before .before .before .args in
+    omega (
+      arith,
+      front-long (args .scratch .now) (expand-walk .last .1 .1 .1 .0) (4 * args .self .nodes) ((fits-expand (args .self) (args .nodes .now)
+          (args .reference) (length (args .letters .now)) (length (args .scratch .now)) (sym (check-expand .ensures)
+          ∙ the-enum-told .given .1)) .0 .scratch-long) (expand-walk .kept .1 .1 .1 .0 ∙ part-long (args .scratch .now) (4 * args .self .nodes) ((fits-expand
+          (args .self) (args .nodes .now) (args .reference) (length (args .letters .now)) (length (args .scratch .now)) (sym (check-expand .ensures)
+          ∙ the-enum-told .given .1)) .0 .scratch-long)),
+      (fits-expand (args .self) (args .nodes .now) (args .reference) (length (args .letters .now)) (length (args .scratch .now)) (sym
+          (check-expand .ensures) ∙ the-enum-told .given .1)) .0 .scratch-long,
+    )
 
 same-length : tie.Need-same-length
 same-length c = search needs
@@ -64,7 +102,31 @@ same-length-3 c = search needs
 
 returns-2 : tie.Need-returns-2
 unfolding expandStep
-returns-2 c = rw (sym (c .before .before .before .before .before .before .before .before .before .before .before .before .before .before .before .before .before .before .before .before .before .check-expand .ensures) ∙ c .before .before .before .before .before .before .before .before .before .before .before .before .before .before .before .before .before .before .before .enum-told .given .1) (c .before .before .before .before .before .before .before .before .before .before .before .before .before .expand-walk .ensures .0 ∙ ap (λ (room : ℕ). expansionOf (expandWalk (c .before .before .before .before .before .before .before .before .before .before .before .before .before .before .before .before .before .before .before .before .before .before .before .before .before .before .args .max-cells) room (c .before .before .before .before .before .before .before .before .before .before .before .before .before .before .before .before .before .before .before .before .before .before .before .before .before .before .args .self .qubits) (c .before .before .before .before .before .before .before .before .before .before .before .before .before .before .before .before .before .before .before .before .before .before .before .before .before .before .args .self .nodes) (c .before .before .before .before .before .before .before .before .before .before .before .before .before .before .before .before .before .before .before .before .before .before .before .before .before .before .args .nodes .now) (c .before .before .before .before .before .before .before .before .before .before .before .before .before .before .before .before .before .before .before .before .before .before .before .before .before .before .args .reference .word))) (room-same (c .before .before .before .before .before .before .before .before .before .before .before .before .before .before .before .before .before .before .before .before .before .before .before .before .before .before .args .pool .now) (c .before .before .before .before .before .before .before .before .before .before .before .before .before .before .before .before .before .cap-of .result) (c .before .before .before .before .before .before .before .before .before .before .before .before .before .before .before .before .before .cap-of .ensures)), (c .before .before .before .before .before .before .before .before .before .before .before .before .before .expand-walk .ensures .1 ∙ ap (λ (room : ℕ). lettersLeft (expandWalk (c .before .before .before .before .before .before .before .before .before .before .before .before .before .before .before .before .before .before .before .before .before .before .before .before .before .before .args .max-cells) room (c .before .before .before .before .before .before .before .before .before .before .before .before .before .before .before .before .before .before .before .before .before .before .before .before .before .before .args .self .qubits) (c .before .before .before .before .before .before .before .before .before .before .before .before .before .before .before .before .before .before .before .before .before .before .before .before .before .before .args .self .nodes) (c .before .before .before .before .before .before .before .before .before .before .before .before .before .before .before .before .before .before .before .before .before .before .before .before .before .before .args .nodes .now) (c .before .before .before .before .before .before .before .before .before .before .before .before .before .before .before .before .before .before .before .before .before .before .before .before .before .before .args .reference .word)) (c .before .before .before .before .before .before .before .before .before .before .before .before .before .before .before .before .before .before .before .before .before .before .before .before .before .before .args .letters .now)) (room-same (c .before .before .before .before .before .before .before .before .before .before .before .before .before .before .before .before .before .before .before .before .before .before .before .before .before .before .args .pool .now) (c .before .before .before .before .before .before .before .before .before .before .before .before .before .before .before .before .before .cap-of .result) (c .before .before .before .before .before .before .before .before .before .before .before .before .before .before .before .before .before .cap-of .ensures)), (left-scratch (c .before .before .before .before .before .before .before .before .before .before .before .before .before .before .before .before .before .before .before .before .before .before .before .before .before .before .args .self) (c .before .before .before .before .before .before .before .before .before .before .before .before .before .before .before .before .before .before .before .before .before .before .before .before .before .before .args .scratch .now) (c .before .before .before .before .before .before .before .before .before .before .before .before .before .expand-walk .last .1 .1 .1 .0) (c .before .before .before .before .before .before .before .before .before .before .before .before .before .expand-walk .kept .1 .1 .1 .0 ∙ part-long (c .before .before .before .before .before .before .before .before .before .before .before .before .before .before .before .before .before .before .before .before .before .before .before .before .before .before .args .scratch .now) (4 * c .before .before .before .before .before .before .before .before .before .before .before .before .before .before .before .before .before .before .before .before .before .before .before .before .before .before .args .self .nodes) ((fits-expand (c .before .before .before .before .before .before .before .before .before .before .before .before .before .before .before .before .before .before .before .before .before .before .before .before .before .before .args .self) (c .before .before .before .before .before .before .before .before .before .before .before .before .before .before .before .before .before .before .before .before .before .before .before .before .before .before .args .nodes .now) (c .before .before .before .before .before .before .before .before .before .before .before .before .before .before .before .before .before .before .before .before .before .before .before .before .before .before .args .reference) (length (c .before .before .before .before .before .before .before .before .before .before .before .before .before .before .before .before .before .before .before .before .before .before .before .before .before .before .args .letters .now)) (length (c .before .before .before .before .before .before .before .before .before .before .before .before .before .before .before .before .before .before .before .before .before .before .before .before .before .before .args .scratch .now)) (sym (c .before .before .before .before .before .before .before .before .before .before .before .before .before .before .before .before .before .before .before .before .before .check-expand .ensures) ∙ c .before .before .before .before .before .before .before .before .before .before .before .before .before .before .before .before .before .before .before .enum-told .given .1)) .0 .scratch-long)) (c .before .before .before .before .wipe .ensures .0), left-pool (c .before .before .before .before .before .before .before .before .before .before .before .before .before .before .before .before .before .before .before .before .before .before .before .before .before .before .args .pool .now) (c .before .before .before .before .before .before .before .before .before .before .before .before .before .expand-walk .last .1 .1 .1 .1 .0) (c .before .before .before .before .before .before .before .before .before .before .before .before .before .before .before .before .before .cap-of .result) (c .before .before .before .before .before .before .before .before .before .before .before .before .before .before .before .before .before .cap-of .ensures) (c .before .before .before .before .before .before .before .before .before .before .before .before .before .expand-walk .kept .1 .1 .1 .1 .0 ∙ part-long (c .before .before .before .before .before .before .before .before .before .before .before .before .before .before .before .before .before .before .before .before .before .before .before .before .before .before .args .pool .now) (3 * c .before .before .before .before .before .before .before .before .before .before .before .before .before .before .before .before .before .cap-of .result) (cap-fits (c .before .before .before .before .before .before .before .before .before .before .before .before .before .before .before .before .before .before .before .before .before .before .before .before .before .before .args .pool .now) (c .before .before .before .before .before .before .before .before .before .before .before .before .before .before .before .before .before .cap-of .result) (c .before .before .before .before .before .before .before .before .before .before .before .before .before .before .before .before .before .cap-of .ensures))) (c .before .before .before .before .wipe .ensures .1))))
+returns-2 c =
+    let wipe = c .before .before .before .before .wipe in
+    let expand-walk = c .before .before .before .before .before .before .before .before .before .before .before .before .before .expand-walk in
+    let back12 = c .before .before .before .before .before .before .before .before .before .before .before .before in
+    let cap-of = back12 .before .before .before .before .before .cap-of in
+    let the-enum-told = back12 .before .before .before .before .before .before .before .enum-told in
+    let check-expand = back12 .before .before .before .before .before .before .before .before .before .check-expand in
+    let args = back12 .before .before .before .before .before .before .before .before .before .before .before .before .before .before .args in
+    rw (sym (check-expand .ensures) ∙ the-enum-told .given .1) (
+      expand-walk .ensures .0 ∙ ap (λ (room : ℕ). expansionOf (expandWalk
+          (args .max-cells) room (args .self .qubits) (args .self .nodes) (args .nodes .now) (args .reference .word))) (room-same (args .pool .now)
+          (cap-of .result) (cap-of .ensures)),
+      (
+        expand-walk .ensures .1 ∙ ap (λ (room : ℕ). lettersLeft (expandWalk (args .max-cells) room
+            (args .self .qubits) (args .self .nodes) (args .nodes .now) (args .reference .word)) (args .letters .now)) (room-same (args .pool .now)
+            (cap-of .result) (cap-of .ensures)),
+        (
+          left-scratch (args .self) (args .scratch .now) (expand-walk .last .1 .1 .1 .0) (expand-walk .kept .1 .1 .1 .0
+              ∙ part-long (args .scratch .now) (4 * args .self .nodes) ((fits-expand (args .self) (args .nodes .now) (args .reference) (length
+              (args .letters .now)) (length (args .scratch .now)) (sym (check-expand .ensures) ∙ the-enum-told .given .1)) .0 .scratch-long)) (wipe .ensures .0),
+          left-pool (args .pool .now) (expand-walk .last .1 .1 .1 .1 .0) (cap-of .result) (cap-of .ensures) (expand-walk .kept .1 .1 .1 .1 .0 ∙ part-long
+              (args .pool .now) (3 * cap-of .result) (cap-fits (args .pool .now) (cap-of .result) (cap-of .ensures))) (wipe .ensures .1),
+        ),
+      ),
+    )
 
 pub expand-spec : {M : Type 1} → statement M
 expand-spec =

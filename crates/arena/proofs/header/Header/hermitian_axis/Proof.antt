@@ -36,10 +36,20 @@ mul-counted : tie.Need-mul-counted
 mul-counted c = search needs
 
 slice-relend-prefix-hermitian-walk : tie.Need-slice-relend-prefix-hermitian-walk
-slice-relend-prefix-hermitian-walk c = (fits-hermitian (c .before .before .before .before .before .before .before .before .args .self) (c .before .before .before .before .before .before .before .before .args .nodes .now) (c .before .before .before .before .before .before .before .before .args .reference) (length (c .before .before .before .before .before .before .before .before .args .scratch .now)) (sym (c .before .before .before .before .check-hermitian .ensures) ∙ c .before .before .enum-told .given .1)) .0 .scratch-long
+slice-relend-prefix-hermitian-walk c =
+    let the-enum-told = c .before .before .enum-told in
+    let check-hermitian = c .before .before .before .before .check-hermitian in
+    let args = c .before .before .before .before .before .before .before .before .args in
+    (fits-hermitian (args .self) (args .nodes .now) (args .reference) (length (args .scratch .now)) (sym (check-hermitian .ensures)
+    ∙ the-enum-told .given .1)) .0 .scratch-long
 
 slice-aggregate-hermitian-walk : tie.Need-slice-aggregate-hermitian-walk
-slice-aggregate-hermitian-walk c = sym (part-long (c .before .before .before .before .before .before .before .before .before .args .scratch .now) (4 * c .before .before .before .before .before .before .before .before .before .args .self .nodes) ((fits-hermitian (c .before .before .before .before .before .before .before .before .before .args .self) (c .before .before .before .before .before .before .before .before .before .args .nodes .now) (c .before .before .before .before .before .before .before .before .before .args .reference) (length (c .before .before .before .before .before .before .before .before .before .args .scratch .now)) (sym (c .before .before .before .before .before .check-hermitian .ensures) ∙ c .before .before .before .enum-told .given .1)) .0 .scratch-long))
+slice-aggregate-hermitian-walk c =
+    let the-enum-told = c .before .before .before .enum-told in
+    let check-hermitian = c .before .before .before .before .before .check-hermitian in
+    let args = c .before .before .before .before .before .before .before .before .before .args in
+    sym (part-long (args .scratch .now) (4 * args .self .nodes) ((fits-hermitian (args .self) (args .nodes .now) (args .reference) (length
+    (args .scratch .now)) (sym (check-hermitian .ensures) ∙ the-enum-told .given .1)) .0 .scratch-long))
 
 slice-relend-prefix-hermitian-walk-2 : tie.Need-slice-relend-prefix-hermitian-walk-2
 slice-relend-prefix-hermitian-walk-2 c = search needs
@@ -48,10 +58,29 @@ slice-aggregate-hermitian-walk-2 : tie.Need-slice-aggregate-hermitian-walk-2
 slice-aggregate-hermitian-walk-2 c = sym (part-long (c .before .before .before .before .before .before .before .before .before .before .args .pool .now) (3 * c .before .before .cap-of .result) (cap-fits (c .before .before .before .before .before .before .before .before .before .before .args .pool .now) (c .before .before .cap-of .result) (c .before .before .cap-of .ensures)))
 
 hermitian-walk-requires : tie.Need-hermitian-walk-requires
-hermitian-walk-requires c κs = let p = fits-hermitian (c .before .before .before .before .before .before .before .before .before .before .args .self) (c .before .before .before .before .before .before .before .before .before .before .args .nodes .now) (c .before .before .before .before .before .before .before .before .before .before .args .reference) (length (c .before .before .before .before .before .before .before .before .before .before .args .scratch .now)) (sym (c .before .before .before .before .before .before .check-hermitian .ensures) ∙ c .before .before .before .before .enum-told .given .1) in (fit-part (c .before .before .before .before .before .before .before .before .before .before .args .self) (c .before .before .before .before .before .before .before .before .before .before .args .nodes .now) (c .before .before .before .before .before .before .before .before .before .before .args .scratch .now) (4 * c .before .before .before .before .before .before .before .before .before .before .args .self .nodes) refl (p .0), p .1)
+hermitian-walk-requires c κs =
+    let the-enum-told = c .before .before .before .before .enum-told in
+    let check-hermitian = c .before .before .before .before .before .before .check-hermitian in
+    let args = c .before .before .before .before .before .before .before .before .before .before .args in
+    let p = fits-hermitian (args .self) (args .nodes .now) (args .reference) (length (args .scratch .now)) (sym (check-hermitian .ensures)
+    ∙ the-enum-told .given .1) in (fit-part (args .self) (args .nodes .now) (args .scratch .now) (4 * args .self .nodes) refl (p .0), p .1)
 
 wipe-requires : tie.Need-wipe-requires
-wipe-requires c κs = omega (arith, front-long (c .before .before .before .before .before .before .before .before .before .before .before .before .before .before .before .before .before .args .scratch .now) (c .before .before .before .before .before .before .hermitian-walk .last .1 .1 .0) (4 * c .before .before .before .before .before .before .before .before .before .before .before .before .before .before .before .before .before .args .self .nodes) ((fits-hermitian (c .before .before .before .before .before .before .before .before .before .before .before .before .before .before .before .before .before .args .self) (c .before .before .before .before .before .before .before .before .before .before .before .before .before .before .before .before .before .args .nodes .now) (c .before .before .before .before .before .before .before .before .before .before .before .before .before .before .before .before .before .args .reference) (length (c .before .before .before .before .before .before .before .before .before .before .before .before .before .before .before .before .before .args .scratch .now)) (sym (c .before .before .before .before .before .before .before .before .before .before .before .before .before .check-hermitian .ensures) ∙ c .before .before .before .before .before .before .before .before .before .before .before .enum-told .given .1)) .0 .scratch-long) (c .before .before .before .before .before .before .hermitian-walk .kept .1 .1 .0 ∙ part-long (c .before .before .before .before .before .before .before .before .before .before .before .before .before .before .before .before .before .args .scratch .now) (4 * c .before .before .before .before .before .before .before .before .before .before .before .before .before .before .before .before .before .args .self .nodes) ((fits-hermitian (c .before .before .before .before .before .before .before .before .before .before .before .before .before .before .before .before .before .args .self) (c .before .before .before .before .before .before .before .before .before .before .before .before .before .before .before .before .before .args .nodes .now) (c .before .before .before .before .before .before .before .before .before .before .before .before .before .before .before .before .before .args .reference) (length (c .before .before .before .before .before .before .before .before .before .before .before .before .before .before .before .before .before .args .scratch .now)) (sym (c .before .before .before .before .before .before .before .before .before .before .before .before .before .check-hermitian .ensures) ∙ c .before .before .before .before .before .before .before .before .before .before .before .enum-told .given .1)) .0 .scratch-long)), (fits-hermitian (c .before .before .before .before .before .before .before .before .before .before .before .before .before .before .before .before .before .args .self) (c .before .before .before .before .before .before .before .before .before .before .before .before .before .before .before .before .before .args .nodes .now) (c .before .before .before .before .before .before .before .before .before .before .before .before .before .before .before .before .before .args .reference) (length (c .before .before .before .before .before .before .before .before .before .before .before .before .before .before .before .before .before .args .scratch .now)) (sym (c .before .before .before .before .before .before .before .before .before .before .before .before .before .check-hermitian .ensures) ∙ c .before .before .before .before .before .before .before .before .before .before .before .enum-told .given .1)) .0 .scratch-long)
+wipe-requires c κs =
+    let hermitian-walk = c .before .before .before .before .before .before .hermitian-walk in
+    let the-enum-told = c .before .before .before .before .before .before .before .before .before .before .before .enum-told in
+    let check-hermitian = c .before .before .before .before .before .before .before .before .before .before .before .before .before .check-hermitian in
+    let back12 = c .before .before .before .before .before .before .before .before .before .before .before .before in
+    let args = back12 .before .before .before .before .before .args in
+    omega (
+      arith,
+      front-long (args .scratch .now) (hermitian-walk .last .1 .1 .0) (4 * args .self .nodes) ((fits-hermitian (args .self)
+          (args .nodes .now) (args .reference) (length (args .scratch .now)) (sym (check-hermitian .ensures) ∙ the-enum-told .given .1)) .0 .scratch-long)
+          (hermitian-walk .kept .1 .1 .0 ∙ part-long (args .scratch .now) (4 * args .self .nodes) ((fits-hermitian (args .self) (args .nodes .now)
+          (args .reference) (length (args .scratch .now)) (sym (check-hermitian .ensures) ∙ the-enum-told .given .1)) .0 .scratch-long)),
+      (fits-hermitian (args .self) (args .nodes .now) (args .reference) (length (args .scratch .now)) (sym (check-hermitian .ensures)
+          ∙ the-enum-told .given .1)) .0 .scratch-long,
+    )
 
 same-length : tie.Need-same-length
 same-length c = search needs
@@ -61,7 +90,26 @@ same-length-2 c = search needs
 
 returns-2 : tie.Need-returns-2
 unfolding hermitianStep
-returns-2 c = rw (sym (c .before .before .before .before .before .before .before .before .before .before .before .before .before .before .before .before .before .before .check-hermitian .ensures) ∙ c .before .before .before .before .before .before .before .before .before .before .before .before .before .before .before .before .enum-told .given .1) (c .before .before .before .before .before .before .before .before .before .before .before .hermitian-walk .ensures ∙ ap (λ (room : ℕ). hermitianOf (c .before .before .before .before .before .before .before .before .before .before .before .before .before .before .before .before .before .before .before .before .before .before .args .reference) (hermitianWalk (c .before .before .before .before .before .before .before .before .before .before .before .before .before .before .before .before .before .before .before .before .before .before .args .limit) room (c .before .before .before .before .before .before .before .before .before .before .before .before .before .before .before .before .before .before .before .before .before .before .args .self .qubits) (c .before .before .before .before .before .before .before .before .before .before .before .before .before .before .before .before .before .before .before .before .before .before .args .self .nodes) (c .before .before .before .before .before .before .before .before .before .before .before .before .before .before .before .before .before .before .before .before .before .before .args .nodes .now) (c .before .before .before .before .before .before .before .before .before .before .before .before .before .before .before .before .before .before .before .before .before .before .args .reference .word))) (room-same (c .before .before .before .before .before .before .before .before .before .before .before .before .before .before .before .before .before .before .before .before .before .before .args .pool .now) (c .before .before .before .before .before .before .before .before .before .before .before .before .before .before .cap-of .result) (c .before .before .before .before .before .before .before .before .before .before .before .before .before .before .cap-of .ensures)), (left-scratch (c .before .before .before .before .before .before .before .before .before .before .before .before .before .before .before .before .before .before .before .before .before .before .args .self) (c .before .before .before .before .before .before .before .before .before .before .before .before .before .before .before .before .before .before .before .before .before .before .args .scratch .now) (c .before .before .before .before .before .before .before .before .before .before .before .hermitian-walk .last .1 .1 .0) (c .before .before .before .before .before .before .before .before .before .before .before .hermitian-walk .kept .1 .1 .0 ∙ part-long (c .before .before .before .before .before .before .before .before .before .before .before .before .before .before .before .before .before .before .before .before .before .before .args .scratch .now) (4 * c .before .before .before .before .before .before .before .before .before .before .before .before .before .before .before .before .before .before .before .before .before .before .args .self .nodes) ((fits-hermitian (c .before .before .before .before .before .before .before .before .before .before .before .before .before .before .before .before .before .before .before .before .before .before .args .self) (c .before .before .before .before .before .before .before .before .before .before .before .before .before .before .before .before .before .before .before .before .before .before .args .nodes .now) (c .before .before .before .before .before .before .before .before .before .before .before .before .before .before .before .before .before .before .before .before .before .before .args .reference) (length (c .before .before .before .before .before .before .before .before .before .before .before .before .before .before .before .before .before .before .before .before .before .before .args .scratch .now)) (sym (c .before .before .before .before .before .before .before .before .before .before .before .before .before .before .before .before .before .before .check-hermitian .ensures) ∙ c .before .before .before .before .before .before .before .before .before .before .before .before .before .before .before .before .enum-told .given .1)) .0 .scratch-long)) (c .before .before .before .before .wipe .ensures .0), left-pool (c .before .before .before .before .before .before .before .before .before .before .before .before .before .before .before .before .before .before .before .before .before .before .args .pool .now) (c .before .before .before .before .before .before .before .before .before .before .before .hermitian-walk .last .1 .1 .1 .0) (c .before .before .before .before .before .before .before .before .before .before .before .before .before .before .cap-of .result) (c .before .before .before .before .before .before .before .before .before .before .before .before .before .before .cap-of .ensures) (c .before .before .before .before .before .before .before .before .before .before .before .hermitian-walk .kept .1 .1 .1 .0 ∙ part-long (c .before .before .before .before .before .before .before .before .before .before .before .before .before .before .before .before .before .before .before .before .before .before .args .pool .now) (3 * c .before .before .before .before .before .before .before .before .before .before .before .before .before .before .cap-of .result) (cap-fits (c .before .before .before .before .before .before .before .before .before .before .before .before .before .before .before .before .before .before .before .before .before .before .args .pool .now) (c .before .before .before .before .before .before .before .before .before .before .before .before .before .before .cap-of .result) (c .before .before .before .before .before .before .before .before .before .before .before .before .before .before .cap-of .ensures))) (c .before .before .before .before .wipe .ensures .1)))
+returns-2 c =
+    let wipe = c .before .before .before .before .wipe in
+    let hermitian-walk = c .before .before .before .before .before .before .before .before .before .before .before .hermitian-walk in
+    let cap-of = c .before .before .before .before .before .before .before .before .before .before .before .before .before .before .cap-of in
+    let back12 = c .before .before .before .before .before .before .before .before .before .before .before .before in
+    let the-enum-told = back12 .before .before .before .before .enum-told in
+    let check-hermitian = back12 .before .before .before .before .before .before .check-hermitian in
+    let args = back12 .before .before .before .before .before .before .before .before .before .before .args in
+    rw (sym (check-hermitian .ensures) ∙ the-enum-told .given .1) (
+      hermitian-walk .ensures ∙ ap (λ (room : ℕ). hermitianOf (args .reference)
+          (hermitianWalk (args .limit) room (args .self .qubits) (args .self .nodes) (args .nodes .now) (args .reference .word))) (room-same (args .pool .now)
+          (cap-of .result) (cap-of .ensures)),
+      (
+        left-scratch (args .self) (args .scratch .now) (hermitian-walk .last .1 .1 .0) (hermitian-walk .kept .1 .1 .0
+            ∙ part-long (args .scratch .now) (4 * args .self .nodes) ((fits-hermitian (args .self) (args .nodes .now) (args .reference) (length
+            (args .scratch .now)) (sym (check-hermitian .ensures) ∙ the-enum-told .given .1)) .0 .scratch-long)) (wipe .ensures .0),
+        left-pool (args .pool .now) (hermitian-walk .last .1 .1 .1 .0) (cap-of .result) (cap-of .ensures) (hermitian-walk .kept .1 .1 .1 .0 ∙ part-long
+            (args .pool .now) (3 * cap-of .result) (cap-fits (args .pool .now) (cap-of .result) (cap-of .ensures))) (wipe .ensures .1),
+      ),
+    )
 
 pub hermitian-axis-spec : {M : Type 1} → statement M
 hermitian-axis-spec =

@@ -38,10 +38,20 @@ mul-counted : tie.Need-mul-counted
 mul-counted c = search needs
 
 slice-relend-prefix-report-walk : tie.Need-slice-relend-prefix-report-walk
-slice-relend-prefix-report-walk c = (fits-report (c .before .before .before .before .before .before .before .before .before .args .self) (c .before .before .before .before .before .before .before .before .before .args .nodes .now) (c .before .before .before .before .before .before .before .before .before .args .operations .now) (length (c .before .before .before .before .before .before .before .before .before .args .scratch .now)) (sym (c .before .before .before .before .check-report .ensures) ∙ c .before .before .enum-told .given .1)) .0 .scratch-long
+slice-relend-prefix-report-walk c =
+    let the-enum-told = c .before .before .enum-told in
+    let check-report = c .before .before .before .before .check-report in
+    let args = c .before .before .before .before .before .before .before .before .before .args in
+    (fits-report (args .self) (args .nodes .now) (args .operations .now) (length (args .scratch .now)) (sym (check-report .ensures)
+    ∙ the-enum-told .given .1)) .0 .scratch-long
 
 slice-aggregate-report-walk : tie.Need-slice-aggregate-report-walk
-slice-aggregate-report-walk c = sym (part-long (c .before .before .before .before .before .before .before .before .before .before .args .scratch .now) (4 * c .before .before .before .before .before .before .before .before .before .before .args .self .nodes) ((fits-report (c .before .before .before .before .before .before .before .before .before .before .args .self) (c .before .before .before .before .before .before .before .before .before .before .args .nodes .now) (c .before .before .before .before .before .before .before .before .before .before .args .operations .now) (length (c .before .before .before .before .before .before .before .before .before .before .args .scratch .now)) (sym (c .before .before .before .before .before .check-report .ensures) ∙ c .before .before .before .enum-told .given .1)) .0 .scratch-long))
+slice-aggregate-report-walk c =
+    let the-enum-told = c .before .before .before .enum-told in
+    let check-report = c .before .before .before .before .before .check-report in
+    let args = c .before .before .before .before .before .before .before .before .before .before .args in
+    sym (part-long (args .scratch .now) (4 * args .self .nodes) ((fits-report (args .self) (args .nodes .now) (args .operations .now) (length
+    (args .scratch .now)) (sym (check-report .ensures) ∙ the-enum-told .given .1)) .0 .scratch-long))
 
 slice-relend-prefix-report-walk-2 : tie.Need-slice-relend-prefix-report-walk-2
 slice-relend-prefix-report-walk-2 c = search needs
@@ -50,10 +60,33 @@ slice-aggregate-report-walk-2 : tie.Need-slice-aggregate-report-walk-2
 slice-aggregate-report-walk-2 c = sym (part-long (c .before .before .before .before .before .before .before .before .before .before .before .args .pool .now) (3 * c .before .before .cap-of .result) (cap-fits (c .before .before .before .before .before .before .before .before .before .before .before .args .pool .now) (c .before .before .cap-of .result) (c .before .before .cap-of .ensures)))
 
 report-walk-requires : tie.Need-report-walk-requires
-report-walk-requires c κs = let p = fits-report (c .before .before .before .before .before .before .before .before .before .before .before .args .self) (c .before .before .before .before .before .before .before .before .before .before .before .args .nodes .now) (c .before .before .before .before .before .before .before .before .before .before .before .args .operations .now) (length (c .before .before .before .before .before .before .before .before .before .before .before .args .scratch .now)) (sym (c .before .before .before .before .before .before .check-report .ensures) ∙ c .before .before .before .before .enum-told .given .1) in (fit-part (c .before .before .before .before .before .before .before .before .before .before .before .args .self) (c .before .before .before .before .before .before .before .before .before .before .before .args .nodes .now) (c .before .before .before .before .before .before .before .before .before .before .before .args .scratch .now) (4 * c .before .before .before .before .before .before .before .before .before .before .before .args .self .nodes) refl (p .0), p .1, p .0 .header .operations)
+report-walk-requires c κs =
+    let the-enum-told = c .before .before .before .before .enum-told in
+    let check-report = c .before .before .before .before .before .before .check-report in
+    let args = c .before .before .before .before .before .before .before .before .before .before .before .args in
+    let p = fits-report (args .self) (args .nodes .now) (args .operations .now) (length (args .scratch .now)) (sym (check-report .ensures)
+    ∙ the-enum-told .given .1) in (
+      fit-part (args .self) (args .nodes .now) (args .scratch .now) (4 * args .self .nodes) refl (p .0),
+      p .1,
+      p .0 .header .operations,
+    )
 
 wipe-requires : tie.Need-wipe-requires
-wipe-requires c κs = omega (arith, front-long (c .before .before .before .before .before .before .before .before .before .before .before .before .before .before .before .before .before .before .args .scratch .now) (c .before .before .before .before .before .before .report-walk .last .1 .1 .1 .0) (4 * c .before .before .before .before .before .before .before .before .before .before .before .before .before .before .before .before .before .before .args .self .nodes) ((fits-report (c .before .before .before .before .before .before .before .before .before .before .before .before .before .before .before .before .before .before .args .self) (c .before .before .before .before .before .before .before .before .before .before .before .before .before .before .before .before .before .before .args .nodes .now) (c .before .before .before .before .before .before .before .before .before .before .before .before .before .before .before .before .before .before .args .operations .now) (length (c .before .before .before .before .before .before .before .before .before .before .before .before .before .before .before .before .before .before .args .scratch .now)) (sym (c .before .before .before .before .before .before .before .before .before .before .before .before .before .check-report .ensures) ∙ c .before .before .before .before .before .before .before .before .before .before .before .enum-told .given .1)) .0 .scratch-long) (c .before .before .before .before .before .before .report-walk .kept .1 .1 .1 .0 ∙ part-long (c .before .before .before .before .before .before .before .before .before .before .before .before .before .before .before .before .before .before .args .scratch .now) (4 * c .before .before .before .before .before .before .before .before .before .before .before .before .before .before .before .before .before .before .args .self .nodes) ((fits-report (c .before .before .before .before .before .before .before .before .before .before .before .before .before .before .before .before .before .before .args .self) (c .before .before .before .before .before .before .before .before .before .before .before .before .before .before .before .before .before .before .args .nodes .now) (c .before .before .before .before .before .before .before .before .before .before .before .before .before .before .before .before .before .before .args .operations .now) (length (c .before .before .before .before .before .before .before .before .before .before .before .before .before .before .before .before .before .before .args .scratch .now)) (sym (c .before .before .before .before .before .before .before .before .before .before .before .before .before .check-report .ensures) ∙ c .before .before .before .before .before .before .before .before .before .before .before .enum-told .given .1)) .0 .scratch-long)), (fits-report (c .before .before .before .before .before .before .before .before .before .before .before .before .before .before .before .before .before .before .args .self) (c .before .before .before .before .before .before .before .before .before .before .before .before .before .before .before .before .before .before .args .nodes .now) (c .before .before .before .before .before .before .before .before .before .before .before .before .before .before .before .before .before .before .args .operations .now) (length (c .before .before .before .before .before .before .before .before .before .before .before .before .before .before .before .before .before .before .args .scratch .now)) (sym (c .before .before .before .before .before .before .before .before .before .before .before .before .before .check-report .ensures) ∙ c .before .before .before .before .before .before .before .before .before .before .before .enum-told .given .1)) .0 .scratch-long)
+wipe-requires c κs =
+    let report-walk = c .before .before .before .before .before .before .report-walk in
+    let the-enum-told = c .before .before .before .before .before .before .before .before .before .before .before .enum-told in
+    let check-report = c .before .before .before .before .before .before .before .before .before .before .before .before .before .check-report in
+    let back12 = c .before .before .before .before .before .before .before .before .before .before .before .before in
+    let args = back12 .before .before .before .before .before .before .args in
+    omega (
+      arith,
+      front-long (args .scratch .now) (report-walk .last .1 .1 .1 .0) (4 * args .self .nodes) ((fits-report (args .self) (args .nodes .now)
+          (args .operations .now) (length (args .scratch .now)) (sym (check-report .ensures) ∙ the-enum-told .given .1)) .0 .scratch-long)
+          (report-walk .kept .1 .1 .1 .0 ∙ part-long (args .scratch .now) (4 * args .self .nodes) ((fits-report (args .self) (args .nodes .now)
+          (args .operations .now) (length (args .scratch .now)) (sym (check-report .ensures) ∙ the-enum-told .given .1)) .0 .scratch-long)),
+      (fits-report (args .self) (args .nodes .now) (args .operations .now) (length (args .scratch .now)) (sym (check-report .ensures)
+          ∙ the-enum-told .given .1)) .0 .scratch-long,
+    )
 
 same-length : tie.Need-same-length
 same-length c = search needs
@@ -63,7 +96,26 @@ same-length-2 c = search needs
 
 returns-2 : tie.Need-returns-2
 unfolding reportStep
-returns-2 c = rw (sym (c .before .before .before .before .before .before .before .before .before .before .before .before .before .before .before .before .before .before .check-report .ensures) ∙ c .before .before .before .before .before .before .before .before .before .before .before .before .before .before .before .before .enum-told .given .1) (c .before .before .before .before .before .before .before .before .before .before .before .report-walk .ensures ∙ ap (λ (room : ℕ). maxWeightsOf (reportWalk (c .before .before .before .before .before .before .before .before .before .before .before .before .before .before .before .before .before .before .before .before .before .before .before .args .limit) room (c .before .before .before .before .before .before .before .before .before .before .before .before .before .before .before .before .before .before .before .before .before .before .before .args .self .qubits) (c .before .before .before .before .before .before .before .before .before .before .before .before .before .before .before .before .before .before .before .before .before .before .before .args .self .nodes) (c .before .before .before .before .before .before .before .before .before .before .before .before .before .before .before .before .before .before .before .before .before .before .before .args .nodes .now) (axesOf (c .before .before .before .before .before .before .before .before .before .before .before .before .before .before .before .before .before .before .before .before .before .before .before .args .self) (c .before .before .before .before .before .before .before .before .before .before .before .before .before .before .before .before .before .before .before .before .before .before .before .args .operations .now)))) (room-same (c .before .before .before .before .before .before .before .before .before .before .before .before .before .before .before .before .before .before .before .before .before .before .before .args .pool .now) (c .before .before .before .before .before .before .before .before .before .before .before .before .before .before .cap-of .result) (c .before .before .before .before .before .before .before .before .before .before .before .before .before .before .cap-of .ensures)), (left-scratch (c .before .before .before .before .before .before .before .before .before .before .before .before .before .before .before .before .before .before .before .before .before .before .before .args .self) (c .before .before .before .before .before .before .before .before .before .before .before .before .before .before .before .before .before .before .before .before .before .before .before .args .scratch .now) (c .before .before .before .before .before .before .before .before .before .before .before .report-walk .last .1 .1 .1 .0) (c .before .before .before .before .before .before .before .before .before .before .before .report-walk .kept .1 .1 .1 .0 ∙ part-long (c .before .before .before .before .before .before .before .before .before .before .before .before .before .before .before .before .before .before .before .before .before .before .before .args .scratch .now) (4 * c .before .before .before .before .before .before .before .before .before .before .before .before .before .before .before .before .before .before .before .before .before .before .before .args .self .nodes) ((fits-report (c .before .before .before .before .before .before .before .before .before .before .before .before .before .before .before .before .before .before .before .before .before .before .before .args .self) (c .before .before .before .before .before .before .before .before .before .before .before .before .before .before .before .before .before .before .before .before .before .before .before .args .nodes .now) (c .before .before .before .before .before .before .before .before .before .before .before .before .before .before .before .before .before .before .before .before .before .before .before .args .operations .now) (length (c .before .before .before .before .before .before .before .before .before .before .before .before .before .before .before .before .before .before .before .before .before .before .before .args .scratch .now)) (sym (c .before .before .before .before .before .before .before .before .before .before .before .before .before .before .before .before .before .before .check-report .ensures) ∙ c .before .before .before .before .before .before .before .before .before .before .before .before .before .before .before .before .enum-told .given .1)) .0 .scratch-long)) (c .before .before .before .before .wipe .ensures .0), left-pool (c .before .before .before .before .before .before .before .before .before .before .before .before .before .before .before .before .before .before .before .before .before .before .before .args .pool .now) (c .before .before .before .before .before .before .before .before .before .before .before .report-walk .last .1 .1 .1 .1 .0) (c .before .before .before .before .before .before .before .before .before .before .before .before .before .before .cap-of .result) (c .before .before .before .before .before .before .before .before .before .before .before .before .before .before .cap-of .ensures) (c .before .before .before .before .before .before .before .before .before .before .before .report-walk .kept .1 .1 .1 .1 .0 ∙ part-long (c .before .before .before .before .before .before .before .before .before .before .before .before .before .before .before .before .before .before .before .before .before .before .before .args .pool .now) (3 * c .before .before .before .before .before .before .before .before .before .before .before .before .before .before .cap-of .result) (cap-fits (c .before .before .before .before .before .before .before .before .before .before .before .before .before .before .before .before .before .before .before .before .before .before .before .args .pool .now) (c .before .before .before .before .before .before .before .before .before .before .before .before .before .before .cap-of .result) (c .before .before .before .before .before .before .before .before .before .before .before .before .before .before .cap-of .ensures))) (c .before .before .before .before .wipe .ensures .1)))
+returns-2 c =
+    let wipe = c .before .before .before .before .wipe in
+    let report-walk = c .before .before .before .before .before .before .before .before .before .before .before .report-walk in
+    let cap-of = c .before .before .before .before .before .before .before .before .before .before .before .before .before .before .cap-of in
+    let back12 = c .before .before .before .before .before .before .before .before .before .before .before .before in
+    let the-enum-told = back12 .before .before .before .before .enum-told in
+    let check-report = back12 .before .before .before .before .before .before .check-report in
+    let args = back12 .before .before .before .before .before .before .before .before .before .before .before .args in
+    rw (sym (check-report .ensures) ∙ the-enum-told .given .1) (
+      report-walk .ensures ∙ ap (λ (room : ℕ). maxWeightsOf (reportWalk (args .limit) room
+          (args .self .qubits) (args .self .nodes) (args .nodes .now) (axesOf (args .self) (args .operations .now)))) (room-same (args .pool .now)
+          (cap-of .result) (cap-of .ensures)),
+      (
+        left-scratch (args .self) (args .scratch .now) (report-walk .last .1 .1 .1 .0) (report-walk .kept .1 .1 .1 .0
+            ∙ part-long (args .scratch .now) (4 * args .self .nodes) ((fits-report (args .self) (args .nodes .now) (args .operations .now) (length
+            (args .scratch .now)) (sym (check-report .ensures) ∙ the-enum-told .given .1)) .0 .scratch-long)) (wipe .ensures .0),
+        left-pool (args .pool .now) (report-walk .last .1 .1 .1 .1 .0) (cap-of .result) (cap-of .ensures) (report-walk .kept .1 .1 .1 .1 .0 ∙ part-long
+            (args .pool .now) (3 * cap-of .result) (cap-fits (args .pool .now) (cap-of .result) (cap-of .ensures))) (wipe .ensures .1),
+      ),
+    )
 
 pub max-axis-weights-spec : {M : Type 1} → statement M
 max-axis-weights-spec =

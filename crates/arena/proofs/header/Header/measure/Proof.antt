@@ -28,16 +28,44 @@ as-ref-requires : tie.Need-as-ref-requires
 as-ref-requires c κs = search needs
 
 target-word-requires : tie.Need-target-word-requires
-target-word-requires c κs = (fits-measure (c .before .before .before .before .before .before .args .self) (length (c .before .before .before .before .before .before .args .operations .now)) (c .before .before .before .before .before .before .args .axis) (c .before .before .before .before .before .before .args .target) (sym (c .before .before .before .before .check-measure .ensures) ∙ c .before .before .enum-told .given .1)) .1
+target-word-requires c κs =
+    let the-enum-told = c .before .before .enum-told in
+    let check-measure = c .before .before .before .before .check-measure in
+    let args = c .before .before .before .before .before .before .args in
+    (fits-measure (args .self) (length (args .operations .now)) (args .axis) (args .target) (sym (check-measure .ensures) ∙ the-enum-told .given .1)) .1
 
 put-operation-requires : tie.Need-put-operation-requires
-put-operation-requires c κs = omega (arith, (fits-measure (c .before .before .before .before .before .before .before .args .self) (length (c .before .before .before .before .before .before .before .args .operations .now)) (c .before .before .before .before .before .before .before .args .axis) (c .before .before .before .before .before .before .before .args .target) (sym (c .before .before .before .before .before .check-measure .ensures) ∙ c .before .before .before .enum-told .given .1)) .0)
+put-operation-requires c κs =
+    let the-enum-told = c .before .before .before .enum-told in
+    let check-measure = c .before .before .before .before .before .check-measure in
+    let args = c .before .before .before .before .before .before .before .args in
+    omega (
+      arith,
+      (fits-measure (args .self) (length (args .operations .now)) (args .axis) (args .target) (sym (check-measure .ensures)
+          ∙ the-enum-told .given .1)) .0,
+    )
 
 add-with-operation : tie.Need-add-with-operation
-add-with-operation c = omega (arith, (fits-measure (c .before .before .before .before .before .before .before .before .before .before .args .self) (length (c .before .before .before .before .before .before .before .before .before .before .args .operations .now)) (c .before .before .before .before .before .before .before .before .before .before .args .axis) (c .before .before .before .before .before .before .before .before .before .before .args .target) (sym (c .before .before .before .before .before .before .before .before .check-measure .ensures) ∙ c .before .before .before .before .before .before .enum-told .given .1)) .0)
+add-with-operation c =
+    let the-enum-told = c .before .before .before .before .before .before .enum-told in
+    let check-measure = c .before .before .before .before .before .before .before .before .check-measure in
+    let args = c .before .before .before .before .before .before .before .before .before .before .args in
+    omega (
+      arith,
+      (fits-measure (args .self) (length (args .operations .now)) (args .axis) (args .target) (sym (check-measure .ensures)
+          ∙ the-enum-told .given .1)) .0,
+    )
 
 with-operation-requires : tie.Need-with-operation-requires
-with-operation-requires c κs = omega (arith, (fits-measure (c .before .before .before .before .before .before .before .before .before .before .args .self) (length (c .before .before .before .before .before .before .before .before .before .before .args .operations .now)) (c .before .before .before .before .before .before .before .before .before .before .args .axis) (c .before .before .before .before .before .before .before .before .before .before .args .target) (sym (c .before .before .before .before .before .before .before .before .check-measure .ensures) ∙ c .before .before .before .before .before .before .enum-told .given .1)) .0)
+with-operation-requires c κs =
+    let the-enum-told = c .before .before .before .before .before .before .enum-told in
+    let check-measure = c .before .before .before .before .before .before .before .before .check-measure in
+    let args = c .before .before .before .before .before .before .before .before .before .before .args in
+    omega (
+      arith,
+      (fits-measure (args .self) (length (args .operations .now)) (args .axis) (args .target) (sym (check-measure .ensures)
+          ∙ the-enum-told .given .1)) .0,
+    )
 
 new-requires : tie.Need-new-requires
 new-requires c κs = search needs
@@ -47,8 +75,19 @@ same-length c = search needs
 
 returns-2 : tie.Need-returns-2
 unfolding measureStep
-returns-2 c = rw (sym (c .before .before .before .before .before .before .before .before .before .before .check-measure .ensures) ∙ c .before .before .before .before .before .before .before .before .enum-told .given .1)
-    (λ i. MeasuredMade (c .before .with-operation .ensures i) (c .new .ensures i), c .before .before .before .before .put-operation .ensures ∙ ap₂ (λ r t. sets (c .before .before .before .before .before .before .before .before .before .before .before .before .args .operations .now) (4 * c .before .before .before .before .before .before .before .before .before .before .before .before .args .self .operations) (1 ∷ r .word ∷ c .before .before .before .before .before .before .before .before .before .before .before .before .args .self .measurements ∷ t ∷ [])) (c .before .before .before .before .before .before .as-ref .ensures) (c .before .before .before .before .before .target-word .ensures))
+returns-2 c =
+    let with-operation = c .before .with-operation in
+    let put-operation = c .before .before .before .before .put-operation in
+    let target-word = c .before .before .before .before .before .target-word in
+    let as-ref = c .before .before .before .before .before .before .as-ref in
+    let the-enum-told = c .before .before .before .before .before .before .before .before .enum-told in
+    let check-measure = c .before .before .before .before .before .before .before .before .before .before .check-measure in
+    let args = c .before .before .before .before .before .before .before .before .before .before .before .before .args in
+    rw (sym (check-measure .ensures) ∙ the-enum-told .given .1) (
+      λ i. MeasuredMade (with-operation .ensures i) (c .new .ensures i),
+      put-operation .ensures ∙ ap₂ (λ r t. sets (args .operations .now) (4 * args .self .operations) (1 ∷ r .word ∷ args .self .measurements ∷ t ∷ []))
+          (as-ref .ensures) (target-word .ensures),
+    )
 
 pub measure-spec : {M : Type 1} → statement M
 measure-spec =

@@ -22,16 +22,48 @@ enum-told : tie.Need-enum-told
 enum-told c = search needs
 
 start-nodes-requires : tie.Need-start-nodes-requires
-start-nodes-requires c κs = omega (arith, (fits-new (c .before .before .before .before .before .before .args .qubits) (c .before .before .before .before .before .before .args .cbits) (length (c .before .before .before .before .before .before .args .nodes .now)) (length (c .before .before .before .before .before .before .args .frame .now)) (sym (c .before .before .before .check-new .ensures) ∙ c .before .enum-told .given .1)))
+start-nodes-requires c κs =
+    let the-enum-told = c .before .enum-told in
+    let check-new = c .before .before .before .check-new in
+    let args = c .before .before .before .before .before .before .args in
+    omega (
+      arith,
+      (fits-new (args .qubits) (args .cbits) (length (args .nodes .now)) (length (args .frame .now)) (sym (check-new .ensures)
+          ∙ the-enum-told .given .1)),
+    )
 
 start-frame-requires : tie.Need-start-frame-requires
-start-frame-requires c κs = omega (arith, (fits-new (c .before .before .before .before .before .before .before .before .before .before .args .qubits) (c .before .before .before .before .before .before .before .before .before .before .args .cbits) (length (c .before .before .before .before .before .before .before .before .before .before .args .nodes .now)) (length (c .before .before .before .before .before .before .before .before .before .before .args .frame .now)) (sym (c .before .before .before .before .before .before .before .check-new .ensures) ∙ c .before .before .before .before .before .enum-told .given .1)))
+start-frame-requires c κs =
+    let the-enum-told = c .before .before .before .before .before .enum-told in
+    let check-new = c .before .before .before .before .before .before .before .check-new in
+    let args = c .before .before .before .before .before .before .before .before .before .before .args in
+    omega (
+      arith,
+      (fits-new (args .qubits) (args .cbits) (length (args .nodes .now)) (length (args .frame .now)) (sym (check-new .ensures)
+          ∙ the-enum-told .given .1)),
+    )
 
 mul-t15 : tie.Need-mul-t15
-mul-t15 c = omega (arith, (fits-new (c .before .before .before .before .before .before .before .before .before .before .before .before .before .args .qubits) (c .before .before .before .before .before .before .before .before .before .before .before .before .before .args .cbits) (length (c .before .before .before .before .before .before .before .before .before .before .before .before .before .args .nodes .now)) (length (c .before .before .before .before .before .before .before .before .before .before .before .before .before .args .frame .now)) (sym (c .before .before .before .before .before .before .before .before .before .before .check-new .ensures) ∙ c .before .before .before .before .before .before .before .before .enum-told .given .1)))
+mul-t15 c =
+    let the-enum-told = c .before .before .before .before .before .before .before .before .enum-told in
+    let check-new = c .before .before .before .before .before .before .before .before .before .before .check-new in
+    let args = c .before .before .before .before .before .before .before .before .before .before .before .before .before .args in
+    omega (
+      arith,
+      (fits-new (args .qubits) (args .cbits) (length (args .nodes .now)) (length (args .frame .now)) (sym (check-new .ensures)
+          ∙ the-enum-told .given .1)),
+    )
 
 add-t16 : tie.Need-add-t16
-add-t16 c = omega (arith, (fits-new (c .before .before .before .before .before .before .before .before .before .before .before .before .before .args .qubits) (c .before .before .before .before .before .before .before .before .before .before .before .before .before .args .cbits) (length (c .before .before .before .before .before .before .before .before .before .before .before .before .before .args .nodes .now)) (length (c .before .before .before .before .before .before .before .before .before .before .before .before .before .args .frame .now)) (sym (c .before .before .before .before .before .before .before .before .before .before .check-new .ensures) ∙ c .before .before .before .before .before .before .before .before .enum-told .given .1)))
+add-t16 c =
+    let the-enum-told = c .before .before .before .before .before .before .before .before .enum-told in
+    let check-new = c .before .before .before .before .before .before .before .before .before .before .check-new in
+    let args = c .before .before .before .before .before .before .before .before .before .before .before .before .before .args in
+    omega (
+      arith,
+      (fits-new (args .qubits) (args .cbits) (length (args .nodes .now)) (length (args .frame .now)) (sym (check-new .ensures)
+          ∙ the-enum-told .given .1)),
+    )
 
 same-length : tie.Need-same-length
 same-length c = search needs

@@ -22,22 +22,62 @@ enum-told : tie.Need-enum-told
 enum-told c = search needs
 
 mul-put-node : tie.Need-mul-put-node
-mul-put-node c = omega (arith, (fits-product (c .before .before .before .before .before .before .args .self) (length (c .before .before .before .before .before .before .args .nodes .now)) (c .before .before .before .before .before .before .args .left) (c .before .before .before .before .before .before .args .right) (sym (c .before .before .before .before .check-product .ensures) ∙ c .before .before .enum-told .given .1)))
+mul-put-node c =
+    let the-enum-told = c .before .before .enum-told in
+    let check-product = c .before .before .before .before .check-product in
+    let args = c .before .before .before .before .before .before .args in
+    omega (
+      arith,
+      (fits-product (args .self) (length (args .nodes .now)) (args .left) (args .right) (sym (check-product .ensures)
+          ∙ the-enum-told .given .1)),
+    )
 
 add-put-node : tie.Need-add-put-node
-add-put-node c = omega (arith, (fits-product (c .before .before .before .before .before .before .args .self) (length (c .before .before .before .before .before .before .args .nodes .now)) (c .before .before .before .before .before .before .args .left) (c .before .before .before .before .before .before .args .right) (sym (c .before .before .before .before .check-product .ensures) ∙ c .before .before .enum-told .given .1)))
+add-put-node c =
+    let the-enum-told = c .before .before .enum-told in
+    let check-product = c .before .before .before .before .check-product in
+    let args = c .before .before .before .before .before .before .args in
+    omega (
+      arith,
+      (fits-product (args .self) (length (args .nodes .now)) (args .left) (args .right) (sym (check-product .ensures)
+          ∙ the-enum-told .given .1)),
+    )
 
 put-node-requires : tie.Need-put-node-requires
-put-node-requires c κs = omega (arith, (fits-product (c .before .before .before .before .before .before .args .self) (length (c .before .before .before .before .before .before .args .nodes .now)) (c .before .before .before .before .before .before .args .left) (c .before .before .before .before .before .before .args .right) (sym (c .before .before .before .before .check-product .ensures) ∙ c .before .before .enum-told .given .1)))
+put-node-requires c κs =
+    let the-enum-told = c .before .before .enum-told in
+    let check-product = c .before .before .before .before .check-product in
+    let args = c .before .before .before .before .before .before .args in
+    omega (
+      arith,
+      (fits-product (args .self) (length (args .nodes .now)) (args .left) (args .right) (sym (check-product .ensures)
+          ∙ the-enum-told .given .1)),
+    )
 
 add-with-nodes : tie.Need-add-with-nodes
-add-with-nodes c = omega (arith, (fits-product (c .before .before .before .before .before .before .before .before .before .args .self) (length (c .before .before .before .before .before .before .before .before .before .args .nodes .now)) (c .before .before .before .before .before .before .before .before .before .args .left) (c .before .before .before .before .before .before .before .before .before .args .right) (sym (c .before .before .before .before .before .before .before .check-product .ensures) ∙ c .before .before .before .before .before .enum-told .given .1)))
+add-with-nodes c =
+    let the-enum-told = c .before .before .before .before .before .enum-told in
+    let check-product = c .before .before .before .before .before .before .before .check-product in
+    let args = c .before .before .before .before .before .before .before .before .before .args in
+    omega (
+      arith,
+      (fits-product (args .self) (length (args .nodes .now)) (args .left) (args .right) (sym (check-product .ensures)
+          ∙ the-enum-told .given .1)),
+    )
 
 with-nodes-requires : tie.Need-with-nodes-requires
 with-nodes-requires c κs = search needs
 
 reference-requires : tie.Need-reference-requires
-reference-requires c κs = omega (arith, (fits-product (c .before .before .before .before .before .before .before .before .before .before .args .self) (length (c .before .before .before .before .before .before .before .before .before .before .args .nodes .now)) (c .before .before .before .before .before .before .before .before .before .before .args .left) (c .before .before .before .before .before .before .before .before .before .before .args .right) (sym (c .before .before .before .before .before .before .before .before .check-product .ensures) ∙ c .before .before .before .before .before .before .enum-told .given .1)))
+reference-requires c κs =
+    let the-enum-told = c .before .before .before .before .before .before .enum-told in
+    let check-product = c .before .before .before .before .before .before .before .before .check-product in
+    let args = c .before .before .before .before .before .before .before .before .before .before .args in
+    omega (
+      arith,
+      (fits-product (args .self) (length (args .nodes .now)) (args .left) (args .right) (sym (check-product .ensures)
+          ∙ the-enum-told .given .1)),
+    )
 
 same-length : tie.Need-same-length
 same-length c = search needs

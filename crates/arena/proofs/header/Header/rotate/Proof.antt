@@ -37,18 +37,36 @@ as-ref-requires : tie.Need-as-ref-requires
 as-ref-requires c κs = search needs
 
 put-operation-requires : tie.Need-put-operation-requires
-put-operation-requires c κs = omega (arith, (fits-rotate (c .before .before .before .before .before .before .before .args .self) (length (c .before .before .before .before .before .before .before .args .operations .now)) (c .before .before .before .before .before .before .before .args .axis) (sym (c .before .before .before .before .before .check-rotate .ensures) ∙ c .before .before .before .enum-told .given .1)))
+put-operation-requires c κs =
+    let the-enum-told = c .before .before .before .enum-told in
+    let check-rotate = c .before .before .before .before .before .check-rotate in
+    let args = c .before .before .before .before .before .before .before .args in
+    omega (arith, (fits-rotate (args .self) (length (args .operations .now)) (args .axis) (sym (check-rotate .ensures) ∙ the-enum-told .given .1)))
 
 with-operation-requires : tie.Need-with-operation-requires
-with-operation-requires c κs = omega (arith, (fits-rotate (c .before .before .before .before .before .before .before .before .before .before .args .self) (length (c .before .before .before .before .before .before .before .before .before .before .args .operations .now)) (c .before .before .before .before .before .before .before .before .before .before .args .axis) (sym (c .before .before .before .before .before .before .before .before .check-rotate .ensures) ∙ c .before .before .before .before .before .before .enum-told .given .1)))
+with-operation-requires c κs =
+    let the-enum-told = c .before .before .before .before .before .before .enum-told in
+    let check-rotate = c .before .before .before .before .before .before .before .before .check-rotate in
+    let args = c .before .before .before .before .before .before .before .before .before .before .args in
+    omega (arith, (fits-rotate (args .self) (length (args .operations .now)) (args .axis) (sym (check-rotate .ensures) ∙ the-enum-told .given .1)))
 
 same-length : tie.Need-same-length
 same-length c = search needs
 
 returns-2 : tie.Need-returns-2
 unfolding rotateStep
-returns-2 c = rw (sym (c .before .before .before .before .before .before .before .before .before .check-rotate .ensures) ∙ c .before .before .before .before .before .before .before .enum-told .given .1)
-    (ap PushedMade (c .with-operation .ensures), c .before .before .before .put-operation .ensures ∙ ap₂ (λ k r. sets (c .before .before .before .before .before .before .before .before .before .before .before .args .operations .now) (4 * c .before .before .before .before .before .before .before .before .before .before .before .args .self .operations) ((4 * k) ∷ r .word ∷ 0 ∷ 0 ∷ [])) (c .before .before .before .before .before .before .eighths .ensures) (c .before .before .before .before .as-ref .ensures))
+returns-2 c =
+    let put-operation = c .before .before .before .put-operation in
+    let as-ref = c .before .before .before .before .as-ref in
+    let eighths = c .before .before .before .before .before .before .eighths in
+    let the-enum-told = c .before .before .before .before .before .before .before .enum-told in
+    let check-rotate = c .before .before .before .before .before .before .before .before .before .check-rotate in
+    let args = c .before .before .before .before .before .before .before .before .before .before .before .args in
+    rw (sym (check-rotate .ensures) ∙ the-enum-told .given .1) (
+      ap PushedMade (c .with-operation .ensures),
+      put-operation .ensures ∙ ap₂ (λ k r. sets (args .operations .now) (4 * args .self .operations) ((4 * k) ∷ r .word ∷ 0 ∷ 0 ∷ [])) (eighths .ensures)
+          (as-ref .ensures),
+    )
 
 pub rotate-spec : {M : Type 1} → statement M
 rotate-spec =

@@ -51,16 +51,40 @@ add-put-node : tie.Need-add-put-node
 add-put-node c = omega (arith, pauliNumber-small (c .before .before .before .before .before .before .before .before .args .pauli))
 
 put-node-requires : tie.Need-put-node-requires
-put-node-requires c κs = omega (arith, (fits-single (c .before .before .before .before .before .before .before .before .args .self) (length (c .before .before .before .before .before .before .before .before .args .nodes .now)) (c .before .before .before .before .before .before .before .before .args .qubit) (c .before .before .before .before .before .before .before .before .args .pauli) (sym (c .before .before .before .before .before .before .check-single .ensures) ∙ c .before .before .before .before .enum-told .given .1)))
+put-node-requires c κs =
+    let the-enum-told = c .before .before .before .before .enum-told in
+    let check-single = c .before .before .before .before .before .before .check-single in
+    let args = c .before .before .before .before .before .before .before .before .args in
+    omega (
+      arith,
+      (fits-single (args .self) (length (args .nodes .now)) (args .qubit) (args .pauli) (sym (check-single .ensures)
+          ∙ the-enum-told .given .1)),
+    )
 
 add-with-nodes : tie.Need-add-with-nodes
-add-with-nodes c = omega (arith, (fits-single (c .before .before .before .before .before .before .before .before .before .before .before .args .self) (length (c .before .before .before .before .before .before .before .before .before .before .before .args .nodes .now)) (c .before .before .before .before .before .before .before .before .before .before .before .args .qubit) (c .before .before .before .before .before .before .before .before .before .before .before .args .pauli) (sym (c .before .before .before .before .before .before .before .before .before .check-single .ensures) ∙ c .before .before .before .before .before .before .before .enum-told .given .1)))
+add-with-nodes c =
+    let the-enum-told = c .before .before .before .before .before .before .before .enum-told in
+    let check-single = c .before .before .before .before .before .before .before .before .before .check-single in
+    let args = c .before .before .before .before .before .before .before .before .before .before .before .args in
+    omega (
+      arith,
+      (fits-single (args .self) (length (args .nodes .now)) (args .qubit) (args .pauli) (sym (check-single .ensures)
+          ∙ the-enum-told .given .1)),
+    )
 
 with-nodes-requires : tie.Need-with-nodes-requires
 with-nodes-requires c κs = search needs
 
 reference-requires-2 : tie.Need-reference-requires-2
-reference-requires-2 c κs = omega (arith, (fits-single (c .before .before .before .before .before .before .before .before .before .before .before .before .args .self) (length (c .before .before .before .before .before .before .before .before .before .before .before .before .args .nodes .now)) (c .before .before .before .before .before .before .before .before .before .before .before .before .args .qubit) (c .before .before .before .before .before .before .before .before .before .before .before .before .args .pauli) (sym (c .before .before .before .before .before .before .before .before .before .before .check-single .ensures) ∙ c .before .before .before .before .before .before .before .before .enum-told .given .1)))
+reference-requires-2 c κs =
+    let the-enum-told = c .before .before .before .before .before .before .before .before .enum-told in
+    let check-single = c .before .before .before .before .before .before .before .before .before .before .check-single in
+    let args = c .before .before .before .before .before .before .before .before .before .before .before .before .args in
+    omega (
+      arith,
+      (fits-single (args .self) (length (args .nodes .now)) (args .qubit) (args .pauli) (sym (check-single .ensures)
+          ∙ the-enum-told .given .1)),
+    )
 
 assume-hermitian-requires-2 : tie.Need-assume-hermitian-requires-2
 assume-hermitian-requires-2 c κs = search needs
@@ -70,8 +94,20 @@ same-length c = search needs
 
 returns-3 : tie.Need-returns-3
 unfolding singleStep
-returns-3 c = rw (sym (c .before .before .before .before .before .before .before .before .before .before .before .before .check-single .ensures) ∙ c .before .before .before .before .before .before .before .before .before .before .enum-told .given .1, ne-eqb _ _ (λ e. c .before .before .before .before .before .before .before .before .if1 .left (c .before .before .before .before .before .before .before .before .before .nodes-for .ensures ∙ e)))
-    (ap₂ (λ h r. SingledMade h (axisOf r)) (c .before .before .with-nodes .ensures) (c .assume-hermitian2 .ensures ∙ c .before .reference2 .ensures), c .before .before .before .before .before .put-node .ensures ∙ ap (λ k. sets (c .before .before .before .before .before .before .before .before .before .before .before .before .before .before .args .nodes .now) (2 * c .before .before .before .before .before .before .before .before .before .before .before .before .before .before .args .self .nodes) ((1 + 4 * k) ∷ c .before .before .before .before .before .before .before .before .before .before .before .before .before .before .args .qubit ∷ [])) (c .before .before .before .before .before .before .number .ensures))
+returns-3 c =
+    let reference2 = c .before .reference2 in
+    let with-nodes = c .before .before .with-nodes in
+    let put-node = c .before .before .before .before .before .put-node in
+    let number = c .before .before .before .before .before .before .number in
+    let if1 = c .before .before .before .before .before .before .before .before .if1 in
+    let nodes-for = c .before .before .before .before .before .before .before .before .before .nodes-for in
+    let the-enum-told = c .before .before .before .before .before .before .before .before .before .before .enum-told in
+    let check-single = c .before .before .before .before .before .before .before .before .before .before .before .before .check-single in
+    let args = c .before .before .before .before .before .before .before .before .before .before .before .before .before .before .args in
+    rw (sym (check-single .ensures) ∙ the-enum-told .given .1, ne-eqb _ _ (λ e. if1 .left (nodes-for .ensures ∙ e))) (
+      ap₂ (λ h r. SingledMade h (axisOf r)) (with-nodes .ensures) (c .assume-hermitian2 .ensures ∙ reference2 .ensures),
+      put-node .ensures ∙ ap (λ k. sets (args .nodes .now) (2 * args .self .nodes) ((1 + 4 * k) ∷ args .qubit ∷ [])) (number .ensures),
+    )
 
 pub single-spec : {M : Type 1} → statement M
 single-spec =
