@@ -2,24 +2,18 @@
 use mathlib.Core.List.{List}
 use Prim.Native.Nat.{ℕ}
 use Rattle.pauli.specs.Rows.{Row}
-use Rattle.pauli.specs.Gates.{Image₁, Image₂, plus, minus, plus₂, minus₂, Gate, forward}
+use Rattle.pauli.specs.Gates.{Image₁, Image₂, plus, minus, plus₂, rule₁, rule₂, Gate, forward}
 use Rattle.convert.specs.Types.{Pauli, I, X, Y, Z}
 use Rattle.convert.specs.Records.{GateKind, lowerAs, placedFrom, bare}
 use Rattle.convert.specs.Needs.{cliffords}
 
 -- Y commutes with Y, and anticommutes with X and Z
 abbrev pub ruleY : Pauli → Image₁
-ruleY I = plus I
-ruleY X = minus X
-ruleY Y = plus Y
-ruleY Z = minus Z
+ruleY = rule₁ (minus X) (minus Z)
 
--- the square root of X is a quarter turn about X: Y becomes Z, Z becomes -Y
+-- the square root of X is a quarter turn about X: Z becomes -Y
 abbrev pub ruleSx : Pauli → Image₁
-ruleSx I = plus I
-ruleSx X = plus X
-ruleSx Y = plus Z
-ruleSx Z = minus Y
+ruleSx = rule₁ (plus X) (minus Y)
 
 -- the letters change places
 abbrev pub ruleSwap : Pauli → Pauli → Image₂
@@ -27,22 +21,7 @@ ruleSwap a b = plus₂ b a
 
 -- controlled Y: X of the control brings Y to the target; X and Z of the target bring Z to the control
 abbrev pub ruleCy : Pauli → Pauli → Image₂
-ruleCy I I = plus₂ I I
-ruleCy I X = plus₂ Z X
-ruleCy I Y = plus₂ I Y
-ruleCy I Z = plus₂ Z Z
-ruleCy X I = plus₂ X Y
-ruleCy X X = minus₂ Y Z
-ruleCy X Y = plus₂ X I
-ruleCy X Z = plus₂ Y X
-ruleCy Y I = plus₂ Y Y
-ruleCy Y X = plus₂ X Z
-ruleCy Y Y = plus₂ Y I
-ruleCy Y Z = minus₂ X X
-ruleCy Z I = plus₂ Z I
-ruleCy Z X = plus₂ I X
-ruleCy Z Y = plus₂ Z Y
-ruleCy Z Z = plus₂ I Z
+ruleCy = rule₂ (plus₂ X Y) (plus₂ Z I) (plus₂ Z X) (plus₂ Z Z)
 
 -- the frame gates that a kind is lowered to
 abbrev pub loweredGates : GateKind → ℕ → ℕ → List Gate

@@ -4,7 +4,7 @@ use mathlib.Core.Logic.{_≢_}
 use mathlib.Core.List.{List, [], _∷_}
 use Prim.Native.Nat.{ℕ, _<_}
 use lib.ListN.{set}
-use Rattle.pauli.specs.Letters.{Pauli, I, X, Y, Z, Phase, One, MinusOne, _⊕_}
+use Rattle.pauli.specs.Letters.{Pauli, I, X, Y, Z, Phase, One, PlusI, MinusOne, _⊕_, _·_, phaseOf}
 use Rattle.pauli.specs.Rows.{Row, on}
 
 -- what a gate makes of the letter on its qubit, and the sign in front
@@ -27,43 +27,44 @@ minus a = record { letter = a; sign = MinusOne }
 abbrev pub plus₂ : Pauli → Pauli → Image₂
 plus₂ a b = record { first = a; second = b; sign = One }
 
-abbrev pub minus₂ : Pauli → Pauli → Image₂
-minus₂ a b = record { first = a; second = b; sign = MinusOne }
+-- the product of two images, the left one first
+abbrev pub times₂ : Image₂ → Image₂ → Image₂
+times₂ u v = record {
+  first = u .first · v .first;
+  second = u .second · v .second;
+  sign = u .sign ⊕ v .sign ⊕ phaseOf (u .first) (v .first) ⊕ phaseOf (u .second) (v .second);
+}
+
+-- a gate is known by what it makes of X and of Z, since Y is iXZ
+abbrev pub rule₁ : Image₁ → Image₁ → Pauli → Image₁
+rule₁ x z I = plus I
+rule₁ x z X = x
+rule₁ x z Y = record { letter = x .letter · z .letter; sign = PlusI ⊕ x .sign ⊕ z .sign ⊕ phaseOf (x .letter) (z .letter) }
+rule₁ x z Z = z
+
+abbrev pub imageOf : Image₂ → Image₂ → Pauli → Image₂
+imageOf x z I = plus₂ I I
+imageOf x z X = x
+imageOf x z Y = times₂ (record { first = I; second = I; sign = PlusI }) (times₂ x z)
+imageOf x z Z = z
+
+-- on two qubits: by X and Z of the first, X and Z of the second
+abbrev pub rule₂ : Image₂ → Image₂ → Image₂ → Image₂ → Pauli → Pauli → Image₂
+rule₂ x z x′ z′ a b = times₂ (imageOf x z a) (imageOf x′ z′ b)
 
 -- ---- the paper's three gates
 
--- h: X and Z change places, Y becomes -Y
+-- h: X becomes Z, Z becomes X
 abbrev pub ruleH : Pauli → Image₁
-ruleH I = plus I
-ruleH X = plus Z
-ruleH Y = minus Y
-ruleH Z = plus X
+ruleH = rule₁ (plus Z) (plus X)
 
--- s: X becomes Y, Y becomes -X
+-- s: X becomes Y, Z stays
 abbrev pub ruleS : Pauli → Image₁
-ruleS I = plus I
-ruleS X = plus Y
-ruleS Y = minus X
-ruleS Z = plus Z
+ruleS = rule₁ (plus Y) (plus Z)
 
--- cnot: the letters of control and target
+-- cnot: of the control X becomes XX, Z stays; of the target X stays, Z becomes ZZ
 abbrev pub ruleCnot : Pauli → Pauli → Image₂
-ruleCnot I I = plus₂ I I
-ruleCnot I X = plus₂ I X
-ruleCnot I Y = plus₂ Z Y
-ruleCnot I Z = plus₂ Z Z
-ruleCnot X I = plus₂ X X
-ruleCnot X X = plus₂ X I
-ruleCnot X Y = plus₂ Y Z
-ruleCnot X Z = minus₂ Y Y
-ruleCnot Y I = plus₂ Y X
-ruleCnot Y X = plus₂ Y I
-ruleCnot Y Y = minus₂ X Z
-ruleCnot Y Z = plus₂ X Y
-ruleCnot Z I = plus₂ Z I
-ruleCnot Z X = plus₂ Z X
-ruleCnot Z Y = plus₂ I Y
-ruleCnot Z Z = plus₂ I Z
+ruleCnot = rule₂ (plus₂ X X) (plus₂ Z I) (plus₂ I X) (plus₂ Z Z)
 
 -- a letter rule at work on qubit q of a row
 abbrev pub act₁ : (Pauli → Image₁) → ℕ → Row → Row
@@ -140,40 +141,16 @@ back (g ∷ gs) P = conj (inverse g) (back gs P)
 -- ---- direct rules of the gates made of the three
 
 abbrev pub ruleX : Pauli → Image₁
-ruleX I = plus I
-ruleX X = plus X
-ruleX Y = minus Y
-ruleX Z = minus Z
+ruleX = rule₁ (plus X) (minus Z)
 
 abbrev pub ruleZ : Pauli → Image₁
-ruleZ I = plus I
-ruleZ X = minus X
-ruleZ Y = minus Y
-ruleZ Z = plus Z
+ruleZ = rule₁ (minus X) (plus Z)
 
 abbrev pub ruleSdg : Pauli → Image₁
-ruleSdg I = plus I
-ruleSdg X = minus Y
-ruleSdg Y = plus X
-ruleSdg Z = plus Z
+ruleSdg = rule₁ (minus Y) (plus Z)
 
 abbrev pub ruleCz : Pauli → Pauli → Image₂
-ruleCz I I = plus₂ I I
-ruleCz I X = plus₂ Z X
-ruleCz I Y = plus₂ Z Y
-ruleCz I Z = plus₂ I Z
-ruleCz X I = plus₂ X Z
-ruleCz X X = plus₂ Y Y
-ruleCz X Y = minus₂ Y X
-ruleCz X Z = plus₂ X I
-ruleCz Y I = plus₂ Y Z
-ruleCz Y X = minus₂ X Y
-ruleCz Y Y = plus₂ X X
-ruleCz Y Z = plus₂ Y I
-ruleCz Z I = plus₂ Z I
-ruleCz Z X = plus₂ I X
-ruleCz Z Y = plus₂ I Y
-ruleCz Z Z = plus₂ Z Z
+ruleCz = rule₂ (plus₂ X Z) (plus₂ Z I) (plus₂ Z X) (plus₂ I Z)
 
 -- each gate by one letter rule
 abbrev pub direct : Gate → Row → Row
