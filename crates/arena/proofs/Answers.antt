@@ -13,7 +13,7 @@ use Rattle.arena.specs.Errors.{Checked, Fine, Wrong}
 use Rattle.arena.specs.References.{PauliRef, PauliAxis, axisOf, nodeIn}
 use Rattle.arena.specs.Nodes.{singleWord, productWord, image}
 use Rattle.arena.specs.Store.{Header}
-use Rattle.arena.specs.Builder.{Step, Lent, decided, overlay, startNodes, startFrame, newHeader, withNodes, nodePut, refTo, nodesFor, Created, CreatedMade, CreatedRefused, Singled, SingledMade, SingledRefused, Multiplied, MultipliedMade, MultipliedRefused, newCheck, newStep, singleCheck, singleStep, productCheck, productStep}
+use Rattle.arena.specs.Builder.{Step, NodesAndFrame, decided, overlay, startNodes, startFrame, newHeader, withNodes, nodePut, refTo, nodesFor, Created, CreatedMade, CreatedRefused, Singled, SingledMade, SingledRefused, Multiplied, MultipliedMade, MultipliedRefused, newCheck, newStep, singleCheck, singleStep, productCheck, productStep}
 use Rattle.arena.proofs.Images.{put-older, single-image, product-image, new-images}
 use Rattle.arena.proofs.Accepted.{fits-single, fits-product}
 use Rattle.arena.proofs.Reading.{image-older}
@@ -78,10 +78,10 @@ pub new-answer : (qubits cbits owner : ℕ) (nodes frame : List ℕ) (h : Header
 unfolding newStep
 new-answer qubits cbits owner nodes frame h = go (newCheck qubits cbits (length nodes) (length frame))
   where
-    lent : Lent
+    lent : NodesAndFrame
     lent = record { nodes = nodes; frame = frame }
 
-    made : Step Created Lent
+    made : Step Created NodesAndFrame
     made = record { answer = CreatedMade (newHeader qubits cbits owner); words = record { nodes = overlay (startNodes qubits) nodes; frame = overlay (startFrame qubits) frame } }
 
     go : (k : Checked) → decided k CreatedRefused lent made .answer ≡ CreatedMade h

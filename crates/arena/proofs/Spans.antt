@@ -12,8 +12,8 @@ use Rattle.pauli.specs.Angle.{eighthsOf}
 use Rattle.arena.specs.Nodes.{singleWord, productWord}
 use Rattle.arena.specs.Operations.{rotateWords, measureWords, conditionalWords}
 use Rattle.arena.specs.Store.{Header}
-use Rattle.arena.specs.Builder.{Lent, Step, decided, overlay, startNodes, imageWords, startFrame, newCheck, newStep, singleCheck, singleStep, productCheck, productStep, rotateCheck, rotateStep, measureCheck, measureStep, conditionalCheck, conditionalStep}
-use Rattle.arena.specs.Calls.{Call, callNew, callSingle, callProduct, callRotate, callMeasure, callConditional, Slices, checked, withNodeWords, withOperationWords, after, Span, span, nodeSpan, operationSpan, frameSpan, Outside, Kept, KeptSlices}
+use Rattle.arena.specs.Builder.{NodesAndFrame, Step, decided, overlay, startNodes, imageWords, startFrame, newCheck, newStep, singleCheck, singleStep, productCheck, productStep, rotateCheck, rotateStep, measureCheck, measureStep, conditionalCheck, conditionalStep}
+use Rattle.arena.specs.Calls.{Call, callNew, callSingle, callProduct, callRotate, callMeasure, callConditional, Slices, checked, withNodeWords, withOperationWords, after, Span, span, spans, Outside, Kept, KeptSlices}
 use Rattle.arena.proofs.Accepted.{fits-new}
 use Rattle.arena.proofs.Overlay.{length-overlay, length-qubitNodes, length-imageWords}
 
@@ -25,7 +25,7 @@ decided-wrong k refused ws step e p = ap (λ k. decided k refused ws step .words
 pub refused-untouched : (c : Call) (s : Slices) (e : PbcError) → checked c s ≡ Wrong e → after c s ≡ s
 unfolding checked after newStep singleStep productStep rotateStep measureStep conditionalStep
 refused-untouched (callNew n c o) s e p =
-    ap (λ (w : Lent). record { nodes = w .nodes; operations = s .operations; frame = w .frame }) (decided-wrong (newCheck n c (length (s .nodes)) (length (s .frame))) _ _ _ e p)
+    ap (λ (w : NodesAndFrame). record { nodes = w .nodes; operations = s .operations; frame = w .frame }) (decided-wrong (newCheck n c (length (s .nodes)) (length (s .frame))) _ _ _ e p)
 refused-untouched (callSingle h q a) s e p = ap (λ w. withNodeWords w s) (decided-wrong (singleCheck h (length (s .nodes)) q a) _ _ _ e p)
 refused-untouched (callProduct h l r) s e p = ap (λ w. withNodeWords w s) (decided-wrong (productCheck h (length (s .nodes)) l r) _ _ _ e p)
 refused-untouched (callRotate h x k) s e p = ap (λ w. withOperationWords w s) (decided-wrong (rotateCheck h (length (s .operations)) x) _ _ _ e p)
@@ -67,15 +67,15 @@ decided-fine : {A B : Type 0} (k : Checked) (refused : PbcError → A) (ws : B) 
 decided-fine k refused ws step p = ap (λ k. decided k refused ws step) p
 
 module _ (s : Slices) where
-  nodes-kept : (c : Call) (ws : List ℕ) → Kept (nodeSpan c) (s .nodes) ws → KeptSlices c s (withNodeWords ws s)
-  nodes-kept c ws k = record { nodes = k; operations = kept-all (operationSpan c) (s .operations); frame = kept-all (frameSpan c) (s .frame) }
+  nodes-kept : (c : Call) (ws : List ℕ) → Kept (spans c .nodes) (s .nodes) ws → KeptSlices c s (withNodeWords ws s)
+  nodes-kept c ws k = record { nodes = k; operations = kept-all (spans c .operations) (s .operations); frame = kept-all (spans c .frame) (s .frame) }
 
-  operations-kept : (c : Call) (ws : List ℕ) → Kept (operationSpan c) (s .operations) ws → KeptSlices c s (withOperationWords ws s)
-  operations-kept c ws k = record { nodes = kept-all (nodeSpan c) (s .nodes); operations = k; frame = kept-all (frameSpan c) (s .frame) }
+  operations-kept : (c : Call) (ws : List ℕ) → Kept (spans c .operations) (s .operations) ws → KeptSlices c s (withOperationWords ws s)
+  operations-kept c ws k = record { nodes = kept-all (spans c .nodes) (s .nodes); operations = k; frame = kept-all (spans c .frame) (s .frame) }
 
-  single-kept : (h : Header) (q : ℕ) (a : Pauli) → singleCheck h (length (s .nodes)) q a ≡ Fine → Kept (nodeSpan (callSingle h q a)) (s .nodes) (singleStep h (s .nodes) q a .words)
+  single-kept : (h : Header) (q : ℕ) (a : Pauli) → singleCheck h (length (s .nodes)) q a ≡ Fine → Kept (spans (callSingle h q a) .nodes) (s .nodes) (singleStep h (s .nodes) q a .words)
   unfolding singleStep
-  single-kept h q I p = rw p (kept-all (nodeSpan (callSingle h q I)) (s .nodes))
+  single-kept h q I p = rw p (kept-all (spans (callSingle h q I) .nodes) (s .nodes))
   single-kept h q X p = rw p (kept-sets (singleWord X ∷ q ∷ []) (s .nodes) (2 * h .nodes) (2 * (h .nodes + 1)) (omega arith))
   single-kept h q Y p = rw p (kept-sets (singleWord Y ∷ q ∷ []) (s .nodes) (2 * h .nodes) (2 * (h .nodes + 1)) (omega arith))
   single-kept h q Z p = rw p (kept-sets (singleWord Z ∷ q ∷ []) (s .nodes) (2 * h .nodes) (2 * (h .nodes + 1)) (omega arith))

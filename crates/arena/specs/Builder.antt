@@ -24,10 +24,13 @@ pub record Step (A B : Type 0) : Type 0 where
   pub answer : A
   pub words : B
 
+abbrev pub stepOf : {A B : Type 0} → A → B → Step A B
+stepOf a ws = record { answer = a; words = ws }
+
 -- what the checks decide: the step, or a refusal that leaves the words
 abbrev pub decided : {A B : Type 0} → Checked → (PbcError → A) → B → Step A B → Step A B
 decided Fine refused ws step = step
-decided (Wrong e) refused ws step = record { answer = refused e; words = ws }
+decided (Wrong e) refused ws step = stepOf (refused e) ws
 
 -- ---- a new circuit: node 0 is the identity, then X and Z of qubit 0, of qubit 1, and so on
 
@@ -51,7 +54,7 @@ startFrame n = imageWords 1 n ++ imageWords 2 n
 abbrev pub overlay : List ℕ → List ℕ → List ℕ
 overlay us ws = us ++ drop (length us) ws
 
-pub record Lent : Type 0 where
+pub record NodesAndFrame : Type 0 where
   pub nodes : List ℕ
   pub frame : List ℕ
 
@@ -62,22 +65,22 @@ newCheck qubits cbits nodes frame =
     ⟫ ltb frame (2 * qubits) ⇒ NoFrame
     ⟫ ltb (nodes / nodeWords) (1 + 2 * qubits) ⇒ NoNodes
 
-abbrev pub newHeader : ℕ → ℕ → ℕ → Header
-newHeader qubits cbits owner = record { qubits = qubits; cbits = cbits; owner = owner; nodes = 1 + 2 * qubits; operations = 0; measurements = 0 }
+abbrev pub headerOf : (qubits cbits owner nodes operations measurements : ℕ) → Header
+headerOf q c o k m g = record { qubits = q; cbits = c; owner = o; nodes = k; operations = m; measurements = g }
 
-unfoldable pub newStep : ℕ → ℕ → ℕ → List ℕ → List ℕ → Step Created Lent
+abbrev pub newHeader : ℕ → ℕ → ℕ → Header
+newHeader qubits cbits owner = headerOf qubits cbits owner (1 + 2 * qubits) 0 0
+
+unfoldable pub newStep : ℕ → ℕ → ℕ → List ℕ → List ℕ → Step Created NodesAndFrame
 newStep qubits cbits owner nodes frame =
     decided (newCheck qubits cbits (length nodes) (length frame)) CreatedRefused
     (record { nodes = nodes; frame = frame })
-    (record {
-      answer = CreatedMade (newHeader qubits cbits owner);
-      words = record { nodes = overlay (startNodes qubits) nodes; frame = overlay (startFrame qubits) frame };
-    })
+    (stepOf (CreatedMade (newHeader qubits cbits owner)) (record { nodes = overlay (startNodes qubits) nodes; frame = overlay (startFrame qubits) frame }))
 
 -- ---- nodes
 
 abbrev pub withNodes : ℕ → Header → Header
-withNodes k h = record { qubits = h .qubits; cbits = h .cbits; owner = h .owner; nodes = k; operations = h .operations; measurements = h .measurements }
+withNodes k h = headerOf (h .qubits) (h .cbits) (h .owner) k (h .operations) (h .measurements)
 
 -- one more node of two words, and the reference to it
 abbrev pub nodePut : Header → List ℕ → ℕ → ℕ → List ℕ
@@ -104,8 +107,8 @@ unfoldable pub singleStep : Header → List ℕ → ℕ → Pauli → Step Singl
 singleStep h ws q a =
     decided (singleCheck h (length ws) q a) SingledRefused ws
     (cond (eqb (nodesFor a) 0)
-    (record { answer = SingledMade h (axisOf (refTo h 0)); words = ws })
-    (record { answer = SingledMade (withNodes (h .nodes + 1) h) (axisOf (refTo h (h .nodes))); words = nodePut h ws (singleWord a) q }))
+    (stepOf (SingledMade h (axisOf (refTo h 0))) ws)
+    (stepOf (SingledMade (withNodes (h .nodes + 1) h) (axisOf (refTo h (h .nodes)))) (nodePut h ws (singleWord a) q)))
 
 unfoldable pub productCheck : Header → ℕ → PauliRef → PauliRef → Checked
 productCheck h len l r =
@@ -117,57 +120,43 @@ productCheck h len l r =
 unfoldable pub productStep : Header → List ℕ → PauliRef → PauliRef → Step Multiplied (List ℕ)
 productStep h ws l r =
     decided (productCheck h (length ws) l r) MultipliedRefused ws
-    (record { answer = MultipliedMade (withNodes (h .nodes + 1) h) (refTo h (h .nodes)); words = nodePut h ws (productWord (l .word)) (r .word) })
+    (stepOf (MultipliedMade (withNodes (h .nodes + 1) h) (refTo h (h .nodes))) (nodePut h ws (productWord (l .word)) (r .word)))
 
 -- ---- operations
 
 -- one more operation, and so many measurements
 abbrev pub withOperation : ℕ → Header → Header
-withOperation m h = record { qubits = h .qubits; cbits = h .cbits; owner = h .owner; nodes = h .nodes; operations = h .operations + 1; measurements = m }
+withOperation m h = headerOf (h .qubits) (h .cbits) (h .owner) (h .nodes) (h .operations + 1) m
 
 abbrev pub operationPut : Header → List ℕ → List ℕ → List ℕ
 operationPut h ws vs = sets ws (operationWords * h .operations) vs
 
+-- the header and the slice, then the axis
+abbrev pub axisCheck : Header → ℕ → PauliAxis → Checked
+axisCheck h len axis = Fine ⟫ breaksLimit h || exceedsOperations h len ⇒ BadStore ⟫ foreign h (axis .0) ⇒ ForeignPauli
+
 unfoldable pub rotateCheck : Header → ℕ → PauliAxis → Checked
-rotateCheck h len axis =
-    Fine
-    ⟫ breaksLimit h || exceedsOperations h len ⇒ BadStore
-    ⟫ foreign h (axis .0) ⇒ ForeignPauli
-    ⟫ noOperationRoom h len 1 ⇒ NoOperations
+rotateCheck h len axis = axisCheck h len axis ⟫ noOperationRoom h len 1 ⇒ NoOperations
 
 unfoldable pub rotateStep : Header → List ℕ → PauliAxis → PauliAngle → Step Pushed (List ℕ)
 rotateStep h ws axis angle =
     decided (rotateCheck h (length ws) axis) PushedRefused ws
-    (record { answer = PushedMade (withOperation (h .measurements) h); words = operationPut h ws (rotateWords (axis .0 .word) (eighthsOf angle)) })
+    (stepOf (PushedMade (withOperation (h .measurements) h)) (operationPut h ws (rotateWords (axis .0 .word) (eighthsOf angle))))
 
 unfoldable pub measureCheck : Header → ℕ → PauliAxis → Target → Checked
 measureCheck h len axis target =
-    Fine
-    ⟫ breaksLimit h || exceedsOperations h len ⇒ BadStore
-    ⟫ foreign h (axis .0) ⇒ ForeignPauli
-    ⟫ targetOutside h target ⇒ ClassicalBitOutOfRange 0 (targetBit target)
-    ⟫ noOperationRoom h len 1 ⇒ NoOperations
+    axisCheck h len axis ⟫ targetOutside h target ⇒ ClassicalBitOutOfRange 0 (targetBit target) ⟫ noOperationRoom h len 1 ⇒ NoOperations
 
 unfoldable pub measureStep : Header → List ℕ → PauliAxis → Target → Step Measured (List ℕ)
 measureStep h ws axis target =
     decided (measureCheck h (length ws) axis target) MeasuredRefused ws
-    (record {
-      answer = MeasuredMade (withOperation (h .measurements + 1) h) (measId (h .owner) (h .measurements));
-      words = operationPut h ws (measureWords (axis .0 .word) (h .measurements) target);
-    })
+    (stepOf (MeasuredMade (withOperation (h .measurements + 1) h) (measId (h .owner) (h .measurements)))
+    (operationPut h ws (measureWords (axis .0 .word) (h .measurements) target)))
 
 unfoldable pub conditionalCheck : Header → ℕ → PauliAxis → MeasId → Checked
-conditionalCheck h len axis outcome =
-    Fine
-    ⟫ breaksLimit h || exceedsOperations h len ⇒ BadStore
-    ⟫ foreign h (axis .0) ⇒ ForeignPauli
-    ⟫ unknown h outcome ⇒ UnknownMeasurement
-    ⟫ noOperationRoom h len 1 ⇒ NoOperations
+conditionalCheck h len axis outcome = axisCheck h len axis ⟫ unknown h outcome ⇒ UnknownMeasurement ⟫ noOperationRoom h len 1 ⇒ NoOperations
 
 unfoldable pub conditionalStep : Header → List ℕ → PauliAxis → PauliAngle → MeasId → Step Pushed (List ℕ)
 conditionalStep h ws axis angle outcome =
     decided (conditionalCheck h (length ws) axis outcome) PushedRefused ws
-    (record {
-      answer = PushedMade (withOperation (h .measurements) h);
-      words = operationPut h ws (conditionalWords (axis .0 .word) (eighthsOf angle) (outcome .1));
-    })
+    (stepOf (PushedMade (withOperation (h .measurements) h)) (operationPut h ws (conditionalWords (axis .0 .word) (eighthsOf angle) (outcome .1))))

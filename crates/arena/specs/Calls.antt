@@ -43,11 +43,9 @@ withOperationWords ws s = record { nodes = s .nodes; operations = ws; frame = s 
 
 -- the slices afterwards, by the definitions that the contracts cite
 unfoldable pub after : Call → Slices → Slices
-after (callNew n c o) s = record {
-  nodes = newStep n c o (s .nodes) (s .frame) .words .nodes;
-  operations = s .operations;
-  frame = newStep n c o (s .nodes) (s .frame) .words .frame;
-}
+after (callNew n c o) s =
+    let r = newStep n c o (s .nodes) (s .frame) in
+    record { nodes = r .words .nodes; operations = s .operations; frame = r .words .frame }
 after (callSingle h q a) s = withNodeWords (singleStep h (s .nodes) q a .words) s
 after (callProduct h l r) s = withNodeWords (productStep h (s .nodes) l r .words) s
 after (callRotate h x k) s = withOperationWords (rotateStep h (s .operations) x k .words) s
@@ -63,29 +61,25 @@ pub record Span : Type 0 where
 abbrev pub span : ℕ → ℕ → Span
 span from to = record { from = from; to = to }
 
-abbrev pub nodeSpan : Call → Span
-nodeSpan (callNew n c o) = span 0 (nodeWords * (1 + 2 * n))
-nodeSpan (callSingle h q a) = span (nodeWords * h .nodes) (nodeWords * (h .nodes + nodesFor a))
-nodeSpan (callProduct h l r) = span (nodeWords * h .nodes) (nodeWords * (h .nodes + 1))
-nodeSpan (callRotate h x k) = span 0 0
-nodeSpan (callMeasure h x t) = span 0 0
-nodeSpan (callConditional h x k m) = span 0 0
+pub record Spans : Type 0 where
+  pub nodes : Span
+  pub operations : Span
+  pub frame : Span
 
-abbrev pub operationSpan : Call → Span
-operationSpan (callNew n c o) = span 0 0
-operationSpan (callSingle h q a) = span 0 0
-operationSpan (callProduct h l r) = span 0 0
-operationSpan (callRotate h x k) = span (operationWords * h .operations) (operationWords * (h .operations + 1))
-operationSpan (callMeasure h x t) = span (operationWords * h .operations) (operationWords * (h .operations + 1))
-operationSpan (callConditional h x k m) = span (operationWords * h .operations) (operationWords * (h .operations + 1))
+-- so many nodes more, or one operation
+abbrev pub nodeSpans : Header → ℕ → Spans
+nodeSpans h k = record { nodes = span (nodeWords * h .nodes) (nodeWords * (h .nodes + k)); operations = span 0 0; frame = span 0 0 }
 
-abbrev pub frameSpan : Call → Span
-frameSpan (callNew n c o) = span 0 (2 * n)
-frameSpan (callSingle h q a) = span 0 0
-frameSpan (callProduct h l r) = span 0 0
-frameSpan (callRotate h x k) = span 0 0
-frameSpan (callMeasure h x t) = span 0 0
-frameSpan (callConditional h x k m) = span 0 0
+abbrev pub operationSpans : Header → Spans
+operationSpans h = record { nodes = span 0 0; operations = span (operationWords * h .operations) (operationWords * (h .operations + 1)); frame = span 0 0 }
+
+abbrev pub spans : Call → Spans
+spans (callNew n c o) = record { nodes = span 0 (nodeWords * (1 + 2 * n)); operations = span 0 0; frame = span 0 (2 * n) }
+spans (callSingle h q a) = nodeSpans h (nodesFor a)
+spans (callProduct h l r) = nodeSpans h 1
+spans (callRotate h x k) = operationSpans h
+spans (callMeasure h x t) = operationSpans h
+spans (callConditional h x k m) = operationSpans h
 
 -- place i lies outside
 abbrev pub Outside : Span → ℕ → Type 0
@@ -97,6 +91,6 @@ pub record Kept (sp : Span) (was now : List ℕ) : Type 0 where
   pub outside : (i : ℕ) → Outside sp i → getD now i 0 ≡ getD was i 0
 
 pub record KeptSlices (c : Call) (was now : Slices) : Type 0 where
-  pub nodes : Kept (nodeSpan c) (was .nodes) (now .nodes)
-  pub operations : Kept (operationSpan c) (was .operations) (now .operations)
-  pub frame : Kept (frameSpan c) (was .frame) (now .frame)
+  pub nodes : Kept (spans c .nodes) (was .nodes) (now .nodes)
+  pub operations : Kept (spans c .operations) (was .operations) (now .operations)
+  pub frame : Kept (spans c .frame) (was .frame) (now .frame)

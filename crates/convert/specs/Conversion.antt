@@ -9,7 +9,7 @@ use Rattle.pauli.specs.Table.{start}
 use Rattle.pauli.specs.Rotations.{flush}
 use Rattle.arena.specs.Limits.{maxQubits, maxCbits, maxNodes, maxOperations, nodeWords, operationWords}
 use Rattle.arena.specs.Errors.{_⟫_⇒_}
-use Rattle.arena.specs.Builder.{overlay}
+use Rattle.arena.specs.Builder.{overlay, headerOf}
 use Rattle.convert.specs.Types.{Header, TooManyQubits, BrokenGateList, UnsupportedGate, ClassicalBitOutOfRange, CapTooSmall, NoPlanes, NoFrame, NoNodes, NoOperations, Checked, Fine, Wrong}
 use Rattle.convert.specs.Records.{GateKind, arityOf, Cap, NoCap, AtMost, Record, records, kindOf, Elementary, Placed, lowerAll, bare}
 use Rattle.convert.specs.Plain.{Plain, begin, plainRun, tableRun}
@@ -32,17 +32,7 @@ pub record Input : Type 0 where
   pub planes : List ℕ
 
 abbrev pub inputOf : (qubits cbits owner : ℕ) → Cap → (gates nodes operations frame planes : List ℕ) → Input
-inputOf qubits cbits owner cap gates nodes operations frame planes = record {
-  qubits = qubits;
-  cbits = cbits;
-  owner = owner;
-  cap = cap;
-  gates = gates;
-  nodes = nodes;
-  operations = operations;
-  frame = frame;
-  planes = planes;
-}
+inputOf q c o cap gs ns os fs ps = record { qubits = q; cbits = c; owner = o; cap = cap; gates = gs; nodes = ns; operations = os; frame = fs; planes = ps }
 
 -- ---- the four ends: of the plain conversion, of the plain table alone, of the papers' conversion, of the words
 
@@ -149,14 +139,7 @@ convertCheck l x =
 -- ---- the answer and the slices
 
 abbrev pub convertedHeader : Input → Header
-convertedHeader x = record {
-  qubits = x .qubits;
-  cbits = x .cbits;
-  owner = x .owner;
-  nodes = wordEnd x .arena .count;
-  operations = length (wordEnd x .ops);
-  measurements = plainEnd x .given;
-}
+convertedHeader x = headerOf (x .qubits) (x .cbits) (x .owner) (wordEnd x .arena .count) (length (wordEnd x .ops)) (plainEnd x .given)
 
 -- the planes hold the packed end table, over what was there: under a cap, once the checks up to 12 have passed
 abbrev pub planesAs : Cap → Input → List ℕ
@@ -174,21 +157,13 @@ pub record ConvertStep : Type 0 where
   pub frame : List ℕ
   pub planes : List ℕ
 
+abbrev pub convertOf : Converted → (nodes operations frame planes : List ℕ) → ConvertStep
+convertOf answer nodes operations frame planes = record { answer = answer; nodes = nodes; operations = operations; frame = frame; planes = planes }
+
 abbrev pub convertAs : Checked → List ℕ → Input → ConvertStep
-convertAs Fine planes x = record {
-  answer = ConvertedMade (convertedHeader x);
-  nodes = overlay (wordEnd x .arena .nodes) (x .nodes);
-  operations = overlay (flat (wordEnd x .ops)) (x .operations);
-  frame = overlay (wordEnd x .arena .frame) (x .frame);
-  planes = planes;
-}
-convertAs (Wrong e) planes x = record {
-  answer = ConvertedRefused e;
-  nodes = x .nodes;
-  operations = x .operations;
-  frame = x .frame;
-  planes = planes;
-}
+convertAs Fine planes x = convertOf (ConvertedMade (convertedHeader x)) (overlay (wordEnd x .arena .nodes) (x .nodes))
+    (overlay (flat (wordEnd x .ops)) (x .operations)) (overlay (wordEnd x .arena .frame) (x .frame)) planes
+convertAs (Wrong e) planes x = convertOf (ConvertedRefused e) (x .nodes) (x .operations) (x .frame) planes
 
 unfoldable pub convertWithin : Limits → Input → ConvertStep
 convertWithin l x = convertAs (convertCheck l x) (planesAfter (gatesCheck l x) x) x

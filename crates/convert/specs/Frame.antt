@@ -11,7 +11,7 @@ use Rattle.arena.specs.Errors.{_⟫_⇒_}
 use Rattle.arena.specs.References.{nodeIn, scaledWord}
 use Rattle.arena.specs.Nodes.{productWord}
 use Rattle.arena.specs.Store.{breaksLimit, exceedsNodes, noNodeRoom}
-use Rattle.arena.specs.Builder.{Step, decided, Lent, overlay, withNodes, startNodes, startFrame}
+use Rattle.arena.specs.Builder.{Step, decided, NodesAndFrame, overlay, withNodes, startNodes, startFrame}
 use Rattle.convert.specs.Types.{Phase, One, PlusI, MinusOne, MinusI, Header, BadStore, NonCliffordFrameGate, QubitOutOfRange, RepeatedOperand, NoFrame, NoNodes, Checked, Fine}
 use Rattle.convert.specs.Records.{GateKind, arityOf, kindOf, Elementary, clifford, elT, elTdg, elCcx, elCcz, elMeasure, lowerAs}
 pub use Rattle.convert.specs.declared.frame.FramePushed.the-variants.{the-data as FramePushed, Made as FramePushedMade, Refused as FramePushedRefused}
@@ -138,13 +138,13 @@ abbrev pub opened : Header → (nodes frame : List ℕ) → Arena
 opened h nodes frame = record { count = h .nodes; nodes = take (nodeWords * h .nodes) nodes; frame = take (2 * h .qubits) frame }
 
 -- the header and the words after a gate's work, over what was lent
-abbrev pub closed : Arena → Header → (nodes frame : List ℕ) → Step FramePushed Lent
+abbrev pub closed : Arena → Header → (nodes frame : List ℕ) → Step FramePushed NodesAndFrame
 closed s h nodes frame = record {
   answer = FramePushedMade (withNodes (s .count) h);
   words = record { nodes = overlay (s .nodes) nodes; frame = overlay (s .frame) frame };
 }
 
-unfoldable pub cliffordStep : Header → (nodes frame : List ℕ) → (kind a b : ℕ) → Step FramePushed Lent
+unfoldable pub cliffordStep : Header → (nodes frame : List ℕ) → (kind a b : ℕ) → Step FramePushed NodesAndFrame
 cliffordStep h nodes frame kind a b =
     decided (cliffordCheck h (length nodes) frame kind a b) FramePushedRefused
     (record { nodes = nodes; frame = frame })

@@ -12,7 +12,7 @@ pub mod Lowering
 pub mod Planes
 pub mod Conversion
 pub mod Later
-pub mod LaterCalls
+pub mod LaterWords
 pub mod Statement
 pub mod Circuits
 pub mod Code
