@@ -14,7 +14,7 @@ use Rattle.pauli.specs.Rotations.{flush}
 use Rattle.pauli.specs.Table.{start}
 use Rattle.arena.specs.Limits.{maxQubits, maxCbits, maxNodes, maxOperations, nodeWords, operationWords}
 use Rattle.arena.specs.Errors.{_⟫_⇒_}
-use Rattle.arena.specs.Builder.{overlay, startNodes, startFrame, newCheck, newStep, newHeader}
+use Rattle.arena.specs.Builder.{overlay, startNodes, startFrame, newCheck, newStep, headerOf, newHeader}
 use Rattle.arena.specs.declared.builder.Created.the-variants.{the-data as Created, Made as CreatedMade, Refused as CreatedRefused}
 use Rattle.arena.proofs.Overlay.{length-qubitNodes}
 use Rattle.arena.proofs.Accepted.{passed-before, test-passed, left-false, right-false}
@@ -25,8 +25,8 @@ use Rattle.convert.specs.Frame.{startArena}
 use Rattle.convert.specs.Words.{flat, startWords}
 use Rattle.convert.specs.Needs.{Needs}
 use Rattle.convert.specs.Planes.{partWords, packed}
-use Rattle.convert.specs.Conversion.{Input, recordsChecked, capTooSmall, planesTooFew, maxGateWords, limits, gatesCheck, convertCheck, gatesIn, plainEnd, tableEnd, wordEnd, planesAs, planesAfter, convertWithin, convertStep, ConvertedMade, ConvertedRefused, inputOf, gatesChecked, roomChecked}
-use Rattle.convert.specs.Code.Raw.{isCapped, planesFor, Fits, Room, plainLast, wordsLast, needsLast, needsOf, headerOf}
+use Rattle.convert.specs.Conversion.{Input, recordsChecked, capTooSmall, planesTooFew, maxGateWords, limits, gatesCheck, convertCheck, gatesIn, plainEnd, tableEnd, wordEnd, planesAs, planesAfter, convertWithin, convertStep, convertOf, ConvertedMade, ConvertedRefused, inputOf, gatesChecked, roomChecked}
+use Rattle.convert.specs.Code.Raw.{isCapped, planesFor, Fits, Room, plainLast, wordsLast, needsLast, needsOf}
 use Rattle.convert.proofs.Accepting.{bare-placed, proper-records, passed-records}
 use Rattle.convert.proofs.Counting.{needed}
 use Rattle.convert.proofs.RestLaws.{rest-more, restOf}
@@ -181,9 +181,9 @@ module _ (q c o : ℕ) (cap : Cap) (gs ns os fs ps : List ℕ) where
 
   -- refused before anything is counted
   pub refused-first : (e : PbcError) → gatesChecked limits q c cap gs (length ps) ≡ Wrong e
-      → (ConvertedRefused e ≡ convertStep x .answer) × ((ns ≡ convertStep x .nodes) × ((os ≡ convertStep x .operations) × ((fs ≡ convertStep x .frame) × (ps ≡ convertStep x .planes))))
+      → convertOf (ConvertedRefused e) ns os fs ps ≡ convertStep x
   unfolding convertStep convertWithin convertCheck roomChecked _⟫_⇒_
-  refused-first e h = rw (gates-check, h) (refl, (refl, (refl, (refl, refl))))
+  refused-first e h = rw (gates-check, h)
 
   module _ (passed : gatesChecked limits q c cap gs (length ps) ≡ Fine) (k m : ℕ) (ek : k ≡ wordsLast q cap gs .arena .count) (em : m ≡ length (wordsLast q cap gs .ops)) where
     room-check : convertCheck limits x ≡ roomChecked limits Fine k m q (length fs) (length ns) (length os)
@@ -194,17 +194,18 @@ module _ (q c o : ℕ) (cap : Cap) (gs ns os fs ps : List ℕ) where
     planes-after = rw (gates-check, passed) (sym planes-as)
 
     pub refused-second : (e : PbcError) (ps′ : List ℕ) → roomChecked limits Fine k m q (length fs) (length ns) (length os) ≡ Wrong e → ps′ ≡ planesFor cap q (plainLast q cap gs .table) ps
-        → (ConvertedRefused e ≡ convertStep x .answer) × ((ns ≡ convertStep x .nodes) × ((os ≡ convertStep x .operations) × ((fs ≡ convertStep x .frame) × (ps′ ≡ convertStep x .planes))))
+        → convertOf (ConvertedRefused e) ns os fs ps′ ≡ convertStep x
     unfolding convertStep convertWithin
-    refused-second e ps′ h ep = rw (room-check, h) (refl, (refl, (refl, (refl, ep ∙ sym planes-after))))
+    refused-second e ps′ h ep = rw (room-check, h) (ap (convertOf (ConvertedRefused e) ns os fs) (ep ∙ sym planes-after))
 
     pub made : roomChecked limits Fine k m q (length fs) (length ns) (length os) ≡ Fine → (r₁ r₂ r₃ : ℕ) (ns′ os′ fs′ ps′ : List ℕ)
         → r₁ ≡ wordsLast q cap gs .arena .count → r₂ ≡ length (wordsLast q cap gs .ops) → r₃ ≡ plainLast q cap gs .given
         → ns′ ≡ overlay (wordsLast q cap gs .arena .nodes) ns → os′ ≡ overlay (flat (wordsLast q cap gs .ops)) os → fs′ ≡ overlay (wordsLast q cap gs .arena .frame) fs
         → ps′ ≡ planesFor cap q (plainLast q cap gs .table) ps
-        → (ConvertedMade (headerOf q c o r₁ r₂ r₃) ≡ convertStep x .answer) × ((ns′ ≡ convertStep x .nodes) × ((os′ ≡ convertStep x .operations) × ((fs′ ≡ convertStep x .frame) × (ps′ ≡ convertStep x .planes))))
+        → convertOf (ConvertedMade (headerOf q c o r₁ r₂ r₃)) ns′ os′ fs′ ps′ ≡ convertStep x
     unfolding convertStep convertWithin wordEnd plainEnd gatesIn
-    made h r₁ r₂ r₃ ns′ os′ fs′ ps′ e₁ e₂ e₃ en eo ef ep = rw (room-check, h) (rw (e₁, e₂, e₃), (en, (eo, (ef, ep ∙ sym planes-after))))
+    made h r₁ r₂ r₃ ns′ os′ fs′ ps′ e₁ e₂ e₃ en eo ef ep =
+        rw (room-check, h) (λ i. convertOf (ConvertedMade (headerOf q c o (e₁ i) (e₂ i) (e₃ i))) (en i) (eo i) (ef i) ((ep ∙ sym planes-after) i))
 
 room-parts : (k m q frame ns os : ℕ) → roomChecked limits Fine k m q frame ns os ≡ Fine → (2 * q ≤ frame) × (k ≤ ns / nodeWords)
 unfolding roomChecked

@@ -6,6 +6,7 @@ use Prim.Native.Nat.{ℕ, _+_, _*_}
 use lib.ListN.{replicate}
 use Rattle.pauli.specs.Angle.{angleOf}
 use Rattle.pauli.specs.Letters.{power}
+use Rattle.pauli.specs.Gates.{gateH, gateS, gateCz}
 use Rattle.pauli.specs.Rotations.{flush}
 use Rattle.pauli.specs.Table.{start, step}
 use Rattle.arena.specs.Errors.{_⟫_⇒_}
@@ -25,12 +26,12 @@ use Rattle.convert.specs.Frame.{startArena, pushed, multiplied, frameSte
 use Rattle.convert.specs.Words.{startWords, flushGate, flushGates, flushWords, writeSeven, write, wordStep, wordRun}
 use Rattle.convert.specs.Planes.{mask, digits, rowWords, rowsWords, images, packed}
 use Rattle.convert.specs.Conversion.{limits, Input, gatesIn, plainEnd, tableEnd, wordEnd, recordChecked, recordsChecked, gatesCheck, convertCheck, convertWithin, convertStep, gatesChecked, roomChecked}
-use Rattle.convert.specs.Later.{converted, Call, callFrame, callSingle, callProduct, callRotate, callMeasure, callConditional, callExpand, accepts, later, laters, flags}
+use Rattle.convert.specs.Later.{converted, LaterCall, callFrame, callSingle, callProduct, callRotate, callMeasure, callConditional, callExpand, lendOperations, later, laters, gatesOf, fed}
 use Rattle.convert.specs.Circuits.{gate, reference}
 
 -- n qubits, 2 classical bits, owner 7, room for so many nodes and operations
 input : ℕ → Cap → ℕ → ℕ → List ℕ → Input
-unfolding power flush start step _⟫_⇒_ decode nodeAt dense walk breaksLimit exceedsNodes exceedsOperations foreign unknown noNodeRoom noOperationRoom singleCheck singleStep productCheck productStep rotateCheck rotateStep measureCheck measureStep conditionalCheck conditionalStep expandWalk expandCheck expandStep records kindOf lowerAs lower lowerFrom lowerAll begin tested exceeds flushed performAs plainStep plainRun rowsAfter tableRun startArena pushed multiplied frameStep qubitsOf operandsChecked frameGates frameRun cliffordCheck cliffordStep startWords flushGate flushGates flushWords writeSeven write wordStep wordRun mask digits rowWords rowsWords images packed gatesIn plainEnd tableEnd wordEnd recordChecked recordsChecked gatesCheck gatesChecked convertCheck roomChecked convertWithin convertStep converted accepts later laters flags
+unfolding power flush start step _⟫_⇒_ decode nodeAt dense walk breaksLimit exceedsNodes exceedsOperations foreign unknown noNodeRoom noOperationRoom singleCheck singleStep productCheck productStep rotateCheck rotateStep measureCheck measureStep conditionalCheck conditionalStep expandWalk expandCheck expandStep records kindOf lowerAs lower lowerFrom lowerAll begin tested exceeds flushed performAs plainStep plainRun rowsAfter tableRun startArena pushed multiplied frameStep qubitsOf operandsChecked frameGates frameRun cliffordCheck cliffordStep startWords flushGate flushGates flushWords writeSeven write wordStep wordRun mask digits rowWords rowsWords images packed gatesIn plainEnd tableEnd wordEnd recordChecked recordsChecked gatesCheck gatesChecked convertCheck roomChecked convertWithin convertStep converted later laters gatesOf fed
 input n cap nodes ops gs = record {
   qubits = n;
   cbits = 2;
@@ -134,7 +135,7 @@ e-planes = refl
 foreigner : PauliRef
 foreigner = record { owner = 8; word = 4 }
 
-calls : List Call
+calls : List LaterCall
 unfolding foreigner
 calls =
     callFrame 3 0 0  -- s 0: a node
@@ -145,12 +146,14 @@ calls =
     ∷ callFrame 4 1 0  -- sdg 1: no node is left: 14
     ∷ callFrame 0 1 0  -- h 1 needs none
     ∷ callProduct (reference 4) foreigner  -- 4
-    ∷ callRotate (replicate 16 0) (axisOf (reference 13)) (angleOf 3)
-    ∷ callRotate (9 ∷ []) (axisOf (reference 13)) (angleOf 3)  -- 3
-    ∷ callMeasure (replicate 16 0) (axisOf (reference 8)) (Bit 2)  -- 9
-    ∷ callMeasure (replicate 16 0) (axisOf (reference 8)) NoTarget
-    ∷ callConditional (replicate 16 0) (axisOf (reference 8)) (angleOf 5) (measId 7 1)
-    ∷ callConditional (replicate 16 0) (axisOf (reference 8)) (angleOf 5) (measId 7 2)  -- 10
+    ∷ callRotate (axisOf (reference 13)) (angleOf 3)
+    ∷ lendOperations (9 ∷ [])
+    ∷ callRotate (axisOf (reference 13)) (angleOf 3)  -- 3
+    ∷ lendOperations (replicate 16 0)
+    ∷ callMeasure (axisOf (reference 8)) (Bit 2)  -- 9
+    ∷ callMeasure (axisOf (reference 8)) NoTarget
+    ∷ callConditional (axisOf (reference 8)) (angleOf 5) (measId 7 1)
+    ∷ callConditional (axisOf (reference 8)) (angleOf 5) (measId 7 2)  -- 10
     ∷ callExpand (replicate 2 0) (replicate 32 0) (replicate 30 0) (reference 24) 20
     ∷ []
 
@@ -158,15 +161,15 @@ measured : Input
 unfolding input
 measured = input 2 NoCap 8 20 (gate 0 0 0 0 ++ gate 12 0 1 0)
 
-called : flags calls (converted measured)
-    ≡ true ∷ false ∷ false ∷ true ∷ false ∷ false ∷ true ∷ false ∷ true ∷ false ∷ false ∷ true ∷ true ∷ false ∷ true ∷ []
+fed-gates : fed calls (converted measured) ≡ gateS 0 ∷ gateCz 0 1 ∷ gateH 1 ∷ []
 unfolding measured calls
-called = refl
+fed-gates = refl
 
 after : laters calls (converted measured)
     ≡ record {
       header = record { qubits = 2; cbits = 2; owner = 7; nodes = 8; operations = 4; measurements = 2 };
       nodes = 0 ∷ 0 ∷ 5 ∷ 0 ∷ 13 ∷ 0 ∷ 5 ∷ 1 ∷ 13 ∷ 1 ∷ 34 ∷ 4 ∷ 94 ∷ 16 ∷ 18 ∷ 12 ∷ [];
+      operations = 0 ∷ 0 ∷ 0 ∷ 0 ∷ 0 ∷ 0 ∷ 0 ∷ 0 ∷ 1 ∷ 8 ∷ 1 ∷ 0 ∷ 22 ∷ 8 ∷ 1 ∷ 0 ∷ [];
       frame = 24 ∷ 16 ∷ 4 ∷ 28 ∷ 9 ∷ 9 ∷ 9 ∷ [];
     }
 unfolding measured calls

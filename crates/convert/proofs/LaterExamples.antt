@@ -1,10 +1,10 @@
 -- A conversion and later calls given as words, computed: which are accepted, and what they leave.
 use mathlib.Core.Path.{_≡_, refl}
-use mathlib.Core.Bool.{true, false}
 use mathlib.Core.List.{List, [], _∷_, _++_}
 use Prim.Native.Nat.{ℕ}
 use lib.ListN.{replicate}
 use Rattle.pauli.specs.Letters.{power}
+use Rattle.pauli.specs.Gates.{gateH, gateS, gateCz}
 use Rattle.pauli.specs.Rotations.{flush}
 use Rattle.pauli.specs.Table.{start, step}
 use Rattle.arena.specs.Errors.{_⟫_⇒_}
@@ -15,13 +15,13 @@ use Rattle.convert.specs.Plain.{begin, tested, exceeds, flushed, perform
 use Rattle.convert.specs.Frame.{startArena, pushed, multiplied, frameStep, qubitsOf, operandsChecked, frameGates, frameRun, cliffordCheck, cliffordStep}
 use Rattle.convert.specs.Words.{startWords, write, wordStep, wordRun}
 use Rattle.convert.specs.Conversion.{Input, gatesIn, plainEnd, tableEnd, wordEnd, recordChecked, recordsChecked, gatesCheck, convertCheck, convertWithin, convertStep, ConvertedMade, inputOf, gatesChecked, roomChecked}
-use Rattle.convert.specs.Later.{converted, accepts, later, laters, flags}
-use Rattle.convert.specs.LaterCalls.{callIn, wordsAt, operationsAfter, called, ranTo, callsTo, ran, callsOf, convertedCircuit, runStep}
+use Rattle.convert.specs.Later.{converted, later, laters, gatesOf, fed}
+use Rattle.convert.specs.LaterWords.{callIn, wordsAt, callsTo, callsIn, runStep}
 use Rattle.convert.specs.Circuits.{gate}
 
 -- n = 2, 2 classical bits, owner 7; h 0, measure 0 into 1; room for 8 nodes and 5 operations
 lent : Input
-unfolding power flush start step _⟫_⇒_ breaksLimit exceedsNodes exceedsOperations foreign unknown noNodeRoom noOperationRoom singleCheck singleStep productCheck productStep rotateCheck rotateStep measureCheck measureStep conditionalCheck conditionalStep records kindOf lowerAs lower lowerFrom lowerAll begin tested exceeds flushed performAs plainStep plainRun rowsAfter tableRun startArena pushed multiplied frameStep qubitsOf operandsChecked frameGates frameRun cliffordCheck cliffordStep startWords write wordStep wordRun gatesIn plainEnd tableEnd wordEnd recordChecked recordsChecked gatesCheck gatesChecked convertCheck roomChecked convertWithin convertStep converted accepts later laters flags callIn wordsAt operationsAfter called ranTo callsTo ran callsOf convertedCircuit runStep
+unfolding power flush start step _⟫_⇒_ breaksLimit exceedsNodes exceedsOperations foreign unknown noNodeRoom noOperationRoom singleCheck singleStep productCheck productStep rotateCheck rotateStep measureCheck measureStep conditionalCheck conditionalStep records kindOf lowerAs lower lowerFrom lowerAll begin tested exceeds flushed performAs plainStep plainRun rowsAfter tableRun startArena pushed multiplied frameStep qubitsOf operandsChecked frameGates frameRun cliffordCheck cliffordStep startWords write wordStep wordRun gatesIn plainEnd tableEnd wordEnd recordChecked recordsChecked gatesCheck gatesChecked convertCheck roomChecked convertWithin convertStep converted later laters gatesOf fed callIn wordsAt callsTo callsIn runStep
 lent = inputOf 2 2 7 NoCap (gate 0 0 0 0 ++ gate 12 0 1 0) (replicate 16 9) (replicate 20 9) (replicate 5 9) []
 
 words : List ℕ
@@ -40,10 +40,9 @@ words =
     ++ (0 ∷ 0 ∷ 1 ∷ 0 ∷ 0 ∷ 0 ∷ [])  -- h 1
     ++ (0 ∷ 0 ∷ [])  -- fewer than six
 
-accepted-calls : flags (callsOf words (convertedCircuit lent)) (converted lent)
-    ≡ true ∷ false ∷ true ∷ false ∷ true ∷ false ∷ true ∷ false ∷ true ∷ true ∷ false ∷ true ∷ []
+accepted-gates : fed (callsIn words) (converted lent) ≡ gateS 0 ∷ gateCz 0 1 ∷ gateH 1 ∷ []
 unfolding lent words
-accepted-calls = refl
+accepted-gates = refl
 
 left : runStep lent words
     ≡ record {

@@ -29,8 +29,8 @@ use Rattle.convert.specs.Frame.{Arena, frameGates, namesUnused, clifford
 use Rattle.convert.specs.Words.{Words, decoded, meaning, opsFrom, operationsIn, wordRun, startWords}
 use Rattle.convert.specs.Needs.{needRun, placeRun, gatesFrom, cliffords}
 use Rattle.convert.specs.Conversion.{limits, Input, gatesIn, plainEnd, tableEnd, paperEnd, wordEnd, convertCheck, convertedHeader, ConvertedMade, ConvertedRefused, convertWithin, convertStep}
-use Rattle.convert.specs.Later.{Store, converted, Call, callFrame, later, laters}
-use Rattle.convert.specs.Statement.{Capped, Frame, Means, imageAt, images, Converts, endTable, endGates, Demand3}
+use Rattle.convert.specs.Later.{Circuit, converted, LaterCall, callFrame, later, laters}
+use Rattle.convert.specs.Statement.{Capped, Frame, Means, frameImages, Converts, endTable, endGates, Demand3}
 use Rattle.convert.specs.Lowering.{ruleY, ruleSx, ruleSwap, ruleCy, loweredActs}
 use Rattle.convert.specs.Circuits.{HandCircuits}
 use Rattle.convert.proofs.Nodes.{image-append}
@@ -90,9 +90,9 @@ capped-input : (x : Input) → convertCheck limits x ≡ Fine → Capped (x .cap
 unfolding paperEnd gatesIn lowerAll
 capped-input x e = capped (x .qubits) (x .cbits) 0 (x .cap) (records (x .gates)) (accepted limits x e .proper) (accepted limits x e .cap)
 
--- ---- the frame words of a store, read through all its words
+-- ---- the frame words of a circuit, read through all its words
 
-module _ (n : ℕ) (s : Store) (t : List Row) (q : s .header .qubits ≡ n) (S : Shows n (opened (s .header) (s .nodes) (s .frame)) t) where
+module _ (n : ℕ) (s : Circuit) (t : List Row) (q : s .header .qubits ≡ n) (S : Shows n (opened (s .header) (s .nodes) (s .frame)) t) where
   all-words : Arena
   all-words = record { count = s .header .nodes; nodes = s .nodes; frame = s .frame }
 
@@ -104,19 +104,12 @@ module _ (n : ℕ) (s : Store) (t : List Row) (q : s .header .qubits ≡ n) (S :
         (take-all (2 * s .header .nodes) (take (2 * s .header .nodes) (s .nodes)) (omega (arith, S .even)));
   }
 
-  images-are : images s ≡ t
-  unfolding images all-words
+  images-are : frameImages s ≡ t
+  unfolding frameImages all-words
   images-are =
       ap (λ m. map (image m (s .header .nodes) (s .nodes)) (take (2 * s .header .qubits) (s .frame))) q
       ∙ kept-map n (opened (s .header) (s .nodes) (s .frame)) all-words through (take (2 * s .header .qubits) (s .frame)) (S .under)
       ∙ S .rows
-
-  image-is : (j : ℕ) → j < n + n → imageAt s j ≡ getD t j (identity n)
-  unfolding all-words
-  image-is j hj =
-      ap₂ (λ m w. image m (s .header .nodes) (s .nodes) w) q (sym (getD-take (2 * s .header .qubits) (s .frame) j 0 (omega arith)))
-      ∙ through .same _ (word-under n (opened (s .header) (s .nodes) (s .frame)) t S j)
-      ∙ shown n (opened (s .header) (s .nodes) (s .frame)) t S j hj
 
 -- ---- a frame gate by itself, on whatever words it is lent
 
@@ -127,10 +120,10 @@ under-named k (w ∷ ws) e =
     (omega arith, under-named k ws (right-false (leb k (w / 4)) _ e))
 
 -- each row of images is rewritten by the rule of the gate
-pub frame-gate : (s : Store) (k a b : ℕ) → cliffordCheck (s .header) (length (s .nodes)) (s .frame) k a b ≡ Fine
-    → images (later (callFrame k a b) s) ≡ run (s .header .qubits) (frameGates (kindOf k) a b) (images s)
+pub frame-gate : (s : Circuit) (k a b : ℕ) → cliffordCheck (s .header) (length (s .nodes)) (s .frame) k a b ≡ Fine
+    → frameImages (later (callFrame k a b) s) ≡ run (s .header .qubits) (frameGates (kindOf k) a b) (frameImages s)
 frame-gate s k a b e =
-    ap images (later-framed s k a b e)
+    ap frameImages (later-framed s k a b e)
     ∙ images-are n (framed (frameGates (kindOf k) a b) s) _ refl (shows-framed s t (frameGates (kindOf k) a b) (f .valid) S)
     ∙ ap (run n (frameGates (kindOf k) a b)) (sym (images-are n s t refl S))
   where
@@ -196,29 +189,21 @@ table-input : (x : Input) → plainEnd x .table ≡ tableEnd x
 unfolding plainEnd tableEnd begin
 table-input x = table-run flush (x .qubits) (x .cap) (gatesIn x) (begin (x .qubits))
 
-pub demand3 : (x : Input) → convertCheck limits x ≡ Fine → (cs : List Call) → Demand3 x cs (laters cs (converted x))
+pub demand3 : (x : Input) → convertCheck limits x ≡ Fine → (cs : List LaterCall) → Demand3 x cs (laters cs (converted x))
 unfolding endTable endGates
-demand3 x e cs = record {
-  rows = image-is n s (endTable x cs) (G .qubits) (G .shows);
-  conjugated = all ∙ F .conjugated;
-  signed = λ j hj. ap (λ P. real (P .phase)) (image-is n s (endTable x cs) (G .qubits) (G .shows) j hj) ∙ F .signed j hj;
-  independent = λ us vs lu lv ne. subst (λ t. productOver n us t .letters ≢ productOver n vs t .letters) (sym all) (F .independent us vs lu lv ne);
-}
+demand3 x e cs = record { rows = all; frame = subst (λ t. Frame n (endGates x cs) t) (sym (all ∙ G .table-of)) (frame-table n (endGates x cs) (G .valid)) }
   where
     n : ℕ
     n = x .qubits
 
-    s : Store
+    s : Circuit
     s = laters cs (converted x)
 
     G : Good n s (endTable x cs) (endGates x cs)
-    G = good-laters n cs (converted x) (tableEnd x) (paperEnd x .since)
-        (subst (λ t. Good n (converted x) t (paperEnd x .since)) (table-input x) (subst (λ gs. Good n (converted x) (plainEnd x .table) gs) (agrees-input x e .pending) (good-converted x e)))
+    G = good-laters n cs (converted x) (tableEnd x) (bare (plainEnd x .pending))
+        (subst (λ t. Good n (converted x) t (bare (plainEnd x .pending))) (table-input x) (good-converted x e))
 
-    F : Frame n (endGates x cs) (endTable x cs)
-    F = subst (λ t. Frame n (endGates x cs) t) (sym (G .table-of)) (frame-table n (endGates x cs) (G .valid))
-
-    all : images s ≡ endTable x cs
+    all : frameImages s ≡ endTable x cs
     all = images-are n s (endTable x cs) (G .qubits) (G .shows)
 
 -- ---- acceptance and refusal

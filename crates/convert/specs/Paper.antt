@@ -56,15 +56,15 @@ writes n gs m (elCcx a b d) = rotateAll sevenAngles (axes n gs (elCcx a b d))
 writes n gs m (elCcz a b d) = rotateAll sevenAngles (axes n gs (elCcz a b d))
 writes n gs m (elMeasure q k) = measureFirst m (Bit k) (axes n gs (elMeasure q k))
 
-abbrev pub adds : Paper → List Operation → Paper
-adds p os = record { since = p .since; operations = p .operations ++ os; given = p .given }
+abbrev pub paperAdds : Paper → List Operation → Paper
+paperAdds p os = record { since = p .since; operations = p .operations ++ os; given = p .given }
 
 unfoldable pub paperPerform : ℕ → Elementary → Paper → Paper
 paperPerform n (clifford g) p = record { since = p .since ++ g ∷ []; operations = p .operations; given = p .given }
-paperPerform n (elT q) p = adds p (writes n (p .since) (p .given) (elT q))
-paperPerform n (elTdg q) p = adds p (writes n (p .since) (p .given) (elTdg q))
-paperPerform n (elCcx a b d) p = adds p (writes n (p .since) (p .given) (elCcx a b d))
-paperPerform n (elCcz a b d) p = adds p (writes n (p .since) (p .given) (elCcz a b d))
+paperPerform n (elT q) p = paperAdds p (writes n (p .since) (p .given) (elT q))
+paperPerform n (elTdg q) p = paperAdds p (writes n (p .since) (p .given) (elTdg q))
+paperPerform n (elCcx a b d) p = paperAdds p (writes n (p .since) (p .given) (elCcx a b d))
+paperPerform n (elCcz a b d) p = paperAdds p (writes n (p .since) (p .given) (elCcz a b d))
 paperPerform n (elMeasure q k) p = record { since = p .since; operations = p .operations ++ writes n (p .since) (p .given) (elMeasure q k); given = suc (p .given) }
 
 abbrev pub paperFlushed : (ℕ → List Gate → List Rotation) → ℕ → Paper → Paper

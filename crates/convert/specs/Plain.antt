@@ -24,8 +24,11 @@ pub record Plain : Type 0 where
   pub operations : List Operation
   pub given : ℕ
 
+abbrev pub plainOf : List Row → List (Placed Gate) → List Operation → ℕ → Plain
+plainOf t gs os m = record { table = t; pending = gs; operations = os; given = m }
+
 unfoldable pub begin : ℕ → Plain
-begin n = record { table = start n; pending = []; operations = []; given = 0 }
+begin n = plainOf (start n) [] [] 0
 
 -- ---- the seven rows of ccx and ccz
 
@@ -77,29 +80,20 @@ asRotation r = rotateBy (r .angle) (r .axis)
 
 -- the pending gates are written in order on identity images, then the table starts again
 unfoldable pub flushed : (ℕ → List Gate → List Rotation) → ℕ → Plain → Plain
-flushed flush n p = record {
-  table = start n;
-  pending = [];
-  operations = p .operations ++ map asRotation (flush n (bare (p .pending)));
-  given = p .given;
-}
+flushed flush n p = plainOf (start n) [] (p .operations ++ map asRotation (flush n (bare (p .pending)))) (p .given)
 
 abbrev pub adds : Plain → List Operation → Plain
-adds p os = record { table = p .table; pending = p .pending; operations = p .operations ++ os; given = p .given }
+adds p os = plainOf (p .table) (p .pending) (p .operations ++ os) (p .given)
 
 -- an elementary gate that is part j of record i
 unfoldable pub performAs : ℕ → ℕ → ℕ → Elementary → Plain → Plain
-performAs n i j (clifford g) p = record { table = step n g (p .table); pending = p .pending ++ placed i j g ∷ []; operations = p .operations; given = p .given }
+performAs n i j (clifford g) p = plainOf (step n g (p .table)) (p .pending ++ placed i j g ∷ []) (p .operations) (p .given)
 performAs n i j (elT q) p = adds p (rotateBy 1 (zRow n (p .table) q) ∷ [])
 performAs n i j (elTdg q) p = adds p (rotateBy 7 (zRow n (p .table) q) ∷ [])
 performAs n i j (elCcx a b d) p = adds p (rotateSeven (zRow n (p .table) a) (zRow n (p .table) b) (xRow n (p .table) d))
 performAs n i j (elCcz a b d) p = adds p (rotateSeven (zRow n (p .table) a) (zRow n (p .table) b) (zRow n (p .table) d))
-performAs n i j (elMeasure q k) p = record {
-  table = p .table;
-  pending = p .pending;
-  operations = p .operations ++ measureOf (zRow n (p .table) q) (p .given) (Bit k) ∷ [];
-  given = suc (p .given);
-}
+performAs n i j (elMeasure q k) p =
+    plainOf (p .table) (p .pending) (p .operations ++ measureOf (zRow n (p .table) q) (p .given) (Bit k) ∷ []) (suc (p .given))
 
 abbrev pub perform : ℕ → Placed Elementary → Plain → Plain
 perform n e p = performAs n (e .index) (e .part) (e .gate) p

@@ -2,21 +2,21 @@
 use mathlib.Core.Path.{_≡_}
 use mathlib.Core.Logic.{_≢_}
 use mathlib.Core.Bool.{Bool, true}
-use mathlib.Core.List.{List, [], _∷_, map}
+use mathlib.Core.List.{List, [], _∷_, _++_, map}
 use Prim.Native.Nat.{ℕ, _+_, _*_, _%_, _<_, _≤_}
 use lib.ListN.{length, getD, take}
 use Rattle.pauli.specs.Letters.{real}
 use Rattle.pauli.specs.Rows.{Row, identity, weight}
 use Rattle.pauli.specs.Gates.{Gate, back}
-use Rattle.pauli.specs.Table.{start, productOver}
+use Rattle.pauli.specs.Table.{start, run, productOver}
 use Rattle.arena.specs.Nodes.{image}
 use Rattle.convert.specs.Records.{Cap, NoCap, AtMost, bare}
 use Rattle.convert.specs.Plain.{Operation, rotateBy, measureOf, conditionalBy, malformed, Plain}
 use Rattle.convert.specs.Paper.{AllHermitian}
 use Rattle.convert.specs.Frame.{word}
 use Rattle.convert.specs.Words.{Words, decoded, meaning, operationsIn}
-use Rattle.convert.specs.Conversion.{Input, tableEnd, paperEnd, convertedHeader, convertStep}
-use Rattle.convert.specs.Later.{Store, converted, Call, flags, fed, fedGates}
+use Rattle.convert.specs.Conversion.{Input, plainEnd, tableEnd, paperEnd, convertedHeader, convertStep}
+use Rattle.convert.specs.Later.{Circuit, converted, LaterCall, fed}
 
 -- rows that are U† P U for U the gates gs and P the X or Z of each place, with sign +1 or -1, and independent
 pub record Frame (n : ℕ) (gs : List Gate) (t : List Row) : Type 0 where
@@ -31,13 +31,9 @@ pub record Means (n owner cbits : ℕ) (p : Plain) (w : Words) : Type 0 where
   pub operations : map (λ o. meaning n (w .arena .count) (w .arena .nodes) (decoded owner cbits o)) (w .ops) ≡ p .operations
   pub frame : Frame n (bare (p .pending)) (p .table)
 
--- what frame word j of a store stands for, read through its used nodes
-abbrev pub imageAt : Store → ℕ → Row
-imageAt s j = image (s .header .qubits) (s .header .nodes) (s .nodes) (getD (s .frame) j 0)
-
--- the images of the 2n frame words
-unfoldable pub images : Store → List Row
-images s = map (image (s .header .qubits) (s .header .nodes) (s .nodes)) (take (2 * s .header .qubits) (s .frame))
+-- the images of the 2n frame words, read through the used nodes
+unfoldable pub frameImages : Circuit → List Row
+frameImages s = map (image (s .header .qubits) (s .header .nodes) (s .nodes)) (take (2 * s .header .qubits) (s .frame))
 
 -- an axis with an odd angle, or measured, has at most so many letters other than I
 abbrev pub Within : ℕ → Operation → Type 0
@@ -60,23 +56,18 @@ pub record Converts (x : Input) : Type 0 where
   pub hermitian : AllHermitian (paperEnd x .operations)
   pub capped : Capped (x .cap) (paperEnd x .operations)
   pub measurements : convertedHeader x .measurements ≡ paperEnd x .given
-  pub frame : Frame (x .qubits) (paperEnd x .since) (images (converted x))
+  pub frame : Frame (x .qubits) (paperEnd x .since) (frameImages (converted x))
 
 -- the plain table after a conversion and later calls, and the frame gates since the last flush
-unfoldable pub endTable : Input → List Call → List Row
-endTable x cs = fed (x .qubits) cs (flags cs (converted x)) (tableEnd x)
+unfoldable pub endTable : Input → List LaterCall → List Row
+endTable x cs = run (x .qubits) (fed cs (converted x)) (tableEnd x)
 
-unfoldable pub endGates : Input → List Call → List Gate
-endGates x cs = fedGates cs (flags cs (converted x)) (paperEnd x .since)
+unfoldable pub endGates : Input → List LaterCall → List Gate
+endGates x cs = bare (plainEnd x .pending) ++ fed cs (converted x)
 
--- Demand 3: for a conversion that is accepted, any later calls, and the store that they leave
-pub record Demand3 (x : Input) (cs : List Call) (s : Store) : Type 0 where
-  -- place by place, the image is the plain table's row
-  pub rows : (j : ℕ) → j < x .qubits + x .qubits → imageAt s j ≡ getD (endTable x cs) j (identity (x .qubits))
-  -- it is U† P U for the frame gates U since the last flush
-  pub conjugated : images s ≡ map (back (endGates x cs)) (start (x .qubits))
-  -- its sign is +1 or -1
-  pub signed : (j : ℕ) → j < x .qubits + x .qubits → real (imageAt s j .phase) ≡ true
-  -- two different sets of places have products with different letters
-  pub independent : (us vs : List Bool) → length us ≡ x .qubits + x .qubits → length vs ≡ x .qubits + x .qubits → us ≢ vs
-      → productOver (x .qubits) us (images s) .letters ≢ productOver (x .qubits) vs (images s) .letters
+-- Demand 3: for a conversion that is accepted, any later calls, and the circuit that they leave
+pub record Demand3 (x : Input) (cs : List LaterCall) (s : Circuit) : Type 0 where
+  -- the images are the rows of the plain table
+  pub rows : frameImages s ≡ endTable x cs
+  -- they are U† P U for the frame gates U since the last flush, each of sign +1 or -1, and independent
+  pub frame : Frame (x .qubits) (endGates x cs) (frameImages s)

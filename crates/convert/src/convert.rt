@@ -15,9 +15,10 @@ ghost use mathlib.Core.Path.{_≡_};
 ghost use mathlib.Core.Bool.{true};
 ghost use Prim.Native.Nat.{_+_, _*_, _≤_};
 ghost use lib.ListN.{length};
+ghost use Rattle.arena.specs.Builder.{headerOf};
 ghost use Rattle.convert.specs.Planes.{partWords};
-ghost use Rattle.convert.specs.Conversion.{convertStep, inputOf};
-ghost use Rattle.convert.specs.Code.Raw.{isCapped, Fits, NeedsChecked, headerOf};
+ghost use Rattle.convert.specs.Conversion.{convertStep, convertOf, inputOf};
+ghost use Rattle.convert.specs.Code.Raw.{isCapped, Fits, NeedsChecked};
 
 /// What `to_pbc` answers.
 pub enum Converted {
@@ -96,11 +97,10 @@ pub fn to_pbc(
     frame: &mut [u32],
     planes: &mut [u64],
 ) -> Converted
-    ensures { λ r. ⌜ r ≡ convertStep (inputOf qubits cbits owner cap (now (gates .entry)) (now (nodes .entry)) (now (operations .entry)) (now (frame .entry)) (now (planes .entry))) .answer ⌝ }
-    ensures { λ r. ⌜ now (nodes .exit) ≡ convertStep (inputOf qubits cbits owner cap (now (gates .entry)) (now (nodes .entry)) (now (operations .entry)) (now (frame .entry)) (now (planes .entry))) .nodes ⌝ }
-    ensures { λ r. ⌜ now (operations .exit) ≡ convertStep (inputOf qubits cbits owner cap (now (gates .entry)) (now (nodes .entry)) (now (operations .entry)) (now (frame .entry)) (now (planes .entry))) .operations ⌝ }
-    ensures { λ r. ⌜ now (frame .exit) ≡ convertStep (inputOf qubits cbits owner cap (now (gates .entry)) (now (nodes .entry)) (now (operations .entry)) (now (frame .entry)) (now (planes .entry))) .frame ⌝ }
-    ensures { λ r. ⌜ now (planes .exit) ≡ convertStep (inputOf qubits cbits owner cap (now (gates .entry)) (now (nodes .entry)) (now (operations .entry)) (now (frame .entry)) (now (planes .entry))) .planes ⌝ }
+    ensures { λ r. ⌜
+        convertOf r (now (nodes .exit)) (now (operations .exit)) (now (frame .exit)) (now (planes .exit))
+        ≡ convertStep
+        (inputOf qubits cbits owner cap (now (gates .entry)) (now (nodes .entry)) (now (operations .entry)) (now (frame .entry)) (now (planes .entry))) ⌝ }
 {
     let checked = check_gates(qubits, cbits, cap, gates, planes.len());
     if let Checked::Wrong(error) = checked {

@@ -17,16 +17,15 @@ use arena::Target;
 use pauli::Pauli;
 use pauli::PauliAngle;
 ghost use mathlib.Core.Path.{_≡_};
-ghost use Prim.Native.Nat.{_+_, _*_, _/_, _%_, _<_};
+ghost use mathlib.Core.List.{List};
+ghost use Prim.Native.Nat.{ℕ, _+_, _*_, _/_, _%_, _<_};
 ghost use lib.ListN.{length, getD};
 ghost use Rattle.pauli.specs.Letters.{pauliOf};
 ghost use Rattle.pauli.specs.Angle.{angleOf};
 ghost use Rattle.arena.specs.Operations.{targetOf, measId};
-ghost use Rattle.arena.specs.Builder.{singleStep, productStep, rotateStep, measureStep, conditionalStep};
-ghost use Rattle.convert.specs.Frame.{cliffordStep};
-ghost use Rattle.convert.specs.Conversion.{ConvertedMade, inputOf};
-ghost use Rattle.convert.specs.Later.{headerFrame, headerSingle, headerProduct, headerPushed, headerMeasured};
-ghost use Rattle.convert.specs.LaterCalls.{low, refIn, axisIn, callIn, wordsAt, circuitOf, called, ran, storeOf, callsOf, convertedCircuit, runStep};
+ghost use Rattle.convert.specs.Conversion.{ConvertedMade, inputOf, convertOf};
+ghost use Rattle.convert.specs.Later.{circuitOf, later, laters};
+ghost use Rattle.convert.specs.LaterWords.{low, refIn, axisIn, callAs, callIn, wordsAt, callsIn, runStep};
 ghost use Rattle.convert.specs.Statement.{Demand3};
 
 /// The words of a call. By kind:
@@ -95,59 +94,12 @@ fn target_in(w: u64) -> Target
     bit_in(low_word(w))
 }
 
-// ---- the header after a call: the one answered, or the one before where the call refuses
-
-fn after_frame(answer: FramePushed, old: Header) -> Header
-    ensures { λ r. ⌜ r ≡ headerFrame answer old ⌝ }
-{
-    match answer {
-        FramePushed::Made(made) => made,
-        FramePushed::Refused(_) => old,
-    }
-}
-
-fn after_single(answer: Singled, old: Header) -> Header
-    ensures { λ r. ⌜ r ≡ headerSingle answer old ⌝ }
-{
-    match answer {
-        Singled::Made(made, _) => made,
-        Singled::Refused(_) => old,
-    }
-}
-
-fn after_product(answer: Multiplied, old: Header) -> Header
-    ensures { λ r. ⌜ r ≡ headerProduct answer old ⌝ }
-{
-    match answer {
-        Multiplied::Made(made, _) => made,
-        Multiplied::Refused(_) => old,
-    }
-}
-
-fn after_pushed(answer: Pushed, old: Header) -> Header
-    ensures { λ r. ⌜ r ≡ headerPushed answer old ⌝ }
-{
-    match answer {
-        Pushed::Made(made) => made,
-        Pushed::Refused(_) => old,
-    }
-}
-
-fn after_measured(answer: Measured, old: Header) -> Header
-    ensures { λ r. ⌜ r ≡ headerMeasured answer old ⌝ }
-{
-    match answer {
-        Measured::Made(made, _) => made,
-        Measured::Refused(_) => old,
-    }
-}
-
-// ---- one call
+// ---- one call: the header answered, or the one before where the call refuses
 
 fn run_frame(header: Header, nodes: &mut [u32], frame: &mut [u32], w: CallWords) -> Header
-    ensures { λ r. ⌜ r ≡ headerFrame (cliffordStep header (now (nodes .entry)) (now (frame .entry)) (low (w .a)) (low (w .b)) (low (w .c)) .answer) header ⌝ }
-    ensures { λ r. ⌜ now (nodes .exit) ≡ cliffordStep header (now (nodes .entry)) (now (frame .entry)) (low (w .a)) (low (w .b)) (low (w .c)) .words .nodes ⌝ }
-    ensures { λ r. ⌜ now (frame .exit) ≡ cliffordStep header (now (nodes .entry)) (now (frame .entry)) (low (w .a)) (low (w .b)) (low (w .c)) .words .frame ⌝ }
+    ensures { λ r. ⌜ ((operations : List ℕ) →
+        circuitOf r (now (nodes .exit)) operations (now (frame .exit))
+        ≡ later (callAs 0 w) (circuitOf header (now (nodes .entry)) operations (now (frame .entry)))) ⌝ }
 {
     let answer = push_output_clifford(
         header,
@@ -157,44 +109,59 @@ fn run_frame(header: Header, nodes: &mut [u32], frame: &mut [u32], w: CallWords)
         low_word(w.b),
         low_word(w.c),
     );
-    after_frame(answer, header)
+    match answer {
+        FramePushed::Made(made) => made,
+        FramePushed::Refused(_) => header,
+    }
 }
 
 fn run_single(header: Header, nodes: &mut [u32], w: CallWords) -> Header
-    ensures { λ r. ⌜ r ≡ headerSingle (singleStep header (now (nodes .entry)) (low (w .a)) (pauliOf (w .b % 4)) .answer) header ⌝ }
-    ensures { λ r. ⌜ now (nodes .exit) ≡ singleStep header (now (nodes .entry)) (low (w .a)) (pauliOf (w .b % 4)) .words ⌝ }
+    ensures { λ r. ⌜ ((operations frame : List ℕ) →
+        circuitOf r (now (nodes .exit)) operations frame ≡ later (callAs 1 w) (circuitOf header (now (nodes .entry)) operations frame)) ⌝ }
 {
     let answer = header.single(nodes, low_word(w.a), letter_in(w.b));
-    after_single(answer, header)
+    match answer {
+        Singled::Made(made, _) => made,
+        Singled::Refused(_) => header,
+    }
 }
 
 fn run_product(header: Header, nodes: &mut [u32], w: CallWords) -> Header
-    ensures { λ r. ⌜ r ≡ headerProduct (productStep header (now (nodes .entry)) (refIn (w .a) (w .b)) (refIn (w .c) (w .d)) .answer) header ⌝ }
-    ensures { λ r. ⌜ now (nodes .exit) ≡ productStep header (now (nodes .entry)) (refIn (w .a) (w .b)) (refIn (w .c) (w .d)) .words ⌝ }
+    ensures { λ r. ⌜ ((operations frame : List ℕ) →
+        circuitOf r (now (nodes .exit)) operations frame ≡ later (callAs 2 w) (circuitOf header (now (nodes .entry)) operations frame)) ⌝ }
 {
     let answer = header.product(nodes, ref_in(w.a, w.b), ref_in(w.c, w.d));
-    after_product(answer, header)
+    match answer {
+        Multiplied::Made(made, _) => made,
+        Multiplied::Refused(_) => header,
+    }
 }
 
 fn run_rotate(header: Header, operations: &mut [u32], w: CallWords) -> Header
-    ensures { λ r. ⌜ r ≡ headerPushed (rotateStep header (now (operations .entry)) (axisIn (w .a) (w .b)) (angleOf (w .c)) .answer) header ⌝ }
-    ensures { λ r. ⌜ now (operations .exit) ≡ rotateStep header (now (operations .entry)) (axisIn (w .a) (w .b)) (angleOf (w .c)) .words ⌝ }
+    ensures { λ r. ⌜ ((nodes frame : List ℕ) →
+        circuitOf r nodes (now (operations .exit)) frame ≡ later (callAs 3 w) (circuitOf header nodes (now (operations .entry)) frame)) ⌝ }
 {
     let answer = header.rotate(operations, axis_in(w.a, w.b), angle_in(w.c));
-    after_pushed(answer, header)
+    match answer {
+        Pushed::Made(made) => made,
+        Pushed::Refused(_) => header,
+    }
 }
 
 fn run_measure(header: Header, operations: &mut [u32], w: CallWords) -> Header
-    ensures { λ r. ⌜ r ≡ headerMeasured (measureStep header (now (operations .entry)) (axisIn (w .a) (w .b)) (targetOf (low (w .c))) .answer) header ⌝ }
-    ensures { λ r. ⌜ now (operations .exit) ≡ measureStep header (now (operations .entry)) (axisIn (w .a) (w .b)) (targetOf (low (w .c))) .words ⌝ }
+    ensures { λ r. ⌜ ((nodes frame : List ℕ) →
+        circuitOf r nodes (now (operations .exit)) frame ≡ later (callAs 4 w) (circuitOf header nodes (now (operations .entry)) frame)) ⌝ }
 {
     let answer = header.measure(operations, axis_in(w.a, w.b), target_in(w.c));
-    after_measured(answer, header)
+    match answer {
+        Measured::Made(made, _) => made,
+        Measured::Refused(_) => header,
+    }
 }
 
 fn run_conditional(header: Header, operations: &mut [u32], w: CallWords) -> Header
-    ensures { λ r. ⌜ r ≡ headerPushed (conditionalStep header (now (operations .entry)) (axisIn (w .a) (w .b)) (angleOf (w .c)) (measId (w .d) (low (w .e))) .answer) header ⌝ }
-    ensures { λ r. ⌜ now (operations .exit) ≡ conditionalStep header (now (operations .entry)) (axisIn (w .a) (w .b)) (angleOf (w .c)) (measId (w .d) (low (w .e))) .words ⌝ }
+    ensures { λ r. ⌜ ((nodes frame : List ℕ) →
+        circuitOf r nodes (now (operations .exit)) frame ≡ later (callAs 5 w) (circuitOf header nodes (now (operations .entry)) frame)) ⌝ }
 {
     let answer = header.conditional_rotate(
         operations,
@@ -202,7 +169,10 @@ fn run_conditional(header: Header, operations: &mut [u32], w: CallWords) -> Head
         angle_in(w.c),
         measurement_in(w.d, w.e),
     );
-    after_pushed(answer, header)
+    match answer {
+        Pushed::Made(made) => made,
+        Pushed::Refused(_) => header,
+    }
 }
 
 fn word_at(calls: &[u64], i: usize, part: usize) -> u64
@@ -234,7 +204,9 @@ fn run_call(
     operations: &mut [u32],
     frame: &mut [u32],
 ) -> Header
-    ensures { λ r. ⌜ circuitOf r (now (nodes .exit)) (now (operations .exit)) (now (frame .exit)) ≡ called (callIn (now (operations .entry)) w) (circuitOf header (now (nodes .entry)) (now (operations .entry)) (now (frame .entry))) ⌝ }
+    ensures { λ r. ⌜
+        circuitOf r (now (nodes .exit)) (now (operations .exit)) (now (frame .exit))
+        ≡ later (callIn w) (circuitOf header (now (nodes .entry)) (now (operations .entry)) (now (frame .entry))) ⌝ }
 {
     let kind = w.kind;
     match kind {
@@ -247,7 +219,7 @@ fn run_call(
     }
 }
 
-/// The calls in turn; the header after the last. A call that refuses changes nothing. O(calls), and O(qubits) a frame gate. Promise: `ran`.
+/// The calls in turn; the header after the last. A call that refuses changes nothing. O(calls), and O(qubits) a frame gate. Promise: `laters`.
 pub fn run_calls(
     header: Header,
     calls: &[u64],
@@ -255,10 +227,9 @@ pub fn run_calls(
     operations: &mut [u32],
     frame: &mut [u32],
 ) -> Header
-    ensures { λ r. ⌜ r ≡ ran (now (calls .entry)) (circuitOf header (now (nodes .entry)) (now (operations .entry)) (now (frame .entry))) .store .header ⌝ }
-    ensures { λ r. ⌜ now (nodes .exit) ≡ ran (now (calls .entry)) (circuitOf header (now (nodes .entry)) (now (operations .entry)) (now (frame .entry))) .store .nodes ⌝ }
-    ensures { λ r. ⌜ now (operations .exit) ≡ ran (now (calls .entry)) (circuitOf header (now (nodes .entry)) (now (operations .entry)) (now (frame .entry))) .operations ⌝ }
-    ensures { λ r. ⌜ now (frame .exit) ≡ ran (now (calls .entry)) (circuitOf header (now (nodes .entry)) (now (operations .entry)) (now (frame .entry))) .store .frame ⌝ }
+    ensures { λ r. ⌜
+        circuitOf r (now (nodes .exit)) (now (operations .exit)) (now (frame .exit))
+        ≡ laters (callsIn (now (calls .entry))) (circuitOf header (now (nodes .entry)) (now (operations .entry)) (now (frame .entry))) ⌝ }
 {
     let count = calls.len() / 6;
     let mut last = header;
@@ -271,7 +242,7 @@ pub fn run_calls(
     last
 }
 
-/// A conversion, and where it is accepted the calls in turn; the header after the last. Promise: `runStep`, and demand 3 of the store left.
+/// A conversion, and where it is accepted the calls in turn; the header after the last. Promise: `runStep`, and demand 3 of the circuit left.
 pub fn convert_and_run(
     qubits: u32,
     cbits: u32,
@@ -284,12 +255,15 @@ pub fn convert_and_run(
     frame: &mut [u32],
     planes: &mut [u64],
 ) -> Converted
-    ensures { λ r. ⌜ r ≡ runStep (inputOf qubits cbits owner cap (now (gates .entry)) (now (nodes .entry)) (now (operations .entry)) (now (frame .entry)) (now (planes .entry))) (now (calls .entry)) .answer ⌝ }
-    ensures { λ r. ⌜ now (nodes .exit) ≡ runStep (inputOf qubits cbits owner cap (now (gates .entry)) (now (nodes .entry)) (now (operations .entry)) (now (frame .entry)) (now (planes .entry))) (now (calls .entry)) .nodes ⌝ }
-    ensures { λ r. ⌜ now (operations .exit) ≡ runStep (inputOf qubits cbits owner cap (now (gates .entry)) (now (nodes .entry)) (now (operations .entry)) (now (frame .entry)) (now (planes .entry))) (now (calls .entry)) .operations ⌝ }
-    ensures { λ r. ⌜ now (frame .exit) ≡ runStep (inputOf qubits cbits owner cap (now (gates .entry)) (now (nodes .entry)) (now (operations .entry)) (now (frame .entry)) (now (planes .entry))) (now (calls .entry)) .frame ⌝ }
-    ensures { λ r. ⌜ now (planes .exit) ≡ runStep (inputOf qubits cbits owner cap (now (gates .entry)) (now (nodes .entry)) (now (operations .entry)) (now (frame .entry)) (now (planes .entry))) (now (calls .entry)) .planes ⌝ }
-    ensures { λ r. ⌜ ((h : Header) → r ≡ ConvertedMade h → Demand3 (inputOf qubits cbits owner cap (now (gates .entry)) (now (nodes .entry)) (now (operations .entry)) (now (frame .entry)) (now (planes .entry))) (callsOf (now (calls .entry)) (convertedCircuit (inputOf qubits cbits owner cap (now (gates .entry)) (now (nodes .entry)) (now (operations .entry)) (now (frame .entry)) (now (planes .entry))))) (storeOf h (now (nodes .exit)) (now (frame .exit)))) ⌝ }
+    ensures { λ r. ⌜
+        convertOf r (now (nodes .exit)) (now (operations .exit)) (now (frame .exit)) (now (planes .exit))
+        ≡ runStep
+        (inputOf qubits cbits owner cap (now (gates .entry)) (now (nodes .entry)) (now (operations .entry)) (now (frame .entry)) (now (planes .entry)))
+        (now (calls .entry)) ⌝ }
+    ensures { λ r. ⌜ ((h : Header) → r ≡ ConvertedMade h → Demand3
+        (inputOf qubits cbits owner cap (now (gates .entry)) (now (nodes .entry)) (now (operations .entry)) (now (frame .entry)) (now (planes .entry)))
+        (callsIn (now (calls .entry)))
+        (circuitOf h (now (nodes .exit)) (now (operations .exit)) (now (frame .exit)))) ⌝ }
 {
     let converted = to_pbc(
         qubits,

@@ -32,41 +32,30 @@ real PlusI = false
 real MinusOne = true
 real MinusI = false
 
--- the product of two letters is a phase and a letter; the letter
-abbrev pub _·_ : Pauli → Pauli → Pauli
-I · b = b
-X · I = X
-X · X = I
-X · Y = Z
-X · Z = Y
-Y · I = Y
-Y · X = Z
-Y · Y = I
-Y · Z = X
-Z · I = Z
-Z · X = Y
-Z · Y = X
-Z · Z = I
+abbrev pub phased : Phase → Pauli → PauliProduct
+phased p a = record { phase = p; pauli = a }
 
--- the phase: XY = iZ, YZ = iX, ZX = iY; reversed -i; none with I or an equal letter
-abbrev pub phaseOf : Pauli → Pauli → Phase
-phaseOf I b = One
-phaseOf X I = One
-phaseOf X X = One
-phaseOf X Y = PlusI
-phaseOf X Z = MinusI
-phaseOf Y I = One
-phaseOf Y X = MinusI
-phaseOf Y Y = One
-phaseOf Y Z = PlusI
-phaseOf Z I = One
-phaseOf Z X = PlusI
-phaseOf Z Y = MinusI
-phaseOf Z Z = One
-
--- both, as the code answers them
+-- the product of two letters, a phase and a letter: XY = iZ, YZ = iX, ZX = iY; reversed -i; equal letters give I; I is neutral
 abbrev pub productOf : Pauli → Pauli → PauliProduct
-productOf a b = record { phase = phaseOf a b; pauli = a · b }
+productOf I b = phased One b
+productOf X I = phased One X
+productOf X X = phased One I
+productOf X Y = phased PlusI Z
+productOf X Z = phased MinusI Y
+productOf Y I = phased One Y
+productOf Y X = phased MinusI Z
+productOf Y Y = phased One I
+productOf Y Z = phased PlusI X
+productOf Z I = phased One Z
+productOf Z X = phased PlusI Y
+productOf Z Y = phased MinusI X
+productOf Z Z = phased One I
+
+abbrev pub _·_ : Pauli → Pauli → Pauli
+a · b = productOf a b .pauli
+
+abbrev pub phaseOf : Pauli → Pauli → Phase
+phaseOf a b = productOf a b .phase
 
 -- ---- numbers
 

@@ -5,7 +5,7 @@ use mathlib.Core.Bool.{Bool, true, false, not}
 use mathlib.Core.List.{List, [], _∷_}
 use Prim.Native.Nat.{ℕ, zero, suc}
 use lib.ListN.{length, getD, set, replicate}
-use Rattle.pauli.specs.Letters.{Pauli, I, X, Y, Z, Phase, One, MinusOne, _⊕_, _·_, phaseOf}
+use Rattle.pauli.specs.Letters.{Pauli, I, X, Y, Z, Phase, One, MinusOne, _⊕_, real, _·_, phaseOf}
 
 infixl 70 _★_
 pub record Row : Type 0 where
@@ -68,21 +68,9 @@ abbrev pub weight : List Pauli → ℕ
 weight [] = 0
 weight (a ∷ us) = tally (present a) (weight us)
 
--- two different letters other than I: they anticommute
+-- two letters anticommute where their product has the phase i or -i: two different letters other than I
 abbrev pub anti : Pauli → Pauli → Bool
-anti I b = false
-anti X I = false
-anti X X = false
-anti X Y = true
-anti X Z = true
-anti Y I = false
-anti Y X = true
-anti Y Y = false
-anti Y Z = true
-anti Z I = false
-anti Z X = true
-anti Z Y = true
-anti Z Z = false
+anti a b = not (real (phaseOf a b))
 
 -- the number of places that hold two different letters other than I
 abbrev pub antiPlaces : List Pauli → List Pauli → ℕ

@@ -1,5 +1,4 @@
 -- `convert_and_run` meets its contract.
-use mathlib.Core.Path.{ap, sym, _∙_}
 use Rattle.convert.specs.Conversion.{inputOf}
 use Rattle.convert.proofs.LaterRuns.{run-made, run-refused, demand3-of}
 use borrow.Author.Needs.{needs}
@@ -40,24 +39,8 @@ returns c =
     let args = back24 .before .before .before .before .before .before .before .before .args in
     let x = inputOf (args .qubits) (args .cbits) (args .owner) (args .cap) (args .gates .now) (args .nodes .now) (args .operations .now)
     (args .frame .now) (args .planes .now) in
-    let p = run-made x (args .calls .now) _ _ _ _ (to-pbc .ensures .1 .0) (to-pbc .ensures .1 .1 .0) (to-pbc .ensures .1 .1 .1 .0)
-    (to-pbc .ensures .1 .1 .1 .1) _ _ _ _ _ (sym (converted .given .1) ∙ to-pbc .ensures .0) (run-calls .ensures .0) (run-calls .ensures .1 .0)
-    (run-calls .ensures .1 .1 .0) (run-calls .ensures .1 .1 .1) in (
-      ap (λ s. s .answer) p,
-      (
-        ap (λ s. s .nodes) p,
-        (
-          ap (λ s. s .operations) p,
-          (
-            ap (λ s. s .frame) p,
-            (
-              ap (λ s. s .planes) p,
-              demand3-of x (args .calls .now) _ p,
-            ),
-          ),
-        ),
-      ),
-    )
+    let p = run-made x (args .calls .now) _ _ _ _ _ _ _ _ _ _ (converted .given .1) (to-pbc .ensures) (run-calls .ensures) in
+    (p, demand3-of x (args .calls .now) _ p)
 
 same-length-5 : tie.Need-same-length-5
 same-length-5 c = search needs
@@ -79,23 +62,8 @@ returns-2 c =
     let args = back12 .before .before .before .before .before .before .before .before .before .before .args in
     let x = inputOf (args .qubits) (args .cbits) (args .owner) (args .cap) (args .gates .now) (args .nodes .now) (args .operations .now)
     (args .frame .now) (args .planes .now) in
-    let p = run-refused x (args .calls .now) _ _ _ _ (to-pbc .ensures .1 .0) (to-pbc .ensures .1 .1 .0) (to-pbc .ensures .1 .1 .1 .0)
-    (to-pbc .ensures .1 .1 .1 .1) _ (sym (converted2 .given .1) ∙ to-pbc .ensures .0) in (
-      ap (λ s. s .answer) p,
-      (
-        ap (λ s. s .nodes) p,
-        (
-          ap (λ s. s .operations) p,
-          (
-            ap (λ s. s .frame) p,
-            (
-              ap (λ s. s .planes) p,
-              demand3-of x (args .calls .now) _ p,
-            ),
-          ),
-        ),
-      ),
-    )
+    let p = run-refused x (args .calls .now) _ _ _ _ _ _ (converted2 .given .1) (to-pbc .ensures) in
+    (p, demand3-of x (args .calls .now) _ p)
 
 pub convert-and-run-spec : {M : Type 1} → statement M
 convert-and-run-spec =

@@ -1,7 +1,8 @@
 -- `run_call` meets its contract.
 use mathlib.Core.Path.{ap, sym, _∙_}
-use Rattle.convert.specs.LaterCalls.{circuitOf, callAs, callIn, called}
-use Rattle.convert.proofs.LaterRuns.{called-frame, called-single, called-product, called-rotate, called-measure, called-conditional, call-rest}
+use Rattle.convert.specs.Later.{circuitOf, later}
+use Rattle.convert.specs.LaterWords.{callAs, callIn}
+use Rattle.convert.proofs.LaterRuns.{call-rest}
 use borrow.Author.Needs.{needs}
 use Rattle.convert.proofs.later.run_call.Statement.{statement}
 use Rattle.convert.proofs.later.run_call.Tie as tie
@@ -36,10 +37,8 @@ returns c =
     let run-frame = c .before .before .before .before .run-frame in
     let the-match = c .before .before .before .before .before .before .before .match in
     let args = c .before .before .before .before .before .before .before .before .before .before .before .args in
-    called-frame (args .header) _ (args .nodes .now) (args .operations .now) (args .frame .now) (args .w) _ _ (run-frame .ensures .0)
-    (run-frame .ensures .1 .0) (run-frame .ensures .1 .1)
-    ∙ ap (λ k. called (callAs k (args .operations .now) (args .w)) (circuitOf (args .header) (args .nodes .now) (args .operations .now)
-    (args .frame .now))) (sym (the-match .keys1))
+    run-frame .ensures (args .operations .now)
+    ∙ ap (λ k. later (callAs k (args .w)) (circuitOf (args .header) (args .nodes .now) (args .operations .now) (args .frame .now))) (sym (the-match .keys1))
 
 same-length-3 : tie.Need-same-length-3
 same-length-3 c = search needs
@@ -50,10 +49,8 @@ returns-2 c =
     let run-single = c .before .before .run-single in
     let the-match = c .before .before .before .before .match in
     let args = c .before .before .before .before .before .before .before .before .args in
-    called-single (args .header) _ (args .nodes .now) (args .operations .now) (args .frame .now) (args .w) _ (run-single .ensures .0)
-    (run-single .ensures .1)
-    ∙ ap (λ k. called (callAs k (args .operations .now) (args .w)) (circuitOf (args .header) (args .nodes .now) (args .operations .now)
-    (args .frame .now))) (sym (the-match .keys2))
+    run-single .ensures (args .operations .now) (args .frame .now)
+    ∙ ap (λ k. later (callAs k (args .w)) (circuitOf (args .header) (args .nodes .now) (args .operations .now) (args .frame .now))) (sym (the-match .keys2))
 
 same-length-4 : tie.Need-same-length-4
 same-length-4 c = search needs
@@ -64,10 +61,8 @@ returns-3 c =
     let run-product = c .before .before .run-product in
     let the-match = c .before .before .before .before .match in
     let args = c .before .before .before .before .before .before .before .before .args in
-    called-product (args .header) _ (args .nodes .now) (args .operations .now) (args .frame .now) (args .w) _ (run-product .ensures .0)
-    (run-product .ensures .1)
-    ∙ ap (λ k. called (callAs k (args .operations .now) (args .w)) (circuitOf (args .header) (args .nodes .now) (args .operations .now)
-    (args .frame .now))) (sym (the-match .keys3))
+    run-product .ensures (args .operations .now) (args .frame .now)
+    ∙ ap (λ k. later (callAs k (args .w)) (circuitOf (args .header) (args .nodes .now) (args .operations .now) (args .frame .now))) (sym (the-match .keys3))
 
 same-length-5 : tie.Need-same-length-5
 same-length-5 c = search needs
@@ -78,10 +73,8 @@ returns-4 c =
     let run-rotate = c .before .before .run-rotate in
     let the-match = c .before .before .before .before .match in
     let args = c .before .before .before .before .before .before .before .before .args in
-    called-rotate (args .header) _ (args .nodes .now) (args .operations .now) (args .frame .now) (args .w) _ (run-rotate .ensures .0)
-    (run-rotate .ensures .1)
-    ∙ ap (λ k. called (callAs k (args .operations .now) (args .w)) (circuitOf (args .header) (args .nodes .now) (args .operations .now)
-    (args .frame .now))) (sym (the-match .keys4))
+    run-rotate .ensures (args .nodes .now) (args .frame .now)
+    ∙ ap (λ k. later (callAs k (args .w)) (circuitOf (args .header) (args .nodes .now) (args .operations .now) (args .frame .now))) (sym (the-match .keys4))
 
 same-length-6 : tie.Need-same-length-6
 same-length-6 c = search needs
@@ -92,10 +85,8 @@ returns-5 c =
     let run-measure = c .before .before .run-measure in
     let the-match = c .before .before .before .before .match in
     let args = c .before .before .before .before .before .before .before .before .args in
-    called-measure (args .header) _ (args .nodes .now) (args .operations .now) (args .frame .now) (args .w) _ (run-measure .ensures .0)
-    (run-measure .ensures .1)
-    ∙ ap (λ k. called (callAs k (args .operations .now) (args .w)) (circuitOf (args .header) (args .nodes .now) (args .operations .now)
-    (args .frame .now))) (sym (the-match .keys5))
+    run-measure .ensures (args .nodes .now) (args .frame .now)
+    ∙ ap (λ k. later (callAs k (args .w)) (circuitOf (args .header) (args .nodes .now) (args .operations .now) (args .frame .now))) (sym (the-match .keys5))
 
 same-length-7 : tie.Need-same-length-7
 same-length-7 c = search needs
@@ -107,11 +98,9 @@ returns-6 c =
     let the-match = c .before .before .before .before .match in
     let args = c .before .before .before .before .before .before .before .before .args in
     let others = the-match .rest in
-    called-conditional (args .header) _ (args .nodes .now) (args .operations .now) (args .frame .now) (args .w) _ (run-conditional .ensures .0)
-    (run-conditional .ensures .1)
-    ∙ ap (λ a. called a (circuitOf (args .header) (args .nodes .now) (args .operations .now) (args .frame .now)))
-    (sym (call-rest (args .w .kind) (args .operations .now) (args .w) (others .0 .0 .0 .0 .1) (others .0 .0 .0 .1) (others .0 .0 .1) (others .0 .1)
-    (others .1)))
+    run-conditional .ensures (args .nodes .now) (args .frame .now)
+    ∙ ap (λ a. later a (circuitOf (args .header) (args .nodes .now) (args .operations .now) (args .frame .now)))
+    (sym (call-rest (args .w .kind) (args .w) (others .0 .0 .0 .0 .1) (others .0 .0 .0 .1) (others .0 .0 .1) (others .0 .1) (others .1)))
 
 pub run-call-spec : {M : Type 1} → statement M
 run-call-spec =

@@ -4,7 +4,8 @@ use mathlib.Core.Path.{_≡_, refl, ap, _∙_}
 use Prim.Native.Nat.{_-_, _/_, _≤_}
 use native.Mathlib.Omega.{arith}
 use lib.ListN.{length}
-use Rattle.convert.specs.LaterCalls.{circuitOf, callIn, called, ranTo, ran}
+use Rattle.convert.specs.Later.{circuitOf, later, laters}
+use Rattle.convert.specs.LaterWords.{callIn, callsTo, callsIn}
 use Rattle.convert.proofs.LaterRuns.{ran-more}
 use Rattle.convert.proofs.later.run_calls.Statement.{statement}
 use Rattle.convert.proofs.later.run_calls.Tie as tie
@@ -12,13 +13,13 @@ use Rattle.convert.proofs.later.run_calls.Tie as tie
 abbrev Inv-loop : tie.InvT-loop
 Inv-loop calls nodes₀ operations₀ frame₀ count last₀ i₀ nodes operations frame last i =
     (i ≤ count) × (length nodes ≡ length nodes₀) × (length operations ≡ length operations₀) × (length frame ≡ length frame₀)
-    × (circuitOf last nodes operations frame ≡ ranTo calls i (circuitOf last₀ nodes₀ operations₀ frame₀))
+    × (circuitOf last nodes operations frame ≡ laters (callsTo calls i) (circuitOf last₀ nodes₀ operations₀ frame₀))
 
 abbrev μ-loop : tie.MeasureT-loop
 μ-loop calls nodes₀ operations₀ frame₀ count last₀ i₀ nodes operations frame last i = count - i
 
 loop-holds : tie.Need-loop-holds Inv-loop μ-loop
-unfolding ranTo
+unfolding callsTo laters
 loop-holds c = (omega arith, refl, refl, refl, refl)
 
 words-at-requires : tie.Need-words-at-requires Inv-loop μ-loop
@@ -46,8 +47,8 @@ loop-again c =
       omega (arith, run-call .kept, at .inv .1),
       omega (arith, run-call .kept, at .inv .2),
       omega (arith, run-call .kept, at .inv .3),
-      ran-more (args .calls .now) (at .i) _ _ _ (at .inv .4) (run-call .ensures ∙ ap (λ w. called (callIn (at .operations) w) (circuitOf (at .last)
-          (at .nodes) (at .operations) (at .frame))) (words-at .ensures)),
+      ran-more (args .calls .now) (at .i) _ _ _ (at .inv .4) (run-call .ensures
+          ∙ ap (λ w. later (callIn w) (circuitOf (at .last) (at .nodes) (at .operations) (at .frame))) (words-at .ensures)),
     )
 
 same-length : tie.Need-same-length Inv-loop μ-loop
@@ -60,14 +61,13 @@ same-length-3 : tie.Need-same-length-3 Inv-loop μ-loop
 same-length-3 c = c .before .loop .inv .3
 
 returns : tie.Need-returns Inv-loop μ-loop
-unfolding ran
+unfolding callsIn
 returns c =
     let the-loop = c .before .loop in
     let args = c .before .before .before .before .before .before .args in
     let end : the-loop .i ≡ length (args .calls .now) / 6 = omega (arith, c .loop-test .left, the-loop .inv .0) in
-    let all = (the-loop .inv .4 ∙ ap (λ k. ranTo (args .calls .now) k (circuitOf (args .header) (args .nodes .now) (args .operations .now)
-    (args .frame .now))) end) in
-    (ap (λ s. s .store .header) all, (ap (λ s. s .store .nodes) all, (ap (λ s. s .operations) all, ap (λ s. s .store .frame) all)))
+    the-loop .inv .4
+    ∙ ap (λ k. laters (callsTo (args .calls .now) k) (circuitOf (args .header) (args .nodes .now) (args .operations .now) (args .frame .now))) end
 
 pub run-calls-spec : {M : Type 1} → statement M
 run-calls-spec =

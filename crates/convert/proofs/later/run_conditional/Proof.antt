@@ -1,7 +1,7 @@
 -- `run_conditional` meets its contract.
-use mathlib.Core.Path.{ap, _∙_}
+use mathlib.Core.Path.{sym, _∙_}
 use Rattle.arena.specs.Builder.{conditionalStep}
-use Rattle.convert.specs.Later.{headerPushed}
+use Rattle.convert.specs.Later.{later}
 use borrow.Author.Needs.{needs}
 use Rattle.convert.proofs.later.run_conditional.Statement.{statement}
 use Rattle.convert.proofs.later.run_conditional.Tie as tie
@@ -18,24 +18,43 @@ measurement-in-requires c κs = search needs
 conditional-rotate-requires : tie.Need-conditional-rotate-requires
 conditional-rotate-requires c κs = search needs
 
-after-pushed-requires : tie.Need-after-pushed-requires
-after-pushed-requires c κs = search needs
+enum-known-answer : tie.Need-enum-known-answer
+enum-known-answer c = search needs
+
+enum-told : tie.Need-enum-told
+enum-told c = search needs
 
 same-length : tie.Need-same-length
 same-length c = search needs
 
 returns : tie.Need-returns
-returns c =
-    let conditional-rotate = c .before .before .before .conditional-rotate in
-    let measurement-in = c .before .before .before .before .measurement-in in
-    let angle-in = c .before .before .before .before .before .angle-in in
-    let axis-in = c .before .before .before .before .before .before .axis-in in
-    let args = c .before .before .before .before .before .before .before .before .before .args in (
-      c .after-pushed .ensures ∙ ap (λ a. headerPushed a (args .header)) (conditional-rotate .ensures .0 ∙ (λ i. conditionalStep (args .header)
-          (args .operations .now) (axis-in .ensures i) (angle-in .ensures i) (measurement-in .ensures i) .answer)),
-      conditional-rotate .ensures .1 ∙ (λ i. conditionalStep (args .header) (args .operations .now) (axis-in .ensures i) (angle-in .ensures i)
-          (measurement-in .ensures i) .words),
-    )
+unfolding later
+returns c nodes frame =
+    let told = c .before .answer .given .1 in
+    let called = c .before .before .before .before .before .conditional-rotate in
+    let axis-in = c .before .before .before .before .before .before .before .before .axis-in in
+    let angle-in = c .before .before .before .before .before .before .before .angle-in in
+    let measurement-in = c .before .before .before .before .before .before .measurement-in in
+    let args = c .before .before .before .before .before .before .before .before .before .before .before .args in
+    let answer = sym told ∙ called .ensures .0 ∙ (λ i. conditionalStep (args .header) (args .operations .now) (axis-in .ensures i) (angle-in .ensures i) (measurement-in .ensures i) .answer) in
+    let words = called .ensures .1 ∙ (λ i. conditionalStep (args .header) (args .operations .now) (axis-in .ensures i) (angle-in .ensures i) (measurement-in .ensures i) .words) in
+    rw (← answer, later, words)
+
+same-length-2 : tie.Need-same-length-2
+same-length-2 c = search needs
+
+returns-2 : tie.Need-returns-2
+unfolding later
+returns-2 c nodes frame =
+    let told = c .enum-told .given .1 in
+    let called = c .before .before .before .before .conditional-rotate in
+    let axis-in = c .before .before .before .before .before .before .before .axis-in in
+    let angle-in = c .before .before .before .before .before .before .angle-in in
+    let measurement-in = c .before .before .before .before .before .measurement-in in
+    let args = c .before .before .before .before .before .before .before .before .before .before .args in
+    let answer = sym told ∙ called .ensures .0 ∙ (λ i. conditionalStep (args .header) (args .operations .now) (axis-in .ensures i) (angle-in .ensures i) (measurement-in .ensures i) .answer) in
+    let words = called .ensures .1 ∙ (λ i. conditionalStep (args .header) (args .operations .now) (axis-in .ensures i) (angle-in .ensures i) (measurement-in .ensures i) .words) in
+    rw (← answer, later, words)
 
 pub run-conditional-spec : {M : Type 1} → statement M
 run-conditional-spec =
@@ -45,6 +64,9 @@ run-conditional-spec =
     angle-in-requires
     measurement-in-requires
     conditional-rotate-requires
-    after-pushed-requires
+    enum-known-answer
+    enum-told
     same-length
-    returns)
+    returns
+    same-length-2
+    returns-2)

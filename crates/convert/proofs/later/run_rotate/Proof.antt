@@ -1,7 +1,7 @@
 -- `run_rotate` meets its contract.
-use mathlib.Core.Path.{ap, _∙_}
+use mathlib.Core.Path.{sym, _∙_}
 use Rattle.arena.specs.Builder.{rotateStep}
-use Rattle.convert.specs.Later.{headerPushed}
+use Rattle.convert.specs.Later.{later}
 use borrow.Author.Needs.{needs}
 use Rattle.convert.proofs.later.run_rotate.Statement.{statement}
 use Rattle.convert.proofs.later.run_rotate.Tie as tie
@@ -15,22 +15,41 @@ angle-in-requires c κs = search needs
 rotate-requires : tie.Need-rotate-requires
 rotate-requires c κs = search needs
 
-after-pushed-requires : tie.Need-after-pushed-requires
-after-pushed-requires c κs = search needs
+enum-known-answer : tie.Need-enum-known-answer
+enum-known-answer c = search needs
+
+enum-told : tie.Need-enum-told
+enum-told c = search needs
 
 same-length : tie.Need-same-length
 same-length c = search needs
 
 returns : tie.Need-returns
-returns c =
-    let rotate = c .before .before .before .rotate in
-    let angle-in = c .before .before .before .before .angle-in in
-    let axis-in = c .before .before .before .before .before .axis-in in
-    let args = c .before .before .before .before .before .before .before .before .args in (
-      c .after-pushed .ensures ∙ ap (λ a. headerPushed a (args .header)) (rotate .ensures .0 ∙ (λ i. rotateStep (args .header) (args .operations .now)
-          (axis-in .ensures i) (angle-in .ensures i) .answer)),
-      rotate .ensures .1 ∙ (λ i. rotateStep (args .header) (args .operations .now) (axis-in .ensures i) (angle-in .ensures i) .words),
-    )
+unfolding later
+returns c nodes frame =
+    let told = c .before .answer .given .1 in
+    let called = c .before .before .before .before .before .rotate in
+    let axis-in = c .before .before .before .before .before .before .before .axis-in in
+    let angle-in = c .before .before .before .before .before .before .angle-in in
+    let args = c .before .before .before .before .before .before .before .before .before .before .args in
+    let answer = sym told ∙ called .ensures .0 ∙ (λ i. rotateStep (args .header) (args .operations .now) (axis-in .ensures i) (angle-in .ensures i) .answer) in
+    let words = called .ensures .1 ∙ (λ i. rotateStep (args .header) (args .operations .now) (axis-in .ensures i) (angle-in .ensures i) .words) in
+    rw (← answer, later, words)
+
+same-length-2 : tie.Need-same-length-2
+same-length-2 c = search needs
+
+returns-2 : tie.Need-returns-2
+unfolding later
+returns-2 c nodes frame =
+    let told = c .enum-told .given .1 in
+    let called = c .before .before .before .before .rotate in
+    let axis-in = c .before .before .before .before .before .before .axis-in in
+    let angle-in = c .before .before .before .before .before .angle-in in
+    let args = c .before .before .before .before .before .before .before .before .before .args in
+    let answer = sym told ∙ called .ensures .0 ∙ (λ i. rotateStep (args .header) (args .operations .now) (axis-in .ensures i) (angle-in .ensures i) .answer) in
+    let words = called .ensures .1 ∙ (λ i. rotateStep (args .header) (args .operations .now) (axis-in .ensures i) (angle-in .ensures i) .words) in
+    rw (← answer, later, words)
 
 pub run-rotate-spec : {M : Type 1} → statement M
 run-rotate-spec =
@@ -39,6 +58,9 @@ run-rotate-spec =
     axis-in-requires
     angle-in-requires
     rotate-requires
-    after-pushed-requires
+    enum-known-answer
+    enum-told
     same-length
-    returns)
+    returns
+    same-length-2
+    returns-2)

@@ -1,7 +1,7 @@
 -- `run_single` meets its contract.
-use mathlib.Core.Path.{ap, _∙_}
+use mathlib.Core.Path.{sym, _∙_}
 use Rattle.arena.specs.Builder.{singleStep}
-use Rattle.convert.specs.Later.{headerSingle}
+use Rattle.convert.specs.Later.{later}
 use borrow.Author.Needs.{needs}
 use Rattle.convert.proofs.later.run_single.Statement.{statement}
 use Rattle.convert.proofs.later.run_single.Tie as tie
@@ -15,22 +15,41 @@ letter-in-requires c κs = search needs
 single-requires : tie.Need-single-requires
 single-requires c κs = search needs
 
-after-single-requires : tie.Need-after-single-requires
-after-single-requires c κs = search needs
+enum-known-answer : tie.Need-enum-known-answer
+enum-known-answer c = search needs
+
+enum-told : tie.Need-enum-told
+enum-told c = search needs
 
 same-length : tie.Need-same-length
 same-length c = search needs
 
 returns : tie.Need-returns
-returns c =
-    let single = c .before .before .before .single in
-    let letter-in = c .before .before .before .before .letter-in in
-    let low-word = c .before .before .before .before .before .low-word in
-    let args = c .before .before .before .before .before .before .before .before .args in (
-      c .after-single .ensures ∙ ap (λ a. headerSingle a (args .header)) (single .ensures .0 ∙ (λ i. singleStep (args .header) (args .nodes .now)
-          (low-word .ensures i) (letter-in .ensures i) .answer)),
-      single .ensures .1 ∙ (λ i. singleStep (args .header) (args .nodes .now) (low-word .ensures i) (letter-in .ensures i) .words),
-    )
+unfolding later
+returns c operations frame =
+    let told = c .before .answer .given .1 in
+    let called = c .before .before .before .before .before .single in
+    let low-word = c .before .before .before .before .before .before .before .low-word in
+    let letter-in = c .before .before .before .before .before .before .letter-in in
+    let args = c .before .before .before .before .before .before .before .before .before .before .args in
+    let answer = sym told ∙ called .ensures .0 ∙ (λ i. singleStep (args .header) (args .nodes .now) (low-word .ensures i) (letter-in .ensures i) .answer) in
+    let words = called .ensures .1 ∙ (λ i. singleStep (args .header) (args .nodes .now) (low-word .ensures i) (letter-in .ensures i) .words) in
+    rw (← answer, later, words)
+
+same-length-2 : tie.Need-same-length-2
+same-length-2 c = search needs
+
+returns-2 : tie.Need-returns-2
+unfolding later
+returns-2 c operations frame =
+    let told = c .enum-told .given .1 in
+    let called = c .before .before .before .before .single in
+    let low-word = c .before .before .before .before .before .before .low-word in
+    let letter-in = c .before .before .before .before .before .letter-in in
+    let args = c .before .before .before .before .before .before .before .before .before .args in
+    let answer = sym told ∙ called .ensures .0 ∙ (λ i. singleStep (args .header) (args .nodes .now) (low-word .ensures i) (letter-in .ensures i) .answer) in
+    let words = called .ensures .1 ∙ (λ i. singleStep (args .header) (args .nodes .now) (low-word .ensures i) (letter-in .ensures i) .words) in
+    rw (← answer, later, words)
 
 pub run-single-spec : {M : Type 1} → statement M
 run-single-spec =
@@ -39,6 +58,9 @@ run-single-spec =
     low-word-requires
     letter-in-requires
     single-requires
-    after-single-requires
+    enum-known-answer
+    enum-told
     same-length
-    returns)
+    returns
+    same-length-2
+    returns-2)

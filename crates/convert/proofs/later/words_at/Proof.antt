@@ -1,5 +1,5 @@
 -- `words_at` meets its contract.
-use Rattle.convert.specs.LaterCalls.{wordsAt}
+use Rattle.convert.specs.LaterWords.{wordsAt}
 use borrow.Author.Needs.{needs}
 use Rattle.convert.proofs.later.words_at.Statement.{statement}
 use Rattle.convert.proofs.later.words_at.Tie as tie
