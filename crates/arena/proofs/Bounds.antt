@@ -9,7 +9,7 @@ use Rattle.arena.specs.References.{nodeIn}
 use Rattle.arena.specs.Nodes.{PauliNode, Identity, Single, Product, Malformed}
 use Rattle.arena.specs.Sparse.{Factor, Sparse, size}
 use Rattle.arena.specs.Walk.{rootUses, scan}
-use Rattle.arena.specs.Code.WalkWords.{sum, edge, edges, owed, Rising, Proper}
+use Rattle.arena.specs.Code.WalkWords.{sum, edge, edges, owed, Rising, Ordered}
 use Rattle.arena.proofs.Fitting.{Fits}
 use Rattle.arena.proofs.Uses.{plus-edge, scan-uses}
 
@@ -18,7 +18,7 @@ pub rising-few : (lo hi : ℕ) (fs : List Factor) → lo ≤ hi → Rising lo hi
 rising-few lo hi [] h r = omega arith
 rising-few lo hi (f ∷ fs) h r = omega (arith, r .0, rising-few (suc (f .qubit)) hi fs (r .1) (r .3))
 
-pub size-few : (n : ℕ) (v : Sparse) → Proper n v → size v ≤ n
+pub size-few : (n : ℕ) (v : Sparse) → Ordered n v → size v ≤ n
 size-few n v r = omega (arith, rising-few 0 n (v .factors) (omega arith) r)
 
 -- a word names a node at most once, a node at most twice

@@ -12,7 +12,7 @@ use Rattle.arena.specs.References.{nodeIn, phaseIn}
 use Rattle.arena.specs.Nodes.{PauliNode, Identity, Single, Product, Malformed, rowOf, rowsTo}
 use Rattle.arena.specs.Sparse.{Sparse, empty, one, turned, size, multiply, dense}
 use Rattle.arena.specs.Walk.{Out, State, worked, lent, less, finish, Taken, takeAs, takeUse, combine, evalNode, evalUnless, eval}
-use Rattle.arena.specs.Code.WalkWords.{edge, edges, none, Right, Inv, Proper}
+use Rattle.arena.specs.Code.WalkWords.{edge, edges, none, Right, Inv, Ordered}
 use Rattle.arena.proofs.Reading.{row-is}
 use Rattle.arena.proofs.Outcomes.{update-same, update-other, update-keeps, suc-of, Post, post-bind, post-map, charge-then, lend-then}
 use Rattle.arena.proofs.Fitting.{Fits, fits-older}
@@ -84,7 +84,7 @@ module _ (limit room n count : ℕ) (node : ℕ → PauliNode) (total : ℕ → 
           }))
 
 module _ (limit room n count : ℕ) (node : ℕ → PauliNode) (fits : (i : ℕ) → Fits n i (node i)) (total : ℕ → ℕ) where
-  plain-right : (i : ℕ) (nd : PauliNode) (v : Sparse) → i < count → node i ≡ nd → Proper n v → dense n v ≡ rowOf n (rowsTo n node count) nd
+  plain-right : (i : ℕ) (nd : PauliNode) (v : Sparse) → i < count → node i ≡ nd → Ordered n v → dense n v ≡ rowOf n (rowsTo n node count) nd
       → Right n count node i v
   plain-right i nd v h e p q = record {
     proper = p;

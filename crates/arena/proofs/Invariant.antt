@@ -11,7 +11,7 @@ use Rattle.arena.specs.References.{nodeIn, phaseIn}
 use Rattle.arena.specs.Nodes.{PauliNode, imageIn, rowsTo}
 use Rattle.arena.specs.Sparse.{Sparse, turned, size, dense}
 use Rattle.arena.specs.Walk.{update, State, worked, less, finish}
-use Rattle.arena.specs.Code.WalkWords.{pend, kept, stand, none, Right, Inv, sum, edge, edges, owed, Proper}
+use Rattle.arena.specs.Code.WalkWords.{pend, kept, stand, none, Right, Inv, sum, edge, edges, owed, Ordered}
 use Rattle.arena.proofs.Outcomes.{update-same, update-other}
 use Rattle.arena.proofs.Merging.{dense-turned}
 use Rattle.arena.proofs.Sums.{sum-at, sum-change}
@@ -23,7 +23,7 @@ kept-used (suc u) k h = refl
 
 -- v is a value of the word w
 pub record Shows (n count : ℕ) (node : ℕ → PauliNode) (w : ℕ) (v : Sparse) : Type 0 where
-  pub proper : Proper n v
+  pub proper : Ordered n v
   pub means : dense n v ≡ imageIn n (rowsTo n node count) w
 
 -- a node's value, with a word's phase in front

@@ -32,13 +32,13 @@ pub mod PoolApart
 pub mod PoolSafe
 pub mod ScratchWords
 pub mod UsesInWords
+pub mod Saying
 pub mod WalkMoves
 pub mod WalkProducts
 pub mod PathSteps
 pub mod PathRuns
 pub mod RootWalks
 pub mod StoredWords
-pub mod Refusing
 pub mod ReaderWalks
 pub mod WeightWalks
 pub mod Cells

@@ -15,7 +15,7 @@ use Rattle.pauli.proofs.Rows.{row-eq}
 use Rattle.arena.specs.Types.{Pauli, I, X, Y, Z, Phase, One}
 use Rattle.arena.specs.Sparse.{Factor, Sparse, factor, empty, one, turned, size, withFactor, withLetter, together, mergeOne, merge, multiply, spread, dense}
 use Rattle.arena.proofs.Outcomes.{Order, below, same, above, order}
-use Rattle.arena.specs.Code.WalkWords.{Rising, Proper}
+use Rattle.arena.specs.Code.WalkWords.{Rising, Ordered}
 
 -- rising from a later qubit on
 lower : (lo lo′ hi : ℕ) (fs : List Factor) → lo′ ≤ lo → Rising lo hi fs → Rising lo′ hi fs
@@ -158,11 +158,11 @@ merge-means (suc k) at hi fs gs h rf rg = go (front at hi fs rf) (front at hi gs
       phase-is = rw (spread-miss k at hi fs rf, spread-miss k at hi gs rg) (m .phase-is);
     }
 
-pub product-proper : (n : ℕ) (u v : Sparse) → Proper n u → Proper n v → Proper n (multiply u v)
+pub product-proper : (n : ℕ) (u v : Sparse) → Ordered n u → Ordered n v → Ordered n (multiply u v)
 product-proper n u v ru rv = merge-rising 0 n (u .factors) (v .factors) ru rv
 
 -- dense of the sparse product is the row product of the denses
-pub dense-product : (n : ℕ) (u v : Sparse) → Proper n u → Proper n v → dense n (multiply u v) ≡ dense n u ★ dense n v
+pub dense-product : (n : ℕ) (u v : Sparse) → Ordered n u → Ordered n v → dense n (multiply u v) ≡ dense n u ★ dense n v
 unfolding dense
 dense-product n u v ru rv = let m = merge-means n 0 n (u .factors) (v .factors) (omega arith) ru rv in
     row-eq (m .letters-are) (ap (λ p. u .phase ⊕ v .phase ⊕ p) (m .phase-is))
@@ -211,7 +211,7 @@ weight-spread (suc k) at hi (f ∷ fs) h r =
     go (same e) ih jh = rw (spread-hit k at f fs (sym e)) (count-letter (f .pauli) _ (r .2) ∙ ap suc (ih (lower (suc (f .qubit)) _ hi fs (omega arith) (r .3))))
     go (above l) ih jh = let h : at ≤ f .qubit = r .0 in absurd (omega arith)
 
-pub size-weight : (n : ℕ) (v : Sparse) → Proper n v → weight (dense n v .letters) ≡ size v
+pub size-weight : (n : ℕ) (v : Sparse) → Ordered n v → weight (dense n v .letters) ≡ size v
 unfolding dense
 size-weight n v r = weight-spread n 0 n (v .factors) (omega arith) r
 

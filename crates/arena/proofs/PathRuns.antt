@@ -7,17 +7,18 @@ use native.Mathlib.Omega.{arith}
 use lib.ListN.{length, getD, set}
 use lib.Seq.{getD-set-same}
 use Rattle.arena.specs.Nodes.{PauliNode, nodeAt}
-use Rattle.arena.specs.Walk.{Out, State, eval}
+use Rattle.arena.specs.Errors.{PbcError}
+use Rattle.arena.specs.Walk.{Out, fine, refused, State, eval}
 use Rattle.arena.specs.Machine.{Spot, step}
 use Rattle.arena.specs.Pool.{Who}
-use Rattle.arena.specs.Code.WalkWords.{valueAt, Marks, none, Inv, Trail, Wanted, Linked, Says, Rep, Stands, Topped, Landed, Started, Rooted}
+use Rattle.arena.specs.Code.Results.{Ledger, Says}
+use Rattle.arena.specs.Code.WalkWords.{valueAt, Marks, none, Inv, Trail, Wanted, Linked, Rep, Stands, Topped, Landed, Started, Rooted}
 use Rattle.arena.proofs.Outcomes.{post-fine, bind-fine}
 use Rattle.arena.proofs.Fitting.{node-fits}
 use Rattle.arena.proofs.Stepping.{resume, onward, resume-step, eval-done}
-use Rattle.arena.proofs.Running.{Stepped, left, undone, undone-few, step-trail, Sound, step-inv}
+use Rattle.arena.proofs.Running.{Stepped, left as stepsLeft, undone, undone-few, step-trail, Sound, step-inv}
 use Rattle.arena.proofs.ScratchWords.{marked, unmarked}
-use Rattle.arena.proofs.WalkMoves.{agrees-fine, agrees-refused}
-use Rattle.arena.proofs.WalkProducts.{agrees-at}
+use Rattle.arena.proofs.Saying.{said-fine, said-refused, says-fine, says-refused}
 use Rattle.arena.proofs.PathSteps.{link-rep}
 
 -- ---- no path takes more steps than the budget
@@ -46,31 +47,30 @@ path-none : (l : List ℕ) (top : ℕ) (p : List ℕ) → Linked l top p → top
 path-none l top [] q z = refl
 path-none l top (i ∷ p) q z = absurd (omega (arith, q .0))
 
-module _ {words l₀ p₀ : List ℕ} {count limit i free₀ spare₀ work₀ : ℕ} where
-  abbrev pub result : Started words l₀ p₀ count limit i free₀ spare₀ work₀ → Out State
+module _ {words l₀ p₀ : List ℕ} {count limit i : ℕ} {left₀ : Ledger} where
+  abbrev pub result : Started words l₀ p₀ count limit i left₀ → Out State
   result g = eval limit (g .at .room) (nodeAt (g .at .n) words) count i (g .at .s)
 
 -- at each turn: the words stand for a state, from which resuming the path gives what is asked
-pub record Going {words l₀ p₀ : List ℕ} {count limit i free₀ spare₀ work₀ : ℕ} (g : Started words l₀ p₀ count limit i free₀ spare₀ work₀) (l p : List ℕ) (free spare work top budget : ℕ) : Type 0 where
+pub record Going {words l₀ p₀ : List ℕ} {count limit i : ℕ} {left₀ : Ledger} (g : Started words l₀ p₀ count limit i left₀) (l p : List ℕ) (left : Ledger) (top budget : ℕ) : Type 0 where
   pub path : List ℕ
   pub s : State
   pub who : Who
-  pub rep : Rep count (g .at .room) l p free spare who s
+  pub rep : Rep count (g .at .room) l p left who s
   pub inv : Inv limit (g .at .room) (g .at .n) count (nodeAt (g .at .n) words) (g .at .total) (g .at .rest) none 0 s
   pub linked : Linked l top path
   pub trail : Trail count s 0 path
   pub wanted : Wanted s path
   pub same : resume limit (g .at .room) (nodeAt (g .at .n) words) count path s ≡ result g
-  pub enough : left count s path ≤ budget
-  pub work-is : work ≡ s .work
+  pub enough : stepsLeft count s path ≤ budget
   pub long : length l ≡ length l₀
   pub pool-long : length p ≡ length p₀
 
-module _ {words l₀ p₀ : List ℕ} {count limit i free₀ spare₀ work₀ : ℕ} (g : Started words l₀ p₀ count limit i free₀ spare₀ work₀) where
+module _ {words l₀ p₀ : List ℕ} {count limit i : ℕ} {left₀ : Ledger} (g : Started words l₀ p₀ count limit i left₀) where
   abbrev node : ℕ → PauliNode
   node = nodeAt (g .at .n) words
 
-  pub going-begin : {top : ℕ} → top ≡ i + 1 → Going g l₀ p₀ free₀ spare₀ work₀ top 4295098368
+  pub going-begin : {top : ℕ} → top ≡ i + 1 → Going g l₀ p₀ left₀ top 4295098368
   going-begin {top} e = record {
     path = i ∷ [];
     s = g .at .s;
@@ -82,17 +82,13 @@ module _ {words l₀ p₀ : List ℕ} {count limit i free₀ spare₀ work₀ : 
     wanted = (g .used, tt);
     same = bind-fine (result g);
     enough = left-few count (suc i) (g .at .s) (g .at .nodes-few) (g .low);
-    work-is = g .at .work-is;
     long = refl;
     pool-long = refl;
   }
 
-  module _ {l p : List ℕ} {free spare work top budget : ℕ} (v : Going g l p free spare work top budget) where
-    pub going-end : top ≡ 0 → Says (result g) 0 (Stands count (g .at .room) l p free spare work)
-    going-end z = record {
-      says = agrees-at 0 (Stands count (g .at .room) l p free spare work)
-          (sym (v .same) ∙ ap (λ q. resume limit (g .at .room) node count q (v .s)) (path-none l top (v .path) (v .linked) z)) (refl, record { who = v .who; rep = v .rep; work-is = v .work-is });
-    }
+  module _ {l p : List ℕ} {left : Ledger} {top budget : ℕ} (v : Going g l p left top budget) where
+    pub going-end : top ≡ 0 → Says (result g) (fine left) (Stands count (g .at .room) l p)
+    going-end z = says-fine (sym (v .same) ∙ ap (λ q. resume limit (g .at .room) node count q (v .s)) (path-none l top (v .path) (v .linked) z)) (record { who = v .who; rep = v .rep })
 
     module _ (ne : top ≡ 0 → ⊥) where
       pub path-at : v .path ≡ (top - 1) ∷ tailOf (v .path)
@@ -101,7 +97,7 @@ module _ {words l₀ p₀ : List ℕ} {count limit i free₀ spare₀ work₀ : 
       pub top-is : top ≡ suc (top - 1)
       top-is = omega arith
 
-      abbrev pub topped : Topped words l p limit (top - 1) free spare work
+      abbrev pub topped : Topped words l p limit (top - 1) left
       topped = record {
         count = count;
         at = record {
@@ -114,7 +110,6 @@ module _ {words l₀ p₀ : List ℕ} {count limit i free₀ spare₀ work₀ : 
           rep = v .rep;
           inv = v .inv;
           well = g .at .well;
-          work-is = v .work-is;
           qubits-few = g .at .qubits-few;
           few = g .at .few;
           nodes-few = g .at .nodes-few;
@@ -127,27 +122,22 @@ module _ {words l₀ p₀ : List ℕ} {count limit i free₀ spare₀ work₀ : 
       }
 
       pub some-left : 1 ≤ budget
-      some-left = omega (arith, v .enough, subst (λ q. 1 ≤ left count (v .s) q) (sym path-at) (omega arith))
+      some-left = omega (arith, v .enough, subst (λ q. 1 ≤ stepsLeft count (v .s) q) (sym path-at) (omega arith))
 
-      module _ {l′ p′ : List ℕ} {st top′ free′ spare′ work′ : ℕ}
-          (o : Says (step limit (g .at .room) (nodeAt (g .at .n) words) (top - 1) (tailOf (v .path)) (v .s)) st (Landed count (g .at .room) l′ p′ top′ free′ spare′ work′)) where
+      module _ {l′ p′ : List ℕ} {y : Out (ℕ × Ledger)}
+          (o : Says (step limit (g .at .room) (nodeAt (g .at .n) words) (top - 1) (tailOf (v .path)) (v .s)) y (Landed count (g .at .room) l′ p′)) where
         resumed : resume limit (g .at .room) node count (v .path) (v .s) ≡ onward limit (g .at .room) (g .at .n) node (node-fits (g .at .n) words) count (step limit (g .at .room) node (top - 1) (tailOf (v .path)) (v .s))
         resumed = ap (λ q. resume limit (g .at .room) node count q (v .s)) path-at
             ∙ resume-step limit (g .at .room) (g .at .n) node (node-fits (g .at .n) words) count (top - 1) (tailOf (v .path)) (v .s) (topped .trail .1)
 
-        pub going-refused : (P : State → Type 0) {st′ : ℕ} → st′ ≡ st → (st ≡ 0 → ⊥) → Says (result g) st′ P
-        going-refused P {st′} e nz =
-            let r = agrees-refused (step limit (g .at .room) node (top - 1) (tailOf (v .path)) (v .s)) st (Landed count (g .at .room) l′ p′ top′ free′ spare′ work′) (o .says) nz in
-            record {
-              says = agrees-at st′ P (sym (v .same) ∙ resumed ∙ ap (onward limit (g .at .room) (g .at .n) node (node-fits (g .at .n) words) count) (r .1))
-                  (e ∙ r .2, λ z. nz (sym e ∙ z));
-            }
+        pub going-refused : {B : Type 0} {S : State → B → Type 0} {e : PbcError} → y ≡ refused e → Says (result g) (refused e) S
+        going-refused q = says-refused (sym (v .same) ∙ resumed ∙ ap (onward limit (g .at .room) (g .at .n) node (node-fits (g .at .n) words) count) (said-refused o q))
 
-        pub going-on : st ≡ 0 → length l′ ≡ length l → length p′ ≡ length p → Going g l′ p′ free′ spare′ work′ top′ (budget - 1)
+        pub going-on : {top′ : ℕ} {rest : Ledger} → y ≡ fine (top′, rest) → length l′ ≡ length l → length p′ ≡ length p → Going g l′ p′ rest top′ (budget - 1)
         going-on z el ep =
-            let x = agrees-fine (step limit (g .at .room) node (top - 1) (tailOf (v .path)) (v .s)) st (Landed count (g .at .room) l′ p′ top′ free′ spare′ work′) (o .says) z in
+            let x = said-fine o z in
             let q : Spot = x .0 in
-            let a : Stepped count (left count (v .s) ((top - 1) ∷ tailOf (v .path))) q = post-fine (Stepped count (left count (v .s) ((top - 1) ∷ tailOf (v .path)))) (x .1)
+            let a : Stepped count (stepsLeft count (v .s) ((top - 1) ∷ tailOf (v .path))) q = post-fine (Stepped count (stepsLeft count (v .s) ((top - 1) ∷ tailOf (v .path)))) (x .1)
             (step-trail limit (g .at .room) (g .at .n) count node (node-fits (g .at .n) words) (top - 1) 0 (tailOf (v .path)) (v .s) (topped .trail)) in
             let b : Sound limit (g .at .room) (g .at .n) count node (node-fits (g .at .n) words) (g .at .total) (g .at .rest) q = post-fine (Sound limit (g .at .room) (g .at .n) count node (node-fits (g .at .n) words) (g .at .total) (g .at .rest)) (x .1)
             (step-inv limit (g .at .room) (g .at .n) count node (node-fits (g .at .n) words) (g .at .total) (g .at .rest) (top - 1) 0 (tailOf (v .path)) (v .s) (topped .trail) (topped .wanted) (v .inv)) in
@@ -161,29 +151,25 @@ module _ {words l₀ p₀ : List ℕ} {count limit i free₀ spare₀ work₀ : 
               trail = a .trail;
               wanted = b .1;
               same = ap (onward limit (g .at .room) (g .at .n) node (node-fits (g .at .n) words) count) (sym (x .1)) ∙ sym resumed ∙ v .same;
-              enough = omega (arith, a .fewer, subst (λ r. left count (v .s) r ≤ budget) path-at (v .enough));
-              work-is = x .2 .stands .work-is;
+              enough = omega (arith, a .fewer, subst (λ r. stepsLeft count (v .s) r ≤ budget) path-at (v .enough));
               long = el ∙ v .long;
               pool-long = ep ∙ v .pool-long;
             }
 
 -- ---- a root
 
-module _ {words l p : List ℕ} {count limit i free spare work : ℕ} (g : Rooted words l p count limit i free spare work) where
+module _ {words l p : List ℕ} {count limit i : ℕ} {left : Ledger} (g : Rooted words l p count limit i left) where
   pub root-room : 4 * i + 3 < length l
   root-room = omega (arith, g .at .rep .scratch .long, g .low)
 
   pub mark-is : Marks (g .at .s .done i) (g .at .s .value i) (valueAt l i)
   mark-is = g .at .rep .scratch .marks-are i (g .low)
 
-  pub root-done : {m : ℕ} → m ≡ valueAt l i → (m ≡ 0 → ⊥) → Says (eval limit (g .at .room) (nodeAt (g .at .n) words) count i (g .at .s)) 0 (Stands count (g .at .room) l p free spare work)
-  root-done m-is ne = record {
-    says = agrees-at 0 (Stands count (g .at .room) l p free spare work)
-        (eval-done limit (g .at .room) (nodeAt (g .at .n) words) count i (g .at .s) (unmarked _ (g .at .s .value i) (valueAt l i) mark-is (λ e. ne (m-is ∙ e))))
-        (refl, record { who = g .at .who; rep = g .at .rep; work-is = g .at .work-is });
-  }
+  pub root-done : {m : ℕ} → m ≡ valueAt l i → (m ≡ 0 → ⊥) → Says (eval limit (g .at .room) (nodeAt (g .at .n) words) count i (g .at .s)) (fine left) (Stands count (g .at .room) l p)
+  root-done m-is ne = says-fine (eval-done limit (g .at .room) (nodeAt (g .at .n) words) count i (g .at .s) (unmarked _ (g .at .s .value i) (valueAt l i) mark-is (λ e. ne (m-is ∙ e))))
+      (record { who = g .at .who; rep = g .at .rep })
 
-  abbrev pub started : {m : ℕ} {l′ : List ℕ} → m ≡ valueAt l i → m ≡ 0 → l′ ≡ set l (4 * i + 3) 0 → Started words l′ p count limit i free spare work
+  abbrev pub started : {m : ℕ} {l′ : List ℕ} → m ≡ valueAt l i → m ≡ 0 → l′ ≡ set l (4 * i + 3) 0 → Started words l′ p count limit i left
   started m-is z e = record {
     at = record {
       n = g .at .n;
@@ -195,7 +181,6 @@ module _ {words l p : List ℕ} {count limit i free spare work : ℕ} (g : Roote
       rep = rw e (link-rep i 0 (g .at .rep));
       inv = g .at .inv;
       well = g .at .well;
-      work-is = g .at .work-is;
       qubits-few = g .at .qubits-few;
       few = g .at .few;
       nodes-few = g .at .nodes-few;

@@ -392,7 +392,7 @@ module _ {p₀ : List ℕ} {free₀ a₀ na b₀ nb : ℕ} (g : Operands p₀ fr
 
 -- ---- what the code needs to be safe, as plain facts on numbers
 
-pub record Ready (p : List ℕ) (free a b tail made left phase na nb : ℕ) : Type 0 where
+pub record TurnReady (p : List ℕ) (free a b tail made left phase na nb : ℕ) : Type 0 where
   pub room : Meeting p free tail a b
   pub two : 2 ≤ left
   pub fewer : made + left ≤ na + nb
@@ -402,7 +402,7 @@ pub record Ready (p : List ℕ) (free a b tail made left phase na nb : ℕ) : Ty
 module _ {p₀ : List ℕ} {free₀ a₀ na b₀ nb : ℕ} (g : Operands p₀ free₀ a₀ na b₀ nb) {p : List ℕ} {free a b tail made left phase : ℕ} where
   of-both : (fa fb : List Factor) → Before g p free a b tail made left phase fa fb
       → (a ≡ 0 → ⊥) → (b ≡ 0 → ⊥)
-      → Ready p free a b tail made left phase na nb
+      → TurnReady p free a b tail made left phase na nb
   of-both [] fb s na′ nb′ = absurd (na′ (s .parts .chain-a))
   of-both (f ∷ fa) [] s na′ nb′ = absurd (nb′ (s .parts .chain-b))
   of-both (f ∷ fa) (h ∷ fb) s na′ nb′ =
@@ -426,7 +426,7 @@ module _ {p₀ : List ℕ} {free₀ a₀ na b₀ nb : ℕ} (g : Operands p₀ fr
         small = s .small;
       }
 
-  pub ready : Merging g p free a b tail made left phase → (a ≡ 0 → ⊥) → (b ≡ 0 → ⊥) → Ready p free a b tail made left phase na nb
+  pub ready : Merging g p free a b tail made left phase → (a ≡ 0 → ⊥) → (b ≡ 0 → ⊥) → TurnReady p free a b tail made left phase na nb
   ready s = of-both (s .fa) (s .fb) (s .at)
 
   pub low-a : Merging g p free a b tail made left phase → a < 65536

@@ -12,19 +12,19 @@ use lib.ListN.{length, take, drop, replicate, length-take, length-drop, length-a
 use Rattle.pauli.specs.Letters.{power, phaseNumber, real}
 use Rattle.pauli.proofs.Numbers.{phaseNumber-small}
 use Rattle.arena.specs.Types.{I, Phase, One, PlusI, MinusOne, MinusI}
-use Rattle.arena.specs.Errors.{ExpansionLimit, NonHermitianAxis, Fine}
+use Rattle.arena.specs.Errors.{PbcError, ExpansionLimit, NonHermitianAxis, Fine}
 use Rattle.arena.specs.References.{PauliRef, nodeIn}
 use Rattle.arena.specs.Nodes.{PauliNode, Malformed, nodeAt}
 use Rattle.arena.specs.Store.{Header, breaksLimit, exceedsNodes}
 use Rattle.arena.specs.Sparse.{Factor, Sparse, spread, dense}
 use Rattle.arena.specs.Walk.{Out, fine, refused, bind, Walked, walkNodes, answerOf, walk}
 use Rattle.arena.specs.Readers.{firstOf, Expanded, expandWalk, hermitianWalk}
-use Rattle.arena.specs.Code.WalkWords.{Says, Ready, Showing, ShowReady, bytes, lettersWritten}
+use Rattle.arena.specs.Code.Results.{Ledger, Value, Says}
+use Rattle.arena.specs.Code.WalkWords.{RootReady, Showing, ShowReady, bytes, lettersWritten}
 use Rattle.arena.specs.Expansion.{expansionOf, ExpansionMade, isMalformed, anyMalformed, badNodes, lettersLeft, scratchLeft, expandCheck, hermitianCheck, cleared}
-use Rattle.arena.specs.Code.Roots.{Fit, walkError}
+use Rattle.arena.specs.Code.Roots.{Fit}
 use Rattle.arena.proofs.Accepted.{passed-before, test-passed, left-false, right-false, Sound, sound, own}
-use Rattle.arena.proofs.Refusing.{known-walk, refused-as}
-use Rattle.arena.proofs.WalkMoves.{agrees-fine}
+use Rattle.arena.proofs.Saying.{said-fine, said-refused}
 use Rattle.arena.specs.Limits.{capOf}
 
 -- ---- what passed the checks
@@ -116,7 +116,7 @@ zero-front l x k h e = ap (λ (y : List ℕ). y ++ drop k l) (e ∙ ap (λ (m : 
 
 -- ---- what is read
 
-abbrev pub ready-of : {h : Header} {words l : List ℕ} (w : ℕ) → Fit h words l → nodeIn w < h .nodes → Ready words l (h .nodes) w
+abbrev pub ready-of : {h : Header} {words l : List ℕ} (w : ℕ) → Fit h words l → nodeIn w < h .nodes → RootReady words l (h .nodes) w
 ready-of {h} w f named = record {
   n = h .qubits;
   named = named;
@@ -177,52 +177,52 @@ module _ (n count : ℕ) (words : List ℕ) (w room : ℕ) where
   pub expand-low : (cells : ℕ) → cells < n → expandWalk cells room n count words w ≡ refused ExpansionLimit
   expand-low cells lt = expand-by cells ∙ ap (λ b. expandOf n b (walked (cells - n))) (lt-leb n cells lt)
 
-  module _ (limit : ℕ) {st : ℕ} {p : List ℕ} {head phase work : ℕ} (s : Says (walkNodes limit room (nodeAt n words) count (w ∷ [])) st (Showing p head phase work)) where
-    refused-is : (st ≡ 0 → ⊥) → walked limit ≡ refused (walkError st)
-    refused-is ne = refused-as (walked limit) st (Showing p head phase work) (known-walk limit room (nodeAt n words) count (w ∷ [])) s ne
+  module _ (limit : ℕ) {p : List ℕ} {y : Out (Value × Ledger)} (s : Says (walkNodes limit room (nodeAt n words) count (w ∷ [])) y (Showing p)) where
+    pub axis-refused : {e : PbcError} → y ≡ refused e → hermitianWalk limit room n count words w ≡ refused e
+    axis-refused q = axis-by limit ∙ ap axisIn (said-refused s q)
 
-    pub axis-refused : (st ≡ 0 → ⊥) → hermitianWalk limit room n count words w ≡ refused (walkError st)
-    axis-refused ne = axis-by limit ∙ ap axisIn (refused-is ne)
+    pub expand-refused : {e : PbcError} (cells : ℕ) → n ≤ cells → limit ≡ cells - n → y ≡ refused e → expandWalk cells room n count words w ≡ refused e
+    expand-refused cells le e q = expand-by cells ∙ ap₂ (expandOf n) (le-leb n cells le) (ap walked (sym e) ∙ said-refused s q)
 
-    pub expand-refused : (cells : ℕ) → n ≤ cells → limit ≡ cells - n → (st ≡ 0 → ⊥) → expandWalk cells room n count words w ≡ refused (walkError st)
-    expand-refused cells le e ne = expand-by cells ∙ ap₂ (expandOf n) (le-leb n cells le) (ap walked (sym e) ∙ refused-is ne)
+    module _ {v : Value} {left : Ledger} (z : y ≡ fine (v, left)) where
+      abbrev pub seen : (r : Walked) × (walkNodes limit room (nodeAt n words) count (w ∷ []) ≡ fine r) × Showing p r (v, left)
+      seen = said-fine s z
 
-    module _ (z : st ≡ 0) where
-      abbrev pub x : (r : Walked) × (walkNodes limit room (nodeAt n words) count (w ∷ []) ≡ fine r) × Showing p head phase work r
-      x = agrees-fine (walkNodes limit room (nodeAt n words) count (w ∷ [])) st (Showing p head phase work) (s .says) z
+      abbrev pub x : Sparse
+      x = seen .2 .x
 
-      abbrev pub to-show : ShowReady p head
-      to-show = record { who = x .2 .who; tag = x .2 .tag; fs = x .2 .value .factors; chain = x .2 .chain }
+      abbrev pub to-show : ShowReady p (v .head)
+      to-show = record { who = seen .2 .who; tag = seen .2 .tag; fs = seen .2 .x .factors; chain = seen .2 .value .chain }
 
-      first-is : firstOf (x .0 .shown) ≡ x .2 .value
-      first-is = ap firstOf (x .2 .shown-is)
+      first-is : firstOf (seen .0 .shown) ≡ x
+      first-is = ap firstOf (seen .2 .shown-is)
 
       abbrev made : Expanded
-      made = record { row = dense n (x .2 .value); work = work }
+      made = record { row = dense n x; work = left .work }
 
       expand-made : (cells : ℕ) → n ≤ cells → limit ≡ cells - n → expandWalk cells room n count words w ≡ fine made
-      expand-made cells le e = expand-by cells ∙ ap₂ (expandOf n) (le-leb n cells le) (ap walked (sym e) ∙ x .1)
-          ∙ ap₂ (λ (v : Sparse) (k : ℕ). fine (record { row = dense n v; work = k })) first-is (sym (x .2 .work-is))
+      expand-made cells le e = expand-by cells ∙ ap₂ (expandOf n) (le-leb n cells le) (ap walked (sym e) ∙ seen .1)
+          ∙ ap₂ (λ (u : Sparse) (k : ℕ). fine (record { row = dense n u; work = k })) first-is (sym (seen .2 .work-is))
 
-      pub expand-answer : (cells : ℕ) → n ≤ cells → limit ≡ cells - n → {q : Phase} → q ≡ power (phase % 4) → ExpansionMade q work ≡ expansionOf (expandWalk cells room n count words w)
+      pub expand-answer : (cells : ℕ) → n ≤ cells → limit ≡ cells - n → {q : Phase} → q ≡ power (v .phase % 4) → ExpansionMade q (left .work) ≡ expansionOf (expandWalk cells room n count words w)
       unfolding dense
       expand-answer cells le e {q} q-is =
-          let small : phase % 4 ≡ phase = omega (arith, x .2 .phase-is, phaseNumber-small (x .2 .value .phase)) in
-          ap (λ (p : Phase). ExpansionMade p work) (q-is ∙ ap power (small ∙ x .2 .phase-is) ∙ power-number (x .2 .value .phase)) ∙ sym (ap expansionOf (expand-made cells le e))
+          let small : v .phase % 4 ≡ v .phase = omega (arith, seen .2 .value .phase-is, phaseNumber-small (x .phase)) in
+          ap (λ (p : Phase). ExpansionMade p (left .work)) (q-is ∙ ap power (small ∙ seen .2 .value .phase-is) ∙ power-number (x .phase)) ∙ sym (ap expansionOf (expand-made cells le e))
 
-      pub expand-letters : (cells : ℕ) (was letters : List ℕ) → n ≤ cells → limit ≡ cells - n → letters ≡ lettersWritten n (x .2 .value .factors) was → letters ≡ lettersLeft (expandWalk cells room n count words w) was
+      pub expand-letters : (cells : ℕ) (was letters : List ℕ) → n ≤ cells → limit ≡ cells - n → letters ≡ lettersWritten n (x .factors) was → letters ≡ lettersLeft (expandWalk cells room n count words w) was
       unfolding dense
       expand-letters cells was letters le e l-is =
-          l-is ∙ ap (λ (k : ℕ). bytes (spread n 0 (x .2 .value .factors)) ++ drop k was) (sym (length-spread n 0 (x .2 .value .factors))) ∙ sym (ap (λ o. lettersLeft o was) (expand-made cells le e))
+          l-is ∙ ap (λ (k : ℕ). bytes (spread n 0 (x .factors)) ++ drop k was) (sym (length-spread n 0 (x .factors))) ∙ sym (ap (λ o. lettersLeft o was) (expand-made cells le e))
 
-      axis-made : (b : Bool) → real (x .2 .value .phase) ≡ b → hermitianWalk limit room n count words w ≡ cond b (fine work) (refused NonHermitianAxis)
-      axis-made b e = axis-by limit ∙ ap axisIn (x .1) ∙ ap₂ (λ (c : Bool) (k : ℕ). cond c (fine k) (refused NonHermitianAxis)) (ap (λ (v : Sparse). real (v .phase)) first-is ∙ e) (sym (x .2 .work-is))
+      axis-made : (b : Bool) → real (x .phase) ≡ b → hermitianWalk limit room n count words w ≡ cond b (fine (left .work)) (refused NonHermitianAxis)
+      axis-made b e = axis-by limit ∙ ap axisIn (seen .1) ∙ ap₂ (λ (c : Bool) (k : ℕ). cond c (fine k) (refused NonHermitianAxis)) (ap (λ (u : Sparse). real (u .phase)) first-is ∙ e) (sym (seen .2 .work-is))
 
-      pub axis-odd : phase % 2 ≡ 1 → hermitianWalk limit room n count words w ≡ refused NonHermitianAxis
-      axis-odd e = axis-made false (odd-phase (x .2 .value .phase) (ap (λ (k : ℕ). k % 2) (sym (x .2 .phase-is)) ∙ e))
+      pub axis-odd : v .phase % 2 ≡ 1 → hermitianWalk limit room n count words w ≡ refused NonHermitianAxis
+      axis-odd e = axis-made false (odd-phase (x .phase) (ap (λ (k : ℕ). k % 2) (sym (seen .2 .value .phase-is)) ∙ e))
 
-      pub axis-even : (phase % 2 ≡ 1 → ⊥) → hermitianWalk limit room n count words w ≡ fine work
-      axis-even ne = axis-made true (even-phase (x .2 .value .phase) (λ e. ne (ap (λ (k : ℕ). k % 2) (x .2 .phase-is) ∙ e)))
+      pub axis-even : (v .phase % 2 ≡ 1 → ⊥) → hermitianWalk limit room n count words w ≡ fine (left .work)
+      axis-even ne = axis-made true (even-phase (x .phase) (λ e. ne (ap (λ (k : ℕ). k % 2) (seen .2 .value .phase-is) ∙ e)))
 
 -- ---- what a walk leaves
 

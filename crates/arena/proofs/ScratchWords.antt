@@ -13,7 +13,7 @@ use Rattle.pauli.specs.Letters.{pauliOf, phaseNumber}
 use Rattle.arena.specs.References.{nodeIn}
 use Rattle.arena.specs.Nodes.{PauliNode, Identity, Single, Product, Malformed, decodeAs, decode, nodeAt}
 use Rattle.arena.specs.Sparse.{Sparse, size}
-use Rattle.arena.specs.Code.WalkWords.{field, usesAt, withUse, valueAt, packed, headIn, countIn, turnIn, Marks, LinksKept, ValuesKept}
+use Rattle.arena.specs.Code.WalkWords.{scratchAt, usesAt, withUse, valueAt, valueWord, headIn, countIn, turnIn, Marks, LinksKept, ValuesKept}
 use Rattle.arena.proofs.Reading.{both-true}
 
 -- ---- uses
@@ -42,7 +42,7 @@ use-other l i v j ne = ap₂ (λ (a b : ℕ). a + 4294967296 * b)
 pub use-value : (l : List ℕ) (i v j : ℕ) → valueAt (withUse l i v) j ≡ valueAt l j
 use-value l i v j = use-elsewhere l i v (4 * j + 2) (λ e. omega arith) (λ e. omega arith)
 
-pub use-link : (l : List ℕ) (i v j : ℕ) → field 3 (withUse l i v) j ≡ field 3 l j
+pub use-link : (l : List ℕ) (i v j : ℕ) → scratchAt 3 (withUse l i v) j ≡ scratchAt 3 l j
 use-link l i v j = use-elsewhere l i v (4 * j + 3) (λ e. omega arith) (λ e. omega arith)
 
 -- another word written
@@ -53,17 +53,17 @@ uses-set l i d v j h h′ = ap₂ (λ (a b : ℕ). a + 4294967296 * b)
 -- ---- values
 
 module _ (head count phase : ℕ) (few : count ≤ 256) (small : phase < 4) where
-  pub packed-head : headIn (packed head count phase) ≡ head
-  packed-head = omega arith
+  pub valueWord-head : headIn (valueWord head count phase) ≡ head
+  valueWord-head = omega arith
 
-  pub packed-count : countIn (packed head count phase) ≡ count
-  packed-count = omega arith
+  pub valueWord-count : countIn (valueWord head count phase) ≡ count
+  valueWord-count = omega arith
 
-  pub packed-turn : turnIn (packed head count phase) ≡ phase
-  packed-turn = omega arith
+  pub valueWord-turn : turnIn (valueWord head count phase) ≡ phase
+  valueWord-turn = omega arith
 
-pub marks-packed : (v : Sparse) (head count phase : ℕ) → count ≤ 256 → phase < 4 → count ≡ size v → phase ≡ phaseNumber (v .phase) → Marks true v (packed head count phase)
-marks-packed v head count phase few small c p = (omega arith, packed-count head count phase few small ∙ c, packed-turn head count phase few small ∙ p)
+pub marks-word : (v : Sparse) (head count phase : ℕ) → count ≤ 256 → phase < 4 → count ≡ size v → phase ≡ phaseNumber (v .phase) → Marks true v (valueWord head count phase)
+marks-word v head count phase few small c p = (omega arith, valueWord-count head count phase few small ∙ c, valueWord-turn head count phase few small ∙ p)
 
 -- the test that the code makes
 pub marked : (b : Bool) (v : Sparse) (w : ℕ) → Marks b v w → w ≡ 0 → b ≡ false

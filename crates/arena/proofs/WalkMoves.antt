@@ -11,13 +11,14 @@ use lib.Seq.{getD-set-same, getD-set-other}
 use Rattle.pauli.specs.Letters.{_⊕_, power, phaseNumber}
 use Rattle.pauli.proofs.Numbers.{power-rest, power-sum}
 use Rattle.arena.specs.Types.{Phase}
-use Rattle.arena.specs.Errors.{PbcError, refusalIn}
+use Rattle.arena.specs.Errors.{ExpansionLimit, NoPool}
 use Rattle.arena.specs.References.{nodeIn, phaseIn}
 use Rattle.arena.specs.Sparse.{Factor, Sparse, size}
-use Rattle.arena.specs.Walk.{Out, fine, refused, update, State, Taken, takeUse}
+use Rattle.arena.specs.Walk.{fine, refused, update, State, Taken, takeUse}
 use Rattle.arena.specs.Pool.{Who, Chain, Free}
 use Rattle.arena.specs.PoolSteps.{Source, Copied}
-use Rattle.arena.specs.Code.WalkWords.{usesAt, withUse, valueAt, headIn, countIn, turnIn, Marks, Agrees, Rep, Takeable, TookRep}
+use Rattle.arena.specs.Code.Results.{Ledger, Value, Says}
+use Rattle.arena.specs.Code.WalkWords.{usesAt, withUse, valueAt, headIn, valueNamed, Marks, Rep, Takeable, TookRep}
 use Rattle.arena.proofs.Outcomes.{update-same, update-other}
 use Rattle.arena.proofs.PoolLetters.{number-power}
 use Rattle.arena.proofs.PoolParts.{chain-own, free-own, retag, retag-same, retag-other, retag-spare}
@@ -29,25 +30,14 @@ pub word-sum : (a b : ℕ) (p q : Phase) → a ≡ phaseNumber p → b ≡ phase
 word-sum a b p q ea eb = ap₂ (λ (x y : ℕ). (x + y) % 4) ea eb ∙ sym (number-power ((phaseNumber p + phaseNumber q) % 4) (omega arith))
     ∙ ap phaseNumber (sym (power-rest (phaseNumber p + phaseNumber q) ((phaseNumber p + phaseNumber q) % 4) refl) ∙ power-sum p q)
 
--- ---- outcomes
-
-pub agrees-refused : {A : Type 0} (x : Out A) (st : ℕ) (P : A → Type 0) → Agrees x st P → (st ≡ 0 → ⊥)
-    → (e : PbcError) × (x ≡ refused e) × (st ≡ refusalIn e .number)
-agrees-refused (fine a) st P h ne = absurd (ne (h .0))
-agrees-refused (refused e) st P h ne = (e, refl, h .0)
-
-pub agrees-fine : {A : Type 0} (x : Out A) (st : ℕ) (P : A → Type 0) → Agrees x st P → st ≡ 0 → (a : A) × (x ≡ fine a) × P a
-agrees-fine (fine a) st P h z = (a, refl, h .1)
-agrees-fine (refused e) st P h z = absurd (h .1 z)
-
 -- ---- one use less
 
-module _ {count room : ℕ} {l p : List ℕ} {free spare : ℕ} {who : Who} {s : State} (r : Rep count room l p free spare who s) where
-  pub less-rep : (j u : ℕ) {p′ : List ℕ} {who′ : Who} (free′ spare′ work held : ℕ) → j < count → u ≡ s .uses j
+module _ {count room : ℕ} {l p : List ℕ} {left : Ledger} {who : Who} {s : State} (r : Rep count room l p left who s) where
+  pub less-rep : (j u : ℕ) {p′ : List ℕ} {who′ : Who} (left′ : Ledger) (work held : ℕ) → j < count → u ≡ s .uses j
       → ((k h : ℕ) (fs : List Factor) → 0 < update (s .uses) j (s .uses j - 1) k → Chain p who (k + 2) 0 h fs → Chain p′ who′ (k + 2) 0 h fs)
-      → 0 < s .uses j → Free p′ who′ free′ spare′ → spare′ + held ≡ room
-      → Rep count room (withUse l j (u - 1)) p′ free′ spare′ who′ (record { uses = update (s .uses) j (s .uses j - 1); done = s .done; value = s .value; work = work; held = held })
-  less-rep j u {p′} {who′} free′ spare′ work held lj u-is keep used fr bal = record {
+      → 0 < s .uses j → Free p′ who′ (left′ .free) (left′ .spare) → left′ .spare + held ≡ room → left′ .work ≡ work
+      → Rep count room (withUse l j (u - 1)) p′ left′ who′ (record { uses = update (s .uses) j (s .uses j - 1); done = s .done; value = s .value; work = work; held = held })
+  less-rep j u {p′} {who′} left′ work held lj u-is keep used fr bal paid = record {
     scratch = record {
       long = omega (arith, length-use l j (u - 1), r .scratch .long);
       uses-are = λ k lk. uses-at k lk (eqb k j) refl;
@@ -56,6 +46,7 @@ module _ {count room : ℕ} {l p : List ℕ} {free spare : ℕ} {who : Who} {s :
     chains = λ k lk d h. rw (use-value l j (u - 1) k) (keep k (headIn (valueAt l k)) (s .value k .factors) h (r .chains k lk d (more k h (eqb k j) refl)));
     freed = fr;
     balance = bal;
+    work-is = paid;
   }
     where
       uses-at : (k : ℕ) → k < count → (b : Bool) → eqb k j ≡ b → usesAt (withUse l j (u - 1)) k ≡ cond b (s .uses j - 1) (s .uses k)
@@ -68,11 +59,11 @@ module _ {count room : ℕ} {l p : List ℕ} {free spare : ℕ} {who : Who} {s :
 
   -- ---- a node finished
 
-  pub finish-rep : (i : ℕ) (v : Sparse) (m : ℕ) {p′ : List ℕ} {who′ : Who} (free′ spare′ work held : ℕ) → i < count → Marks true v m
+  pub finish-rep : (i : ℕ) (v : Sparse) (m : ℕ) {p′ : List ℕ} {who′ : Who} (left′ : Ledger) (work held : ℕ) → i < count → Marks true v m
       → ((k h : ℕ) (fs : List Factor) → (k ≡ i → ⊥) → Chain p who (k + 2) 0 h fs → Chain p′ who′ (k + 2) 0 h fs)
-      → Chain p′ who′ (i + 2) 0 (headIn m) (v .factors) → Free p′ who′ free′ spare′ → spare′ + held ≡ room
-      → Rep count room (set l (4 * i + 2) m) p′ free′ spare′ who′ (record { uses = s .uses; done = update (s .done) i true; value = update (s .value) i v; work = work; held = held })
-  finish-rep i v m {p′} {who′} free′ spare′ work held li m-is keep ch fr bal = record {
+      → Chain p′ who′ (i + 2) 0 (headIn m) (v .factors) → Free p′ who′ (left′ .free) (left′ .spare) → left′ .spare + held ≡ room → left′ .work ≡ work
+      → Rep count room (set l (4 * i + 2) m) p′ left′ who′ (record { uses = s .uses; done = update (s .done) i true; value = update (s .value) i v; work = work; held = held })
+  finish-rep i v m {p′} {who′} left′ work held li m-is keep ch fr bal paid = record {
     scratch = record {
       long = rw length-set (r .scratch .long);
       uses-are = λ k lk. uses-set l i 2 m k (omega arith) (omega arith) ∙ r .scratch .uses-are k lk;
@@ -81,6 +72,7 @@ module _ {count room : ℕ} {l p : List ℕ} {free spare : ℕ} {who : Who} {s :
     chains = λ k lk d u. chain-at k lk d u (eqb k i) refl;
     freed = fr;
     balance = bal;
+    work-is = paid;
   }
     where
       here : valueAt (set l (4 * i + 2) m) i ≡ m
@@ -105,15 +97,15 @@ module _ {count room : ℕ} {l p : List ℕ} {free spare : ℕ} {who : Who} {s :
 
 -- ---- a use taken
 
-module _ {l p : List ℕ} {limit w free spare work : ℕ} (g : Takeable l p limit w free spare work) where
+module _ {l p : List ℕ} {limit w : ℕ} {left : Ledger} (g : Takeable l p limit w left) where
   abbrev pub s : State
   s = g .s
 
   abbrev pub j : ℕ
   j = nodeIn w
 
-  abbrev pub v : Sparse
-  v = g .s .value (nodeIn w)
+  abbrev pub x : Sparse
+  x = g .s .value (nodeIn w)
 
   pub word-room : 4 * j + 3 < length l
   word-room = omega (arith, g .rep .scratch .long, g .named)
@@ -121,37 +113,32 @@ module _ {l p : List ℕ} {limit w free spare work : ℕ} (g : Takeable l p limi
   pub uses-is : usesAt l j ≡ s .uses j
   uses-is = g .rep .scratch .uses-are j (g .named)
 
-  pub mark-is : Marks true v (valueAt l j)
-  mark-is = subst (λ b. Marks b v (valueAt l j)) (g .done-is) (g .rep .scratch .marks-are j (g .named))
+  pub mark-is : Marks true x (valueAt l j)
+  mark-is = subst (λ b. Marks b x (valueAt l j)) (g .done-is) (g .rep .scratch .marks-are j (g .named))
 
   pub use-some : 1 ≤ usesAt l j
   use-some = omega (arith, uses-is, g .used)
 
-  module _ {u m h many t phase : ℕ} (u-is : u ≡ usesAt l j) (m-is : m ≡ valueAt l j) (h-is : h ≡ headIn m)
-      (many-is : many ≡ countIn m) (t-is : t ≡ turnIn m) (phase-is : phase ≡ (w % 4 + t) % 4) where
-    pub size-is : many ≡ size v
-    size-is = many-is ∙ ap countIn m-is ∙ mark-is .1
+  module _ {u : ℕ} {v : Value} (u-is : u ≡ usesAt l j) (v-is : v ≡ valueNamed l w) where
+    pub size-is : v .count ≡ size x
+    size-is = ap (λ (k : Value). k .count) v-is ∙ mark-is .1
 
-    pub turn-is : phase ≡ phaseNumber (phaseIn w ⊕ v .phase)
-    turn-is = phase-is ∙ word-sum (w % 4) t (power (w % 4)) (v .phase) (sym (number-power (w % 4) (omega arith))) (t-is ∙ ap turnIn m-is ∙ mark-is .2)
+    pub turn-is : v .phase ≡ phaseNumber (phaseIn w ⊕ x .phase)
+    turn-is = ap (λ (k : Value). k .phase) v-is ∙ word-sum (w % 4) _ (power (w % 4)) (x .phase) (sym (number-power (w % 4) (omega arith))) (mark-is .2)
 
-    pub chain-is : Chain p (g .who) (j + 2) 0 h (v .factors)
-    chain-is = rw (h-is, m-is) (g .rep .chains j (g .named) (g .done-is) (g .used))
+    pub chain-is : Chain p (g .who) (j + 2) 0 (v .head) (x .factors)
+    chain-is = subst (λ (k : Value). Chain p (g .who) (j + 2) 0 (k .head) (x .factors)) (sym v-is) (g .rep .chains j (g .named) (g .done-is) (g .used))
 
-    pub took-move : {l′ : List ℕ} → u ≡ 1 → l′ ≡ withUse l j (u - 1) → Agrees (takeUse limit (g .room) w s) 0 (TookRep g l′ p h many phase free spare work)
-    took-move e l-is = rw (l-is, eq-eqb (s .uses j) 1 (sym uses-is ∙ sym u-is ∙ e)) (
-      refl,
-      record {
+    pub took-move : {l′ : List ℕ} → u ≡ 1 → l′ ≡ withUse l j (u - 1) → Says (takeUse limit (g .room) w s) (fine (v, left)) (TookRep g l′ p)
+    took-move e l-is = rw (l-is, eq-eqb (s .uses j) 1 (sym uses-is ∙ sym u-is ∙ e)) (record {
+      says = record {
         who′ = who′;
-        rep = less-rep (g .rep) j u free spare (s .work) (s .held) (g .named) (u-is ∙ uses-is) (λ k h fs used c. chain-own p (g .who) who′ (k + 2) (k + 2) 0 h fs (λ r q. retag-other (j + 2) (g .tag) (k + 2) (g .who) r q (other k used)) c)
-            (g .used) (free-own p (g .who) who′ free spare (retag-spare (j + 2) (g .tag) (g .who)) (g .rep .freed)) (g .rep .balance);
-        chain = chain-own p (g .who) who′ (j + 2) (g .tag) 0 h (v .factors) (retag-same (j + 2) (g .tag) (g .who)) chain-is;
-        count-is = size-is;
-        phase-is = turn-is;
-        work-is = g .work-is;
+        rep = less-rep (g .rep) j u left (s .work) (s .held) (g .named) (u-is ∙ uses-is) (λ k h fs used c. chain-own p (g .who) who′ (k + 2) (k + 2) 0 h fs (λ r q. retag-other (j + 2) (g .tag) (k + 2) (g .who) r q (other k used)) c)
+            (g .used) (free-own p (g .who) who′ (left .free) (left .spare) (retag-spare (j + 2) (g .tag) (g .who)) (g .rep .freed)) (g .rep .balance) (g .rep .work-is);
+        value = record { chain = chain-own p (g .who) who′ (j + 2) (g .tag) 0 (v .head) (x .factors) (retag-same (j + 2) (g .tag) (g .who)) chain-is; count-is = size-is; phase-is = turn-is };
         kept = λ t lo h fs low ne c. chain-own p (g .who) who′ t t lo h fs (λ r q. retag-other (j + 2) (g .tag) t (g .who) r q (λ eq. omega arith)) c;
-      },
-    )
+      };
+    })
       where
         who′ : Who
         who′ = retag (j + 2) (g .tag) (g .who)
@@ -163,40 +150,36 @@ module _ {l p : List ℕ} {limit w free spare work : ℕ} (g : Takeable l p limi
     not-last : (u ≡ 1 → ⊥) → eqb (s .uses j) 1 ≡ false
     not-last ne = ne-eqb (s .uses j) 1 (λ e. ne (u-is ∙ uses-is ∙ e))
 
-    pub took-17 : (P : Taken → Type 0) {st : ℕ} → st ≡ 17 → (u ≡ 1 → ⊥) → limit - work < many → Agrees (takeUse limit (g .room) w s) st P
-    took-17 P e ne lt = rw (e, not-last ne, lt-leb (s .work + size v) limit (omega (arith, g .work-is, g .paid, size-is))) (refl, λ z. omega arith)
+    pub took-17 : {B : Type 0} {R : Taken → B → Type 0} → (u ≡ 1 → ⊥) → limit - left .work < v .count → Says (takeUse limit (g .room) w s) (refused ExpansionLimit) R
+    took-17 ne lt = rw (not-last ne, lt-leb (s .work + size x) limit (omega (arith, g .rep .work-is, g .paid, size-is))) (record { says = refl })
 
-    pub took-18 : (P : Taken → Type 0) {st : ℕ} → st ≡ 18 → (u ≡ 1 → ⊥) → many ≤ limit - work → spare < many → Agrees (takeUse limit (g .room) w s) st P
-    took-18 P e ne le lt = rw (e, not-last ne, le-leb (s .work + size v) limit (omega (arith, g .work-is, g .paid, size-is)), lt-leb (s .held + size v) (g .room) (omega (arith, g .rep .balance, size-is))) (refl, λ z. omega arith)
+    pub took-18 : {B : Type 0} {R : Taken → B → Type 0} → (u ≡ 1 → ⊥) → v .count ≤ limit - left .work → left .spare < v .count → Says (takeUse limit (g .room) w s) (refused NoPool) R
+    took-18 ne le lt = rw (not-last ne, le-leb (s .work + size x) limit (omega (arith, g .rep .work-is, g .paid, size-is)), lt-leb (s .held + size x) (g .room) (omega (arith, g .rep .balance, size-is))) (record { says = refl })
 
-    abbrev pub source : many ≤ spare → Source p free h many
+    abbrev pub source : v .count ≤ left .spare → Source p (left .free) (v .head) (v .count)
     source le =
-        let e : spare ≡ many + (spare - many) = omega arith in
+        let e : left .spare ≡ v .count + (left .spare - v .count) = omega arith in
         record {
           who = g .who;
           ta = j + 2;
           tr = g .tag;
           a-r = λ q. omega (arith, g .tag-low);
-          fs = v .factors;
-          n = spare - many;
+          fs = x .factors;
+          n = left .spare - v .count;
           chain = chain-is;
-          freed = subst (λ (k : ℕ). Free p (g .who) free k) e (g .rep .freed);
+          freed = subst (λ (k : ℕ). Free p (g .who) (left .free) k) e (g .rep .freed);
           count-is = size-is;
         }
 
-    pub took-copy : {l′ p′ : List ℕ} {head free′ : ℕ} → (u ≡ 1 → ⊥) → many ≤ limit - work → (le : many ≤ spare) → l′ ≡ withUse l j (u - 1) → Copied (source le) p′ head free′
-        → Agrees (takeUse limit (g .room) w s) 0 (TookRep g l′ p′ head many phase free′ (spare - many) (work + many))
-    took-copy {l′} {p′} {head} {free′} ne lw le l-is m =
-        rw (l-is, not-last ne, le-leb (s .work + size v) limit (omega (arith, g .work-is, g .paid, size-is)), le-leb (s .held + size v) (g .room) (omega (arith, g .rep .balance, size-is))) (
-          refl,
-          record {
+    pub took-copy : {l′ p′ : List ℕ} {head free : ℕ} → (u ≡ 1 → ⊥) → v .count ≤ limit - left .work → (le : v .count ≤ left .spare) → l′ ≡ withUse l j (u - 1) → Copied (source le) p′ head free
+        → Says (takeUse limit (g .room) w s) (fine (record { head = head; count = v .count; phase = v .phase }, record { free = free; spare = left .spare - v .count; work = left .work + v .count })) (TookRep g l′ p′)
+    took-copy {l′} {p′} {head} {free} ne lw le l-is m =
+        rw (l-is, not-last ne, le-leb (s .work + size x) limit (omega (arith, g .rep .work-is, g .paid, size-is)), le-leb (s .held + size x) (g .room) (omega (arith, g .rep .balance, size-is))) (record {
+          says = record {
             who′ = m .who′;
-            rep = less-rep (g .rep) j u free′ (spare - many) (s .work + size v) (s .held + size v) (g .named) (u-is ∙ uses-is) (λ k h fs used c. m .kept (k + 2) 0 h fs (λ q. omega (arith, g .tag-low)) c)
-                (g .used) (m .freed) (omega (arith, g .rep .balance, size-is));
-            chain = m .chain;
-            count-is = size-is;
-            phase-is = turn-is;
-            work-is = omega (arith, g .work-is, size-is);
+            rep = less-rep (g .rep) j u _ (s .work + size x) (s .held + size x) (g .named) (u-is ∙ uses-is) (λ k h fs used c. m .kept (k + 2) 0 h fs (λ q. omega (arith, g .tag-low)) c)
+                (g .used) (m .freed) (omega (arith, g .rep .balance, size-is)) (omega (arith, g .rep .work-is, size-is));
+            value = record { chain = m .chain; count-is = size-is; phase-is = turn-is };
             kept = λ t lo h fs low nt c. m .kept t lo h fs nt c;
-          },
-        )
+          };
+        })

@@ -9,17 +9,18 @@ use native.Mathlib.Omega.{arith}
 use borrow.Author.Tests.{ltb-true, ltb-false}
 use lib.Dec.{ltb}
 use lib.ListN.{length, replicate, length-replicate}
-use Rattle.arena.specs.Errors.{Fine}
+use Rattle.arena.specs.Errors.{PbcError, Fine}
 use Rattle.arena.specs.References.{nodeIn, phaseIn}
 use Rattle.arena.specs.Nodes.{PauliNode, nodeAt}
 use Rattle.arena.specs.Operations.{PbcOp, Rotate, Measure, ConditionalRotate, Malformed}
 use Rattle.arena.specs.Store.{Header, exceedsOperations, foreign}
 use Rattle.arena.specs.Sparse.{turned, size}
-use Rattle.arena.specs.Walk.{Out, fine, refused, bind, State, Walked, rootUses, scan, charge, begin, release, showRoots, walkNodes, answerOf, walk}
+use Rattle.arena.specs.Walk.{Out, fine, refused, bind, State, Walked, rootUses, release, showRoots, walkNodes, answerOf, walk}
 use Rattle.arena.specs.Readers.{Weighed, Weights, weigh, largest, wordsOf, Report, reportWalk}
-use Rattle.arena.specs.Code.WalkWords.{Inv, none, edge, usesAt, withUse, valueAt, Uses, Says, Rooted}
+use Rattle.arena.specs.Code.Results.{Ledger, Value, Says}
+use Rattle.arena.specs.Code.WalkWords.{Inv, none, edge, usesAt, withUse, valueAt, Uses, Rooted}
 use Rattle.arena.specs.Expansion.{maxWeightsOf, WeightsMade, WeightsRefused, opAt, isBadOp, anyBadOp, badNodes, weighedOf, axesTo, reportCheck}
-use Rattle.arena.specs.Code.Roots.{Rootable, Begun, showRoot, RootShown, Releasable, Released, walkError, Fit, axisAt, axesOf, AxesNamed, Countable, AxesCounted, weighRoots, weightsOf, Resting, Weighing}
+use Rattle.arena.specs.Code.Roots.{Rootable, tallyOf, startOf, Begun, showRoot, RootShown, Releasable, Released, Fit, weighedAt, axesOf, AxesNamed, Countable, AxesCounted, RootWeight, weightOf, weighRoot, RootWeighed, weighRoots, weightsOf, Resting, Weighing}
 use Rattle.arena.proofs.Outcomes.{bind-assoc}
 use Rattle.arena.proofs.Fitting.{node-fits}
 use Rattle.arena.proofs.Uses.{plus-edge}
@@ -27,10 +28,9 @@ use Rattle.arena.proofs.Bounds.{roots-few}
 use Rattle.arena.proofs.Meaning.{root-used, release-inv}
 use Rattle.arena.proofs.ScratchWords.{length-use, use-value}
 use Rattle.arena.proofs.UsesInWords.{uses-plus}
-use Rattle.arena.proofs.WalkMoves.{agrees-fine}
-use Rattle.arena.proofs.RootWalks.{zero-at, release-work, show-first, releasable}
+use Rattle.arena.proofs.Saying.{said-fine, said-refused, refuses-on, says-fine}
+use Rattle.arena.proofs.RootWalks.{zero-at, show-first, releasable}
 use Rattle.arena.proofs.Accepted.{passed-before, test-passed, left-false, right-false, own}
-use Rattle.arena.proofs.Refusing.{known-charge, known-root, refused-as}
 use Rattle.arena.proofs.ReaderWalks.{Walkable, walkable}
 use Rattle.arena.specs.Limits.{capOf}
 
@@ -89,7 +89,8 @@ module _ (limit room : ℕ) (node : ℕ → PauliNode) (count : ℕ) where
       let f : m .clifford ≡ max (m .clifford) 0 = omega arith in
       ap₂ (λ (a b : ℕ). fine (record { weights = weightsOf a b; work = s .work })) e f
   weigh-walk (x ∷ xs) m s =
-      bind-same (showRoot limit room node count (nodeIn (x .word)) s) _ (λ t. bind (rest t) (reported (x ∷ xs) m)) (λ t. step t (weigh-walk xs (weigh (x .clifford) (size (t .value (nodeIn (x .word)))) m) (release (nodeIn (x .word)) t)))
+      bind-assoc (showRoot limit room node count (nodeIn (x .word)) s) (λ t. fine (weightOf (x .word) t)) (λ a. weighRoots limit room node count xs (weigh (x .clifford) (a .weight) m) (a .state))
+      ∙ bind-same (showRoot limit room node count (nodeIn (x .word)) s) _ (λ t. bind (rest t) (reported (x ∷ xs) m)) (λ t. step t (weigh-walk xs (weigh (x .clifford) (size (t .value (nodeIn (x .word)))) m) (release (nodeIn (x .word)) t)))
       ∙ sym (bind-assoc (showRoot limit room node count (nodeIn (x .word)) s) rest (reported (x ∷ xs) m))
       ∙ ap (λ o. bind o (reported (x ∷ xs) m)) (sym (show-first limit room node count (x .word) (wordsOf xs) s))
     where
@@ -105,16 +106,13 @@ module _ (limit room : ℕ) (node : ℕ → PauliNode) (count : ℕ) where
           ∙ sym (bind-assoc (showRoots limit room node count (wordsOf xs) (release (nodeIn (x .word)) t)) (λ r. fine (record { shown = turned (phaseIn (x .word)) (t .value (nodeIn (x .word))) ∷ r .shown; state = r .state })) (reported (x ∷ xs) m))
 
 -- the report is the start of the walk, and then the axes weighed in turn
-abbrev pub startOf : ℕ → (ℕ → PauliNode) → ℕ → List Weighed → Out State
-startOf limit node count xs = charge limit (length (wordsOf xs) + scan node count (rootUses (wordsOf xs)) .reached) (begin (scan node count (rootUses (wordsOf xs))))
-
 pub report-weighs : (limit room n count : ℕ) (words : List ℕ) (xs : List Weighed)
-    → reportWalk limit room n count words xs ≡ bind (startOf limit (nodeAt n words) count xs) (λ s. weighRoots limit room (nodeAt n words) count xs (weightsOf 0 0) s)
+    → reportWalk limit room n count words xs ≡ bind (startOf limit (nodeAt n words) count (wordsOf xs)) (λ s. weighRoots limit room (nodeAt n words) count xs (weightsOf 0 0) s)
 unfolding reportWalk walk
 report-weighs limit room n count words xs =
     bind-assoc (walkNodes limit room (nodeAt n words) count (wordsOf xs)) (λ r. fine (answerOf r)) (λ a. fine (record { weights = largest xs (map size (a .shown)); work = a .work }))
-    ∙ bind-assoc (startOf limit (nodeAt n words) count xs) (λ s. showRoots limit room (nodeAt n words) count (wordsOf xs) s) (λ r. fine (record { weights = largest xs (map size (r .shown)); work = r .state .work }))
-    ∙ bind-same (startOf limit (nodeAt n words) count xs) _ _ (λ s. bind-same (showRoots limit room (nodeAt n words) count (wordsOf xs) s) _ _ (λ r. from-zero r (largest xs (map size (r .shown)))) ∙ sym (weigh-walk limit room (nodeAt n words) count xs (weightsOf 0 0) s))
+    ∙ bind-assoc (startOf limit (nodeAt n words) count (wordsOf xs)) (λ s. showRoots limit room (nodeAt n words) count (wordsOf xs) s) (λ r. fine (record { weights = largest xs (map size (r .shown)); work = r .state .work }))
+    ∙ bind-same (startOf limit (nodeAt n words) count (wordsOf xs)) _ _ (λ s. bind-same (showRoots limit room (nodeAt n words) count (wordsOf xs) s) _ _ (λ r. from-zero r (largest xs (map size (r .shown)))) ∙ sym (weigh-walk limit room (nodeAt n words) count xs (weightsOf 0 0) s))
   where
     from-zero : (r : Walked) (l : Weights) → _≡_ {A = Out Report} (fine (record { weights = l; work = r .state .work })) (fine (record { weights = both (weightsOf 0 0) l; work = r .state .work }))
     from-zero r l =
@@ -134,7 +132,7 @@ module _ {h : Header} {ops was : List ℕ} (g : Countable h ops was) where
   pub count-begin : CountAt h ops was was 0
   count-begin = record { upto = omega arith; long = refl; uses = λ j lj. omega (arith, g .zero-at (4 * j), g .zero-at (4 * j + 1)); blank = λ k. g .zero-at (4 * k + 2) }
 
-  module _ {l : List ℕ} {i w : ℕ} (s : CountAt h ops was l i) (lt : i < h .operations) (w-is : w ≡ axisAt h ops i .word) where
+  module _ {l : List ℕ} {i w : ℕ} (s : CountAt h ops was l i) (lt : i < h .operations) (w-is : w ≡ weighedAt h ops i .word) where
     named : nodeIn w < h .nodes
     named = rw w-is (g .named i lt)
 
@@ -149,7 +147,7 @@ module _ {h : Header} {ops was : List ℕ} (g : Countable h ops was) where
       upto = omega arith;
       long = ap length e ∙ length-use l (nodeIn w) (usesAt l (nodeIn w) + 1) ∙ s .long;
       uses = λ j lj. rw (add-one i) (uses-plus (h .nodes) l l′ (rootUses (wordsOf (axesTo (opAt h ops) i))) (nodeIn w) named (omega (arith, s .long, g .long)) (s .uses) e j lj
-          ∙ plus-edge w j (rootUses (wordsOf (axesTo (opAt h ops) i))) ∙ ap (λ (v : ℕ). rootUses (wordsOf (axesTo (opAt h ops) i)) j + edge v j) w-is ∙ sym (roots-more (axesTo (opAt h ops) i) (axisAt h ops i) j));
+          ∙ plus-edge w j (rootUses (wordsOf (axesTo (opAt h ops) i))) ∙ ap (λ (v : ℕ). rootUses (wordsOf (axesTo (opAt h ops) i)) j + edge v j) w-is ∙ sym (roots-more (axesTo (opAt h ops) i) (weighedAt h ops i) j));
       blank = λ k. rw e (use-value l (nodeIn w) (usesAt l (nodeIn w) + 1) k ∙ s .blank k);
     }
 
@@ -163,29 +161,59 @@ module _ {h : Header} {ops was : List ℕ} (g : Countable h ops was) where
 abbrev pub restAxes : Header → List ℕ → ℕ → List Weighed
 restAxes h ops i = axesFrom (opAt h ops) i (h .operations - i)
 
-rest-more : (h : Header) (ops : List ℕ) (i : ℕ) → i < h .operations → restAxes h ops i ≡ axisAt h ops i ∷ restAxes h ops (i + 1)
+rest-more : (h : Header) (ops : List ℕ) (i : ℕ) → i < h .operations → restAxes h ops i ≡ weighedAt h ops i ∷ restAxes h ops (i + 1)
 rest-more h ops i lt =
     let e : h .operations - i ≡ suc (h .operations - (i + 1)) = omega arith in
     let f : suc i ≡ i + 1 = omega arith in
-    ap (λ (k : ℕ). axesFrom (opAt h ops) i k) e ∙ ap (λ (j : ℕ). axisAt h ops i ∷ axesFrom (opAt h ops) j (h .operations - (i + 1))) f
+    ap (λ (k : ℕ). axesFrom (opAt h ops) i k) e ∙ ap (λ (j : ℕ). weighedAt h ops i ∷ axesFrom (opAt h ops) j (h .operations - (i + 1))) f
 
 weights-raised : (b : Bool) (k x y : ℕ) {x′ y′ : ℕ} → x′ ≡ cond (not b) (max k x) x → y′ ≡ cond b (max k y) y → weigh b k (weightsOf x y) ≡ weightsOf x′ y′
 weights-raised true k x y e f = ap₂ weightsOf (sym e) (sym f)
 weights-raised false k x y e f = ap₂ weightsOf (sym e) (sym f)
 
-module _ {h : Header} {words ops was pool : List ℕ} {limit free₀ have₀ work₀ : ℕ} (g : Weighing h words ops was pool limit free₀ have₀ work₀) where
+-- an axis weighed in the words: shown, and released
+
+module _ (w : ℕ) {words l p : List ℕ} {count limit : ℕ} {left : Ledger} (g : Rooted words l p count limit (nodeIn w) left) {l₁ p₁ : List ℕ} {y : Out (Value × Ledger)}
+    (o : Says (showRoot limit (g .at .room) (nodeAt (g .at .n) words) count (nodeIn w) (g .at .s)) y (RootShown w g l₁ p₁)) where
+  abbrev weight : State → Out RootWeight
+  weight t = fine (weightOf w t)
+
+  pub weight-refused : {B : Type 0} {S : RootWeight → B → Type 0} {e : PbcError} → y ≡ refused e
+      → Says (weighRoot limit (g .at .room) (nodeAt (g .at .n) words) count w (g .at .s)) (refused e) S
+  weight-refused q = refuses-on o weight q
+
+  module _ {v : Value} {rest : Ledger} (z : y ≡ fine (v, rest)) where
+    abbrev pub seen : (t : State) × (showRoot limit (g .at .room) (nodeAt (g .at .n) words) count (nodeIn w) (g .at .s) ≡ fine t) × RootShown w g l₁ p₁ t (v, rest)
+    seen = said-fine o z
+
+    abbrev pub to-release : Releasable l₁ p₁ (nodeIn w) v rest
+    to-release = releasable w g (seen .2)
+
+    pub weight-made : {l₂ p₂ : List ℕ} {after : Ledger} → Released to-release l₂ p₂ after
+        → Says (weighRoot limit (g .at .room) (nodeAt (g .at .n) words) count w (g .at .s)) (fine (v .count, after)) (RootWeighed w g l₂ p₂)
+    weight-made r = says-fine (ap (λ q. bind q weight) (seen .1)) (record {
+      t = seen .0;
+      who = r .who;
+      rep = r .rep;
+      inv = seen .2 .inv;
+      done-is = seen .2 .done-is;
+      weight-is = seen .2 .value .count-is;
+      state-is = refl;
+    })
+
+module _ {h : Header} {words ops was pool : List ℕ} {limit : ℕ} {left₀ : Ledger} (g : Weighing h words ops was pool limit left₀) where
   abbrev pub weighs : List Weighed → Weights → State → Out Report
   weighs xs m s = weighRoots limit (g .room) (nodeAt (h .qubits) words) (h .nodes) xs m s
 
-  pub record WeighAt (l p : List ℕ) (free have work x y i : ℕ) : Type 0 where
+  pub record WeighAt (l p : List ℕ) (left : Ledger) (x y i : ℕ) : Type 0 where
     pub s : State
     pub upto : i ≤ h .operations
     pub long : length l ≡ length was
     pub pool-long : length p ≡ length pool
-    pub rest : Resting h words l p (restAxes h ops i) limit (g .room) free have work s
+    pub rest : Resting h words l p (restAxes h ops i) limit (g .room) s left
     pub same : weighRoots limit (g .room) (nodeAt (h .qubits) words) (h .nodes) (axesOf h ops) (weightsOf 0 0) (g .s) ≡ weighRoots limit (g .room) (nodeAt (h .qubits) words) (h .nodes) (restAxes h ops i) (weightsOf x y) s
 
-  pub weigh-begin : WeighAt was pool free₀ have₀ work₀ 0 0 0
+  pub weigh-begin : WeighAt was pool left₀ 0 0 0
   weigh-begin =
       let e : h .operations ≡ h .operations - 0 = omega arith in
       let q : axesOf h ops ≡ restAxes h ops 0 = from-front (opAt h ops) (h .operations) ∙ ap (λ (k : ℕ). axesFrom (opAt h ops) 0 k) e in
@@ -194,17 +222,17 @@ module _ {h : Header} {words ops was pool : List ℕ} {limit free₀ have₀ wor
         upto = omega arith;
         long = refl;
         pool-long = refl;
-        rest = subst (λ (xs : List Weighed). Resting h words was pool xs limit (g .room) free₀ have₀ work₀ (g .s)) q (g .rest);
+        rest = subst (λ (xs : List Weighed). Resting h words was pool xs limit (g .room) (g .s) left₀) q (g .rest);
         same = ap (λ (xs : List Weighed). weighs xs (weightsOf 0 0) (g .s)) q;
       }
 
-  module _ {l p : List ℕ} {free have work x y i : ℕ} (a : WeighAt l p free have work x y i) where
-    pub weigh-end : h .operations ≤ i → WeightsMade x y work ≡ maxWeightsOf (weighs (axesOf h ops) (weightsOf 0 0) (g .s))
+  module _ {l p : List ℕ} {left : Ledger} {x y i : ℕ} (a : WeighAt l p left x y i) where
+    pub weigh-end : h .operations ≤ i → WeightsMade x y (left .work) ≡ maxWeightsOf (weighs (axesOf h ops) (weightsOf 0 0) (g .s))
     weigh-end le =
         let e : h .operations - i ≡ 0 = omega arith in
-        ap (λ (k : ℕ). WeightsMade x y k) (a .rest .work-is) ∙ sym (ap maxWeightsOf (a .same ∙ ap (λ (k : ℕ). weighs (axesFrom (opAt h ops) i k) (weightsOf x y) (a .s)) e))
+        ap (λ (k : ℕ). WeightsMade x y k) (a .rest .rep .work-is) ∙ sym (ap maxWeightsOf (a .same ∙ ap (λ (k : ℕ). weighs (axesFrom (opAt h ops) i k) (weightsOf x y) (a .s)) e))
 
-    module _ {w : ℕ} (lt : i < h .operations) (w-is : w ≡ axisAt h ops i .word) where
+    module _ {w : ℕ} (lt : i < h .operations) (w-is : w ≡ weighedAt h ops i .word) where
       pub axes-are : wordsOf (restAxes h ops i) ≡ w ∷ wordsOf (restAxes h ops (i + 1))
       axes-are = ap wordsOf (rest-more h ops i lt) ∙ ap (λ (v : ℕ). v ∷ wordsOf (restAxes h ops (i + 1))) (sym w-is)
 
@@ -214,7 +242,7 @@ module _ {h : Header} {words ops was pool : List ℕ} {limit free₀ have₀ wor
       pub axis-inv : Inv limit (g .room) (h .qubits) (h .nodes) (nodeAt (h .qubits) words) (a .rest .total) (rootUses (w ∷ wordsOf (restAxes h ops (i + 1)))) none 0 (a .s)
       axis-inv = subst (λ (ws : List ℕ). Inv limit (g .room) (h .qubits) (h .nodes) (nodeAt (h .qubits) words) (a .rest .total) (rootUses ws) none 0 (a .s)) axes-are (a .rest .inv)
 
-      abbrev pub axis-rooted : Rooted words l p (h .nodes) limit (nodeIn w) free have work
+      abbrev pub axis-rooted : Rooted words l p (h .nodes) limit (nodeIn w) left
       axis-rooted = record {
         at = record {
           n = h .qubits;
@@ -226,7 +254,6 @@ module _ {h : Header} {words ops was pool : List ℕ} {limit free₀ have₀ wor
           rep = a .rest .rep;
           inv = axis-inv;
           well = g .fit .well;
-          work-is = a .rest .work-is;
           qubits-few = g .fit .qubits-few;
           few = g .few;
           nodes-few = g .fit .nodes-few;
@@ -236,48 +263,38 @@ module _ {h : Header} {words ops was pool : List ℕ} {limit free₀ have₀ wor
         used = root-used limit (g .room) (h .qubits) (h .nodes) (nodeAt (h .qubits) words) (node-fits (h .qubits) words) (a .rest .total) w (wordsOf (restAxes h ops (i + 1))) (a .s) axis-inv;
       }
 
-      abbrev axisShown : Out State
-      axisShown = showRoot limit (g .room) (nodeAt (h .qubits) words) (h .nodes) (nodeIn w) (a .s)
+      abbrev weighed : RootWeight → Out Report
+      weighed r = weighs (restAxes h ops (i + 1)) (weigh (weighedAt h ops i .clifford) (r .weight) (weightsOf x y)) (r .state)
 
-      abbrev weighed : State → Out Report
-      weighed t = weighs (restAxes h ops (i + 1)) (weigh (axisAt h ops i .clifford) (size (t .value (nodeIn w))) (weightsOf x y)) (release (nodeIn w) t)
-
-      next : weighs (axesOf h ops) (weightsOf 0 0) (g .s) ≡ bind axisShown weighed
+      next : weighs (axesOf h ops) (weightsOf 0 0) (g .s) ≡ bind (weighRoot limit (g .room) (nodeAt (h .qubits) words) (h .nodes) w (a .s)) weighed
       next = a .same ∙ ap (λ (xs : List Weighed). weighs xs (weightsOf x y) (a .s)) (rest-more h ops i lt)
-          ∙ ap (λ (v : ℕ). bind (showRoot limit (g .room) (nodeAt (h .qubits) words) (h .nodes) (nodeIn v) (a .s)) (λ t. weighs (restAxes h ops (i + 1)) (weigh (axisAt h ops i .clifford) (size (t .value (nodeIn v))) (weightsOf x y)) (release (nodeIn v) t))) (sym w-is)
+          ∙ ap (λ (v : ℕ). bind (weighRoot limit (g .room) (nodeAt (h .qubits) words) (h .nodes) v (a .s)) weighed) (sym w-is)
 
-      module _ {l₁ p₁ : List ℕ} {st head k phase free₁ have₁ work₁ : ℕ}
-          (o : Says (showRoot limit (g .room) (nodeAt (h .qubits) words) (h .nodes) (nodeIn w) (a .s)) st (RootShown w axis-rooted l₁ p₁ head k phase free₁ have₁ work₁)) where
-        pub weigh-refused : (st ≡ 0 → ⊥) → WeightsRefused (walkError st) ≡ maxWeightsOf (weighs (axesOf h ops) (weightsOf 0 0) (g .s))
-        weigh-refused ne = sym (ap maxWeightsOf (next ∙ ap (λ z. bind z weighed) (refused-as axisShown st (RootShown w axis-rooted l₁ p₁ head k phase free₁ have₁ work₁) (known-root limit (g .room) (nodeAt (h .qubits) words) (h .nodes) (nodeIn w) (a .s)) o ne)))
+      module _ {l₁ p₁ : List ℕ} {z : Out (ℕ × Ledger)}
+          (o : Says (weighRoot limit (g .room) (nodeAt (h .qubits) words) (h .nodes) w (a .s)) z (RootWeighed w axis-rooted l₁ p₁)) where
+        pub weigh-refused : {e : PbcError} → z ≡ refused e → WeightsRefused e ≡ maxWeightsOf (weighs (axesOf h ops) (weightsOf 0 0) (g .s))
+        weigh-refused q = sym (ap maxWeightsOf (next ∙ ap (λ r. bind r weighed) (said-refused o q)))
 
-        module _ (z : st ≡ 0) where
-          abbrev pub seen : (t : State) × (showRoot limit (g .room) (nodeAt (h .qubits) words) (h .nodes) (nodeIn w) (a .s) ≡ fine t) × RootShown w axis-rooted l₁ p₁ head k phase free₁ have₁ work₁ t
-          seen = agrees-fine (showRoot limit (g .room) (nodeAt (h .qubits) words) (h .nodes) (nodeIn w) (a .s)) st (RootShown w axis-rooted l₁ p₁ head k phase free₁ have₁ work₁) (o .says) z
-
-          abbrev pub to-release : Releasable l₁ p₁ (nodeIn w) head k free₁ have₁
-          to-release = releasable w axis-rooted (seen .2)
-
-          pub weigh-turn : {l₂ p₂ : List ℕ} {free₂ have₂ x₂ y₂ : ℕ} {b : Bool} → b ≡ axisAt h ops i .clifford → Released to-release l₂ p₂ free₂ have₂ → length l₂ ≡ length was → length p₂ ≡ length pool
-              → x₂ ≡ cond (not b) (max k x) x → y₂ ≡ cond b (max k y) y → WeighAt l₂ p₂ free₂ have₂ work₁ x₂ y₂ (i + 1)
-          weigh-turn {l₂} {p₂} {free₂} {have₂} {x₂} {y₂} {b} b-is r long pool-long x-is y-is =
-              let t = seen .0 in
-              record {
-                s = release (nodeIn w) t;
-                upto = omega arith;
-                long = long;
-                pool-long = pool-long;
-                rest = record {
-                  total = a .rest .total;
-                  who = r .who;
-                  rep = r .rep;
-                  inv = release-inv limit (g .room) (h .qubits) (h .nodes) (nodeAt (h .qubits) words) (node-fits (h .qubits) words) (a .rest .total) w (wordsOf (restAxes h ops (i + 1))) t axis-low (seen .2 .done-is) (seen .2 .inv);
-                  work-is = seen .2 .work-is ∙ sym (release-work (nodeIn w) t);
-                };
-                same = next ∙ ap (λ z. bind z weighed) (seen .1)
-                    ∙ ap₂ (λ (c : Bool) (f : ℕ). weighs (restAxes h ops (i + 1)) (weigh c f (weightsOf x y)) (release (nodeIn w) t)) (sym b-is) (sym (seen .2 .factors-are))
-                    ∙ ap (λ (m : Weights). weighs (restAxes h ops (i + 1)) m (release (nodeIn w) t)) (weights-raised b k x y x-is y-is);
-              }
+        pub weigh-turn : {k : ℕ} {rest : Ledger} {x₂ y₂ : ℕ} {b : Bool} → z ≡ fine (k, rest) → b ≡ weighedAt h ops i .clifford → length l₁ ≡ length was → length p₁ ≡ length pool
+            → x₂ ≡ cond (not b) (max k x) x → y₂ ≡ cond b (max k y) y → WeighAt l₁ p₁ rest x₂ y₂ (i + 1)
+        weigh-turn {k} {rest} {x₂} {y₂} {b} e b-is long pool-long x-is y-is =
+            let r = said-fine o e in
+            let t = r .2 .t in
+            record {
+              s = release (nodeIn w) t;
+              upto = omega arith;
+              long = long;
+              pool-long = pool-long;
+              rest = record {
+                total = a .rest .total;
+                who = r .2 .who;
+                rep = r .2 .rep;
+                inv = release-inv limit (g .room) (h .qubits) (h .nodes) (nodeAt (h .qubits) words) (node-fits (h .qubits) words) (a .rest .total) w (wordsOf (restAxes h ops (i + 1))) t axis-low (r .2 .done-is) (r .2 .inv);
+              };
+              same = next ∙ ap (λ q. bind q weighed) (r .1)
+                  ∙ ap₂ (λ (c : Bool) (f : ℕ). weighs (restAxes h ops (i + 1)) (weigh c f (weightsOf x y)) (r .0 .state)) (sym b-is) (sym (r .2 .weight-is))
+                  ∙ ap₂ (λ (m : Weights) (u : State). weighs (restAxes h ops (i + 1)) m u) (weights-raised b k x y x-is y-is) (r .2 .state-is);
+            }
 
 -- ---- the whole walk
 
@@ -304,27 +321,25 @@ module _ {h : Header} {words l : List ℕ} (ops : List ℕ) (f : Fit h words l) 
       nodes-few = f .nodes-few;
     }
 
-    module _ (limit : ℕ) (p : List ℕ) {l₃ p₁ : List ℕ} {st free have work : ℕ}
-        (b : Says (startOf limit (nodeAt (h .qubits) words) (h .nodes) (axesOf h ops)) st (Begun axes-rootable limit (capOf (length p) - 1) l₃ p₁ free have work)) where
+    module _ (limit : ℕ) (p : List ℕ) {l₃ p₁ : List ℕ} {y : Out Ledger}
+        (b : Says (startOf limit (nodeAt (h .qubits) words) (h .nodes) (wordsOf (axesOf h ops))) y (Begun axes-rootable limit (capOf (length p) - 1) l₃ p₁)) where
       abbrev room : ℕ
       room = capOf (length p) - 1
 
       abbrev onward : State → Out Report
       onward s = weighRoots limit (capOf (length p) - 1) (nodeAt (h .qubits) words) (h .nodes) (axesOf h ops) (weightsOf 0 0) s
 
-      pub report-refused : (st ≡ 0 → ⊥) → WeightsRefused (walkError st) ≡ maxWeightsOf (reportWalk limit (capOf (length p) - 1) (h .qubits) (h .nodes) words (axesOf h ops))
-      report-refused ne = sym (ap maxWeightsOf (report-weighs limit room (h .qubits) (h .nodes) words (axesOf h ops)
-          ∙ ap (λ z. bind z onward) (refused-as (startOf limit (nodeAt (h .qubits) words) (h .nodes) (axesOf h ops)) st (Begun axes-rootable limit (capOf (length p) - 1) l₃ p₁ free have work)
-          (known-charge limit (length (wordsOf (axesOf h ops)) + scan (nodeAt (h .qubits) words) (h .nodes) (rootUses (wordsOf (axesOf h ops))) .reached) (begin (scan (nodeAt (h .qubits) words) (h .nodes) (rootUses (wordsOf (axesOf h ops)))))) b ne)))
+      pub report-refused : {e : PbcError} → y ≡ refused e → WeightsRefused e ≡ maxWeightsOf (reportWalk limit (capOf (length p) - 1) (h .qubits) (h .nodes) words (axesOf h ops))
+      report-refused q = sym (ap maxWeightsOf (report-weighs limit room (h .qubits) (h .nodes) words (axesOf h ops) ∙ ap (λ z. bind z onward) (said-refused b q)))
 
-      module _ (z : st ≡ 0) where
-        abbrev pub begun-at : (t : State) × (startOf limit (nodeAt (h .qubits) words) (h .nodes) (axesOf h ops) ≡ fine t) × Begun axes-rootable limit (capOf (length p) - 1) l₃ p₁ free have work t
-        begun-at = agrees-fine (startOf limit (nodeAt (h .qubits) words) (h .nodes) (axesOf h ops)) st (Begun axes-rootable limit (capOf (length p) - 1) l₃ p₁ free have work) (b .says) z
+      module _ {left : Ledger} (z : y ≡ fine left) where
+        abbrev pub begun-at : (t : State) × (startOf limit (nodeAt (h .qubits) words) (h .nodes) (wordsOf (axesOf h ops)) ≡ fine t) × Begun axes-rootable limit (capOf (length p) - 1) l₃ p₁ t left
+        begun-at = said-fine b z
 
         pub room-low : capOf (length p) - 1 < 65536
         room-low = omega arith
 
-        abbrev pub weighing : Weighing h words ops l₃ p₁ limit free have work
+        abbrev pub weighing : Weighing h words ops l₃ p₁ limit left
         weighing = record {
           room = capOf (length p) - 1;
           s = begun-at .0;
@@ -332,11 +347,10 @@ module _ {h : Header} {words l : List ℕ} (ops : List ℕ) (f : Fit h words l) 
           fit = record { long = begun-at .2 .rep .scratch .long; well = f .well; qubits-few = f .qubits-few; nodes-long = f .nodes-long; nodes-few = f .nodes-few };
           named = named;
           rest = record {
-            total = scan (nodeAt (h .qubits) words) (h .nodes) (rootUses (wordsOf (axesOf h ops))) .uses;
+            total = tallyOf (nodeAt (h .qubits) words) (h .nodes) (wordsOf (axesOf h ops)) .uses;
             who = begun-at .2 .who;
             rep = begun-at .2 .rep;
             inv = begun-at .2 .inv;
-            work-is = begun-at .2 .work-is;
           };
         }
 

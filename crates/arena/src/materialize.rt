@@ -1,15 +1,15 @@
 //! The walk in code: the values of nodes as chains of the pool, made in the order and with the charges of specs/Walk.antt.
 //! What the scratch words stand for: specs/Code/WalkWords.antt.
 
+use crate::error::PbcError;
+use crate::pool::Ledger;
+use crate::pool::Value;
 use crate::pool::copy;
 use crate::pool::multiply;
 use crate::pool::single;
-use crate::pool::wide;
-use crate::scratch::count_in;
 use crate::scratch::first_word;
-use crate::scratch::head_in;
 use crate::scratch::link_of;
-use crate::scratch::phase_in;
+use crate::scratch::named_value;
 use crate::scratch::second_word;
 use crate::scratch::set_link;
 use crate::scratch::set_use;
@@ -17,123 +17,112 @@ use crate::scratch::set_value;
 use crate::scratch::use_of;
 use crate::scratch::value_of;
 ghost use mathlib.Core.Path.{_≡_};
-ghost use Prim.Native.Nat.{_+_, _-_, _≤_, _<_, min};
+ghost use Prim.Native.Nat.{_+_, _*_, _-_, _≤_, _<_, min};
+ghost use lib.ListN.{length};
 ghost use Rattle.pauli.specs.Letters.{pauliOf};
 ghost use Rattle.arena.specs.Nodes.{nodeAt};
-ghost use Rattle.arena.specs.Sparse.{one};
-ghost use Rattle.arena.specs.Walk.{fine, bind, lend, finish, takeUse, combine, eval};
+ghost use Rattle.arena.specs.Walk.{takeUse, combine, eval};
 ghost use Rattle.arena.specs.Machine.{step};
-ghost use Rattle.arena.specs.Code.WalkWords.{LinksKept, Says, Stands, Takeable, TookRep, Combining, Making, Topped, Branched, Started, Landed, Rooted};
+ghost use Rattle.arena.specs.Code.Results.{Says, tookOut, evaluatedOut, steppedOut, upFrom};
+ghost use Rattle.arena.specs.Code.WalkWords.{scratchAt, LinksKept, Stands, Takeable, TookRep};
+ghost use Rattle.arena.specs.Code.WalkWords.{Combining, Multiplying, multiplied, Making, factorMade, Topped, Branched, Started, Landed, Rooted};
 
 // ---- values
 
-// A use taken: the status, the value's chain, factors and phase, and what is then left.
-pub struct Took {
-    pub status: usize,
-    pub head: usize,
-    pub count: usize,
-    pub phase: usize,
-    pub free: usize,
-    pub spare: usize,
-    pub work: usize,
+// A use taken: the value in hand, and what is then left.
+pub enum Took {
+    Value(Value, Ledger),
+    Refused(PbcError),
 }
 
-// The status, the free list, the records in it, and the work.
-pub struct Evaluated {
-    pub status: usize,
-    pub free: usize,
-    pub spare: usize,
-    pub work: usize,
+// Nodes evaluated: what is then left.
+pub enum Evaluated {
+    Done(Ledger),
+    Refused(PbcError),
 }
 
-// The same, and the top of the path: 0, or a node and 1.
-pub struct Stepped {
-    pub status: usize,
-    pub top: usize,
-    pub free: usize,
-    pub spare: usize,
-    pub work: usize,
-}
-
-fn not_taken(status: usize) -> Took
-    ensures { λ r. ⌜ r .status ≡ status ⌝ }
-{
-    Took {
-        status,
-        head: 0,
-        count: 0,
-        phase: 0,
-        free: 0,
-        spare: 0,
-        work: 0,
-    }
-}
-
-pub(crate) fn not_evaluated(status: usize) -> Evaluated
-    ensures { λ r. ⌜ r .status ≡ status ⌝ }
-{
-    Evaluated {
-        status,
-        free: 0,
-        spare: 0,
-        work: 0,
-    }
+// A step along a path: the path's top, which is 0 or a node and 1, and what is then left.
+pub enum Stepped {
+    At(usize, Ledger),
+    Refused(PbcError),
 }
 
 // One use of the node that the word w names is consumed: the last moves its value, an earlier one copies it, charge first, then room.
-fn take_use(
-    s: &mut [u32],
-    pool: &mut [u32],
-    limit: usize,
-    w: usize,
-    free: usize,
-    spare: usize,
-    work: usize,
-) -> Took
-    requires { ⌜ Takeable (now s) (now pool) limit w free spare work ⌝ }
-    ensures { λ r. ⌜ ((g : Takeable (now (s .entry)) (now (pool .entry)) limit w free spare work) → Says (takeUse limit (g .room) w (g .s)) (r .status) (TookRep g (now (s .exit)) (now (pool .exit)) (r .head) (r .count) (r .phase) (r .free) (r .spare) (r .work))) ⌝ }
+fn take_use(s: &mut [u32], pool: &mut [u32], limit: usize, w: usize, left: Ledger) -> Took
+    requires { ⌜ Takeable (now s) (now pool) limit w left ⌝ }
+    ensures { λ r. ⌜ ((g : Takeable (now (s .entry)) (now (pool .entry)) limit w left)
+        → Says (takeUse limit (g .room) w (g .s)) (tookOut r) (TookRep g (now (s .exit)) (now (pool .exit)))) ⌝ }
     ensures { λ _. ⌜ LinksKept (now (s .entry)) (now (s .exit)) ⌝ }
 {
-    let j = w / 4;
-    let u = use_of(s, j);
-    let m = value_of(s, j);
-    let head = head_in(m);
-    let count = count_in(m);
-    let phase = (w % 4 + phase_in(m)) % 4;
-    set_use(s, j, u - 1);
+    let u = use_of(s, w / 4);
+    let v = named_value(s, w);
+    set_use(s, w / 4, u - 1);
     if u == 1 {
-        return Took {
-            status: 0,
-            head,
+        return Took::Value(v, left);
+    }
+    let count = v.count;
+    if limit - left.work < count {
+        return Took::Refused(PbcError::ExpansionLimit);
+    }
+    if left.spare < count {
+        return Took::Refused(PbcError::NoPool);
+    }
+    let t = copy(pool, left.free, v.head, count);
+    Took::Value(
+        Value {
+            head: t.head,
             count,
-            phase,
-            free,
-            spare,
-            work,
-        };
-    }
-    if limit - work < count {
-        return not_taken(17);
-    }
-    if spare < count {
-        return not_taken(18);
-    }
-    let t = copy(pool, free, head, count);
-    Took {
-        status: 0,
-        head: t.head,
-        count,
-        phase,
-        free: t.free,
-        spare: spare - count,
-        work: work + count,
-    }
+            phase: v.phase,
+        },
+        Ledger {
+            free: t.free,
+            spare: left.spare - count,
+            work: left.work + count,
+        },
+    )
 }
 
 fn least(a: usize, b: usize) -> usize
     ensures { λ r. ⌜ r ≡ min a b ⌝ }
 {
     if a < b { a } else { b }
+}
+
+// The node i is the product of the values a and b, in hand: the smaller count is charged.
+fn multiply_at(
+    s: &mut [u32],
+    pool: &mut [u32],
+    limit: usize,
+    i: usize,
+    a: Value,
+    b: Value,
+    left: Ledger,
+) -> Evaluated
+    requires { ⌜ Multiplying (now s) (now pool) limit i a b left ⌝ }
+    ensures { λ o. ⌜ ((g : Multiplying (now (s .entry)) (now (pool .entry)) limit i a b left)
+        → Says (multiplied limit i (g .x) (g .y) (g .s)) (evaluatedOut o) (Stands (g .count) (g .room) (now (s .exit)) (now (pool .exit)))) ⌝ }
+    ensures { λ _. ⌜ LinksKept (now (s .entry)) (now (s .exit)) ⌝ }
+{
+    let ca = a.count;
+    let cb = b.count;
+    let small = least(ca, cb);
+    if limit - left.work < small {
+        return Evaluated::Refused(PbcError::ExpansionLimit);
+    }
+    let m = multiply(pool, left.free, a.head, ca, b.head, cb);
+    let product = m.value;
+    let count = product.count;
+    let v = Value {
+        head: product.head,
+        count,
+        phase: ((a.phase + b.phase) % 4 + product.phase) % 4,
+    };
+    set_value(s, i, v);
+    Evaluated::Done(Ledger {
+        free: m.free,
+        spare: left.spare + (ca + cb) - count,
+        work: left.work + small,
+    })
 }
 
 // Both children are done: the node i is the product of the words l and r.
@@ -144,38 +133,19 @@ fn combine_at(
     i: usize,
     l: usize,
     r: usize,
-    free: usize,
-    spare: usize,
-    work: usize,
+    left: Ledger,
 ) -> Evaluated
-    requires { ⌜ Combining (now s) (now pool) limit i l r free spare work ⌝ }
-    ensures { λ o. ⌜ ((g : Combining (now (s .entry)) (now (pool .entry)) limit i l r free spare work) → Says (combine limit (g .at .room) l r i (g .at .s)) (o .status) (Stands (g .count) (g .at .room) (now (s .exit)) (now (pool .exit)) (o .free) (o .spare) (o .work))) ⌝ }
+    requires { ⌜ Combining (now s) (now pool) limit i l r left ⌝ }
+    ensures { λ o. ⌜ ((g : Combining (now (s .entry)) (now (pool .entry)) limit i l r left)
+        → Says (combine limit (g .at .room) l r i (g .at .s)) (evaluatedOut o) (Stands (g .count) (g .at .room) (now (s .exit)) (now (pool .exit)))) ⌝ }
     ensures { λ _. ⌜ LinksKept (now (s .entry)) (now (s .exit)) ⌝ }
 {
-    let a = take_use(s, pool, limit, l, free, spare, work);
-    let sa = a.status;
-    if sa != 0 {
-        return not_evaluated(sa);
-    }
-    let ca = a.count;
-    let b = take_use(s, pool, limit, r, a.free, a.spare, a.work);
-    let sb = b.status;
-    if sb != 0 {
-        return not_evaluated(sb);
-    }
-    let cb = b.count;
-    let small = least(ca, cb);
-    if limit - b.work < small {
-        return not_evaluated(17);
-    }
-    let m = multiply(pool, b.free, a.head, ca, b.head, cb);
-    let phase = ((a.phase + b.phase) % 4 + m.phase) % 4;
-    set_value(s, i, m.head, m.count, phase);
-    Evaluated {
-        status: 0,
-        free: m.free,
-        spare: b.spare + (ca + cb) - m.count,
-        work: b.work + small,
+    match take_use(s, pool, limit, l, left) {
+        Took::Refused(e) => Evaluated::Refused(e),
+        Took::Value(a, after) => match take_use(s, pool, limit, r, after) {
+            Took::Refused(e) => Evaluated::Refused(e),
+            Took::Value(b, rest) => multiply_at(s, pool, limit, i, a, b, rest),
+        },
     }
 }
 
@@ -186,25 +156,42 @@ fn single_at(
     i: usize,
     qubit: u32,
     letter: u32,
-    free: usize,
-    spare: usize,
-    work: usize,
+    left: Ledger,
 ) -> Evaluated
-    requires { ⌜ Making (now s) (now pool) i free spare work ⌝ }
+    requires { ⌜ Making (now s) (now pool) i left ⌝ }
     requires { ⌜ (1 ≤ letter) × (letter ≤ 3) ⌝ }
-    ensures { λ o. ⌜ ((g : Making (now (s .entry)) (now (pool .entry)) i free spare work) → Says (bind (lend (g .room) 1 (g .s)) (λ t. fine (finish i (one qubit (pauliOf letter)) 1 t))) (o .status) (Stands (g .count) (g .room) (now (s .exit)) (now (pool .exit)) (o .free) (o .spare) (o .work))) ⌝ }
+    ensures { λ o. ⌜ ((g : Making (now (s .entry)) (now (pool .entry)) i left)
+        → Says (factorMade (g .room) i qubit (pauliOf letter) (g .s)) (evaluatedOut o) (Stands (g .count) (g .room) (now (s .exit)) (now (pool .exit)))) ⌝ }
     ensures { λ _. ⌜ LinksKept (now (s .entry)) (now (s .exit)) ⌝ }
 {
-    if spare == 0 {
-        return not_evaluated(18);
+    if left.spare == 0 {
+        return Evaluated::Refused(PbcError::NoPool);
     }
-    let t = single(pool, free, qubit, letter);
-    set_value(s, i, t.head, 1, 0);
-    Evaluated {
-        status: 0,
+    let t = single(pool, left.free, qubit, letter);
+    let v = Value {
+        head: t.head,
+        count: 1,
+        phase: 0,
+    };
+    set_value(s, i, v);
+    Evaluated::Done(Ledger {
         free: t.free,
-        spare: spare - 1,
-        work,
+        spare: left.spare - 1,
+        work: left.work,
+    })
+}
+
+// ---- the path
+
+// The node i is evaluated: the path goes on at the node above it.
+fn go_up(s: &[u32], i: usize, o: Evaluated) -> Stepped
+    requires { ⌜ 4 * i + 3 < length (now s) ⌝ }
+    ensures { λ r. ⌜ r ≡ upFrom (scratchAt 3 (now (s .entry)) i) o ⌝ }
+{
+    let up = link_of(s, i);
+    match o {
+        Evaluated::Done(left) => Stepped::At(up, left),
+        Evaluated::Refused(e) => Stepped::Refused(e),
     }
 }
 
@@ -216,46 +203,25 @@ fn product_step(
     i: usize,
     l: usize,
     r: usize,
-    free: usize,
-    spare: usize,
-    work: usize,
+    left: Ledger,
 ) -> Stepped
-    requires { ⌜ Branched (now s) (now pool) limit i l r free spare work ⌝ }
-    ensures { λ o. ⌜ ((g : Branched (now (s .entry)) (now (pool .entry)) limit i l r free spare work) → Says (step limit (g .top .at .room) (nodeAt (g .top .at .n) (g .words)) i (g .top .path) (g .top .at .s)) (o .status) (Landed (g .top .count) (g .top .at .room) (now (s .exit)) (now (pool .exit)) (o .top) (o .free) (o .spare) (o .work))) ⌝ }
+    requires { ⌜ Branched (now s) (now pool) limit i l r left ⌝ }
+    ensures { λ o. ⌜ ((g : Branched (now (s .entry)) (now (pool .entry)) limit i l r left)
+        → Says (step limit (g .top .at .room) (nodeAt (g .top .at .n) (g .words)) i (g .top .path) (g .top .at .s)) (steppedOut o)
+        (Landed (g .top .count) (g .top .at .room) (now (s .exit)) (now (pool .exit)))) ⌝ }
 {
-    let left = l / 4;
-    let ml = value_of(s, left);
+    let ml = value_of(s, l / 4);
     if ml == 0 {
-        set_link(s, left, i + 1);
-        return Stepped {
-            status: 0,
-            top: left + 1,
-            free,
-            spare,
-            work,
-        };
+        set_link(s, l / 4, i + 1);
+        return Stepped::At(l / 4 + 1, left);
     }
-    let right = r / 4;
-    let mr = value_of(s, right);
+    let mr = value_of(s, r / 4);
     if mr == 0 {
-        set_link(s, right, i + 1);
-        return Stepped {
-            status: 0,
-            top: right + 1,
-            free,
-            spare,
-            work,
-        };
+        set_link(s, r / 4, i + 1);
+        return Stepped::At(r / 4 + 1, left);
     }
-    let up = link_of(s, i);
-    let o = combine_at(s, pool, limit, i, l, r, free, spare, work);
-    Stepped {
-        status: o.status,
-        top: up,
-        free: o.free,
-        spare: o.spare,
-        work: o.work,
-    }
+    let o = combine_at(s, pool, limit, i, l, r, left);
+    go_up(s, i, o)
 }
 
 // The node i at the top of the path is looked at.
@@ -265,39 +231,31 @@ fn step_at(
     pool: &mut [u32],
     limit: usize,
     i: usize,
-    free: usize,
-    spare: usize,
-    work: usize,
+    left: Ledger,
 ) -> Stepped
-    requires { ⌜ Topped (now nodes) (now s) (now pool) limit i free spare work ⌝ }
-    ensures { λ o. ⌜ ((g : Topped (now (nodes .entry)) (now (s .entry)) (now (pool .entry)) limit i free spare work) → Says (step limit (g .at .room) (nodeAt (g .at .n) (now (nodes .entry))) i (g .path) (g .at .s)) (o .status) (Landed (g .count) (g .at .room) (now (s .exit)) (now (pool .exit)) (o .top) (o .free) (o .spare) (o .work))) ⌝ }
+    requires { ⌜ Topped (now nodes) (now s) (now pool) limit i left ⌝ }
+    ensures { λ o. ⌜ ((g : Topped (now (nodes .entry)) (now (s .entry)) (now (pool .entry)) limit i left)
+        → Says (step limit (g .at .room) (nodeAt (g .at .n) (now (nodes .entry))) i (g .path) (g .at .s)) (steppedOut o)
+        (Landed (g .count) (g .at .room) (now (s .exit)) (now (pool .exit)))) ⌝ }
 {
     let a = first_word(nodes, i);
     let b = second_word(nodes, i);
     let kind = a % 4;
     let rest = a / 4;
     if kind == 2 {
-        return product_step(s, pool, limit, i, wide(rest), wide(b), free, spare, work);
+        return product_step(s, pool, limit, i, rest as usize, b as usize, left);
     }
-    let up = link_of(s, i);
     if kind == 1 {
-        let o = single_at(s, pool, i, b, rest, free, spare, work);
-        return Stepped {
-            status: o.status,
-            top: up,
-            free: o.free,
-            spare: o.spare,
-            work: o.work,
-        };
+        let o = single_at(s, pool, i, b, rest, left);
+        return go_up(s, i, o);
     }
-    set_value(s, i, 0, 0, 0);
-    Stepped {
-        status: 0,
-        top: up,
-        free,
-        spare,
-        work,
-    }
+    let v = Value {
+        head: 0,
+        count: 0,
+        phase: 0,
+    };
+    set_value(s, i, v);
+    go_up(s, i, Evaluated::Done(left))
 }
 
 // The path with the node i alone is walked to its end. No walk takes as many steps as the budget: it falls so that the loop is seen to end.
@@ -308,36 +266,27 @@ fn run_path(
     count: usize,
     limit: usize,
     i: usize,
-    free0: usize,
-    spare0: usize,
-    work0: usize,
+    left0: Ledger,
 ) -> Evaluated
-    requires { ⌜ Started (now nodes) (now s) (now pool) count limit i free0 spare0 work0 ⌝ }
-    ensures { λ o. ⌜ ((g : Started (now (nodes .entry)) (now (s .entry)) (now (pool .entry)) count limit i free0 spare0 work0) → Says (eval limit (g .at .room) (nodeAt (g .at .n) (now (nodes .entry))) count i (g .at .s)) (o .status) (Stands count (g .at .room) (now (s .exit)) (now (pool .exit)) (o .free) (o .spare) (o .work))) ⌝ }
+    requires { ⌜ Started (now nodes) (now s) (now pool) count limit i left0 ⌝ }
+    ensures { λ o. ⌜ ((g : Started (now (nodes .entry)) (now (s .entry)) (now (pool .entry)) count limit i left0)
+        → Says (eval limit (g .at .room) (nodeAt (g .at .n) (now (nodes .entry))) count i (g .at .s)) (evaluatedOut o)
+        (Stands count (g .at .room) (now (s .exit)) (now (pool .exit)))) ⌝ }
 {
-    let mut free = free0;
-    let mut spare = spare0;
-    let mut work = work0;
+    let mut left = left0;
     let mut top = i + 1;
     let mut budget: usize = 4295098368;
     while top != 0 {
-        let o = step_at(nodes, s, pool, limit, top - 1, free, spare, work);
-        let st = o.status;
-        if st != 0 {
-            return not_evaluated(st);
+        match step_at(nodes, s, pool, limit, top - 1, left) {
+            Stepped::Refused(e) => return Evaluated::Refused(e),
+            Stepped::At(up, rest) => {
+                top = up;
+                left = rest;
+                budget -= 1;
+            }
         }
-        top = o.top;
-        free = o.free;
-        spare = o.spare;
-        work = o.work;
-        budget -= 1;
     }
-    Evaluated {
-        status: 0,
-        free,
-        spare,
-        work,
-    }
+    Evaluated::Done(left)
 }
 
 // The node i is evaluated, unless it is done.
@@ -348,22 +297,17 @@ pub(crate) fn eval_root(
     count: usize,
     limit: usize,
     i: usize,
-    free: usize,
-    spare: usize,
-    work: usize,
+    left: Ledger,
 ) -> Evaluated
-    requires { ⌜ Rooted (now nodes) (now s) (now pool) count limit i free spare work ⌝ }
-    ensures { λ o. ⌜ ((g : Rooted (now (nodes .entry)) (now (s .entry)) (now (pool .entry)) count limit i free spare work) → Says (eval limit (g .at .room) (nodeAt (g .at .n) (now (nodes .entry))) count i (g .at .s)) (o .status) (Stands count (g .at .room) (now (s .exit)) (now (pool .exit)) (o .free) (o .spare) (o .work))) ⌝ }
+    requires { ⌜ Rooted (now nodes) (now s) (now pool) count limit i left ⌝ }
+    ensures { λ o. ⌜ ((g : Rooted (now (nodes .entry)) (now (s .entry)) (now (pool .entry)) count limit i left)
+        → Says (eval limit (g .at .room) (nodeAt (g .at .n) (now (nodes .entry))) count i (g .at .s)) (evaluatedOut o)
+        (Stands count (g .at .room) (now (s .exit)) (now (pool .exit)))) ⌝ }
 {
     let m = value_of(s, i);
     if m != 0 {
-        return Evaluated {
-            status: 0,
-            free,
-            spare,
-            work,
-        };
+        return Evaluated::Done(left);
     }
     set_link(s, i, 0);
-    run_path(nodes, s, pool, count, limit, i, free, spare, work)
+    run_path(nodes, s, pool, count, limit, i, left)
 }

@@ -13,17 +13,29 @@ ghost use Rattle.arena.specs.Code.Turns.{attached, headOf, Meeting, kept
 ghost use Rattle.arena.specs.Limits.{capOf};
 ghost use Rattle.arena.specs.Expansion.{cleared};
 
+// What a walk has left: the first free record, how many are free, and the work charged so far.
+pub struct Ledger {
+    pub free: usize,
+    pub spare: usize,
+    pub work: usize,
+}
+
+// A value: the first record of its chain, how many factors it has, and its phase.
+pub struct Value {
+    pub head: usize,
+    pub count: usize,
+    pub phase: usize,
+}
+
 // A chain, and the free list after it.
-pub struct Taken {
+pub struct NewChain {
     pub head: usize,
     pub free: usize,
 }
 
-// A product: its chain, its factors, its phase, and the free list after it.
+// A product, and the free list after it.
 pub struct Outcome {
-    pub head: usize,
-    pub count: usize,
-    pub phase: usize,
+    pub value: Value,
     pub free: usize,
 }
 
@@ -141,7 +153,7 @@ pub(crate) fn clear(pool: &mut [u32])
 // ---- lending and giving back
 
 // One record is lent for one factor.
-pub(crate) fn single(pool: &mut [u32], free: usize, qubit: u32, letter: u32) -> Taken
+pub(crate) fn single(pool: &mut [u32], free: usize, qubit: u32, letter: u32) -> NewChain
     requires { ⌜ Lender (now pool) free ⌝ }
     requires { ⌜ (1 ≤ letter) × (letter ≤ 3) ⌝ }
     ensures { λ r. ⌜ ((g : Lender (now (pool .entry)) free) → Lent g (factor qubit (pauliOf letter)) (now (pool .exit)) (r .head) (r .free)) ⌝ }
@@ -150,14 +162,14 @@ pub(crate) fn single(pool: &mut [u32], free: usize, qubit: u32, letter: u32) -> 
     set_qubit(pool, free, qubit);
     set_letter(pool, free, letter);
     link(pool, free, 0);
-    Taken {
+    NewChain {
         head: free,
         free: next,
     }
 }
 
 // A chain of count factors is copied.
-pub(crate) fn copy(pool: &mut [u32], free0: usize, a0: usize, count: usize) -> Taken
+pub(crate) fn copy(pool: &mut [u32], free0: usize, a0: usize, count: usize) -> NewChain
     requires { ⌜ Source (now pool) free0 a0 count ⌝ }
     ensures { λ r. ⌜ ((g : Source (now (pool .entry)) free0 a0 count) → Copied g (now (pool .exit)) (r .head) (r .free)) ⌝ }
 {
@@ -178,7 +190,7 @@ pub(crate) fn copy(pool: &mut [u32], free0: usize, a0: usize, count: usize) -> T
         left -= 1;
     }
     let head = attach(pool, tail, 0);
-    Taken { head, free }
+    NewChain { head, free }
 }
 
 // A chain of count factors is given back.
@@ -292,7 +304,7 @@ pub(crate) fn multiply(
     nb: usize,
 ) -> Outcome
     requires { ⌜ Operands (now pool) free0 a0 na b0 nb ⌝ }
-    ensures { λ r. ⌜ ((g : Operands (now (pool .entry)) free0 a0 na b0 nb) → Multiplied g (now (pool .exit)) (r .head) (r .count) (r .phase) (r .free)) ⌝ }
+    ensures { λ r. ⌜ ((g : Operands (now (pool .entry)) free0 a0 na b0 nb) → Multiplied g (now (pool .exit)) (r .value .head) (r .value .count) (r .value .phase) (r .free)) ⌝ }
 {
     let mut free = free0;
     let mut a = a0;
@@ -316,10 +328,10 @@ pub(crate) fn multiply(
     }
     let rest = if a == 0 { b } else { a };
     let head = attach(pool, tail, rest);
-    Outcome {
+    let value = Value {
         head,
         count: made + left,
         phase,
-        free,
-    }
+    };
+    Outcome { value, free }
 }

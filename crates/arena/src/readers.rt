@@ -10,8 +10,8 @@ use crate::header::Header;
 use crate::pauli_ref::PauliAxis;
 use crate::pauli_ref::PauliRef;
 use crate::pool::cap_of;
+use crate::roots::Shown;
 use crate::roots::show;
-use crate::roots::walk_error;
 use crate::roots::walk_root;
 use crate::roots::wipe;
 use pauli::Phase;
@@ -36,20 +36,21 @@ fn expand_walk(
 ) -> Expansion
     requires { ⌜ Fit header (now nodes) (now s) × (nodeIn word < header .nodes) × (header .qubits ≤ length (now letters)) ⌝ }
     ensures { λ r. ⌜ r ≡ expansionOf (expandWalk cells (capOf (length (now (pool .entry))) - 1) (header .qubits) (header .nodes) (now (nodes .entry)) word) ⌝ }
-    ensures { λ _. ⌜ now (letters .exit) ≡ lettersLeft (expandWalk cells (capOf (length (now (pool .entry))) - 1) (header .qubits) (header .nodes) (now (nodes .entry)) word) (now (letters .entry)) ⌝ }
+    ensures { λ _. ⌜ now (letters .exit)
+        ≡ lettersLeft (expandWalk cells (capOf (length (now (pool .entry))) - 1) (header .qubits) (header .nodes) (now (nodes .entry)) word) (now (letters .entry)) ⌝ }
 {
     let n = header.qubits as usize;
     let count = header.nodes as usize;
     if cells < n {
         return Expansion::Refused(PbcError::ExpansionLimit);
     }
-    let o = walk_root(nodes, s, pool, count, cells - n, word as usize);
-    let st = o.status;
-    if st != 0 {
-        return Expansion::Refused(walk_error(st));
+    match walk_root(nodes, s, pool, count, cells - n, word as usize) {
+        Shown::Refused(e) => Expansion::Refused(e),
+        Shown::Root(v, left) => {
+            show(letters, pool, n, v.head);
+            Expansion::Made(Phase::power((v.phase % 4) as u32), left.work)
+        }
     }
-    show(letters, pool, n, o.head);
-    Expansion::Made(Phase::power((o.phase % 4) as u32), o.work)
 }
 
 // The walk of `hermitian_axis`, in the same way.
@@ -62,18 +63,19 @@ fn hermitian_walk(
     limit: usize,
 ) -> HermitianAxis
     requires { ⌜ Fit header (now nodes) (now s) × (nodeIn (reference .word) < header .nodes) ⌝ }
-    ensures { λ r. ⌜ r ≡ hermitianOf reference (hermitianWalk limit (capOf (length (now (pool .entry))) - 1) (header .qubits) (header .nodes) (now (nodes .entry)) (reference .word)) ⌝ }
+    ensures { λ r. ⌜ r ≡ hermitianOf reference
+        (hermitianWalk limit (capOf (length (now (pool .entry))) - 1) (header .qubits) (header .nodes) (now (nodes .entry)) (reference .word)) ⌝ }
 {
     let count = header.nodes as usize;
-    let o = walk_root(nodes, s, pool, count, limit, reference.word as usize);
-    let st = o.status;
-    if st != 0 {
-        return HermitianAxis::Refused(walk_error(st));
+    match walk_root(nodes, s, pool, count, limit, reference.word as usize) {
+        Shown::Refused(e) => HermitianAxis::Refused(e),
+        Shown::Root(v, left) => {
+            if v.phase % 2 == 1 {
+                return HermitianAxis::Refused(PbcError::NonHermitianAxis);
+            }
+            HermitianAxis::Made(PauliAxis::assume_hermitian(reference), left.work)
+        }
     }
-    if o.phase % 2 == 1 {
-        return HermitianAxis::Refused(PbcError::NonHermitianAxis);
-    }
-    HermitianAxis::Made(PauliAxis::assume_hermitian(reference), o.work)
 }
 
 impl Header {

@@ -3,7 +3,8 @@
 use crate::error::PbcError;
 use crate::materialize::Evaluated;
 use crate::materialize::eval_root;
-use crate::materialize::not_evaluated;
+use crate::pool::Ledger;
+use crate::pool::Value;
 use crate::pool::cap_of;
 use crate::pool::clear;
 use crate::pool::give_back;
@@ -13,13 +14,10 @@ use crate::pool::next_of;
 use crate::pool::qubit_of;
 use crate::pool::wide;
 use crate::scratch::add_use;
-use crate::scratch::count_in;
-use crate::scratch::head_in;
-use crate::scratch::phase_in;
+use crate::scratch::named_value;
 use crate::scratch::scan_uses;
 use crate::scratch::set_use;
 use crate::scratch::use_of;
-use crate::scratch::value_of;
 use crate::scratch::zero_all;
 ghost use mathlib.Core.Path.{_≡_};
 ghost use mathlib.Core.List.{[], _∷_, _++_};
@@ -27,9 +25,10 @@ ghost use Prim.Native.Nat.{_+_, _-_, _≤_, _<_};
 ghost use lib.ListN.{length, replicate, drop};
 ghost use Rattle.arena.specs.References.{nodeIn};
 ghost use Rattle.arena.specs.Nodes.{nodeAt};
-ghost use Rattle.arena.specs.Walk.{charge, begin as started, walkNodes};
-ghost use Rattle.arena.specs.Code.WalkWords.{Says, Rooted, Ready, Showing, lettersWritten, CellReady, CellRead, ShowReady};
-ghost use Rattle.arena.specs.Code.Roots.{Rootable, tallyOf, Begun, showRoot, RootShown, Releasable, Released, walkError};
+ghost use Rattle.arena.specs.Walk.{walkNodes};
+ghost use Rattle.arena.specs.Code.Results.{Says, evaluatedOut, shownOut};
+ghost use Rattle.arena.specs.Code.WalkWords.{Rooted, RootReady, Showing, lettersWritten, CellReady, CellRead, ShowReady};
+ghost use Rattle.arena.specs.Code.Roots.{Rootable, startOf, Begun, showRoot, RootShown, Releasable, Released};
 ghost use Rattle.arena.specs.Limits.{capOf};
 ghost use Rattle.arena.specs.Expansion.{cleared};
 
@@ -53,47 +52,29 @@ pub(crate) fn begin(
     roots: usize,
 ) -> Evaluated
     requires { ⌜ Rootable (now nodes) (now s) count roots ⌝ }
-    ensures { λ r. ⌜ ((g : Rootable (now (nodes .entry)) (now (s .entry)) count roots) → Says (charge limit (length (g .ws) + tallyOf g .reached) (started (tallyOf g))) (r .status) (Begun g limit (capOf (length (now (pool .entry))) - 1) (now (s .exit)) (now (pool .exit)) (r .free) (r .spare) (r .work))) ⌝ }
+    ensures { λ r. ⌜ ((g : Rootable (now (nodes .entry)) (now (s .entry)) count roots)
+        → Says (startOf limit (nodeAt (g .n) (now (nodes .entry))) count (g .ws)) (evaluatedOut r)
+        (Begun g limit (capOf (length (now (pool .entry))) - 1) (now (s .exit)) (now (pool .exit)))) ⌝ }
 {
     let reached = scan_uses(nodes, s, count);
     let room = room_of(pool.len());
     let free = init(pool);
     if limit < roots + reached {
-        return not_evaluated(17);
+        return Evaluated::Refused(PbcError::ExpansionLimit);
     }
-    Evaluated {
-        status: 0,
+    Evaluated::Done(Ledger {
         free,
         spare: room,
         work: roots + reached,
-    }
+    })
 }
 
 // ---- a root
 
-// The status, the chain, factors and phase of what is shown, and what is then left.
-pub struct Shown {
-    pub status: usize,
-    pub head: usize,
-    pub factors: usize,
-    pub phase: usize,
-    pub free: usize,
-    pub spare: usize,
-    pub work: usize,
-}
-
-fn not_shown(status: usize) -> Shown
-    ensures { λ r. ⌜ r .status ≡ status ⌝ }
-{
-    Shown {
-        status,
-        head: 0,
-        factors: 0,
-        phase: 0,
-        free: 0,
-        spare: 0,
-        work: 0,
-    }
+// A root shown: its value, and what is then left.
+pub enum Shown {
+    Root(Value, Ledger),
+    Refused(PbcError),
 }
 
 // The root w is evaluated, and its factors are charged.
@@ -104,63 +85,49 @@ pub(crate) fn show_root(
     count: usize,
     limit: usize,
     w: usize,
-    free: usize,
-    spare: usize,
-    work: usize,
+    left: Ledger,
 ) -> Shown
-    requires { ⌜ Rooted (now nodes) (now s) (now pool) count limit (nodeIn w) free spare work ⌝ }
-    ensures { λ r. ⌜ ((g : Rooted (now (nodes .entry)) (now (s .entry)) (now (pool .entry)) count limit (nodeIn w) free spare work) → Says (showRoot limit (g .at .room) (nodeAt (g .at .n) (now (nodes .entry))) count (nodeIn w) (g .at .s)) (r .status) (RootShown w g (now (s .exit)) (now (pool .exit)) (r .head) (r .factors) (r .phase) (r .free) (r .spare) (r .work))) ⌝ }
+    requires { ⌜ Rooted (now nodes) (now s) (now pool) count limit (nodeIn w) left ⌝ }
+    ensures { λ r. ⌜ ((g : Rooted (now (nodes .entry)) (now (s .entry)) (now (pool .entry)) count limit (nodeIn w) left)
+        → Says (showRoot limit (g .at .room) (nodeAt (g .at .n) (now (nodes .entry))) count (nodeIn w) (g .at .s)) (shownOut r)
+        (RootShown w g (now (s .exit)) (now (pool .exit)))) ⌝ }
 {
-    let j = w / 4;
-    let o = eval_root(nodes, s, pool, count, limit, j, free, spare, work);
-    let st = o.status;
-    if st != 0 {
-        return not_shown(st);
-    }
-    let m = value_of(s, j);
-    let k = count_in(m);
-    if limit - o.work < k {
-        return not_shown(17);
-    }
-    Shown {
-        status: 0,
-        head: head_in(m),
-        factors: k,
-        phase: (w % 4 + phase_in(m)) % 4,
-        free: o.free,
-        spare: o.spare,
-        work: o.work + k,
+    match eval_root(nodes, s, pool, count, limit, w / 4, left) {
+        Evaluated::Refused(e) => Shown::Refused(e),
+        Evaluated::Done(rest) => {
+            let v = named_value(s, w);
+            let count = v.count;
+            if limit - rest.work < count {
+                return Shown::Refused(PbcError::ExpansionLimit);
+            }
+            Shown::Root(
+                v,
+                Ledger {
+                    free: rest.free,
+                    spare: rest.spare,
+                    work: rest.work + count,
+                },
+            )
+        }
     }
 }
 
-// The free list, and the records in it.
-pub struct Freed {
-    pub free: usize,
-    pub spare: usize,
-}
-
-// A root is given up: with its last use its records are given back.
-pub(crate) fn release(
-    s: &mut [u32],
-    pool: &mut [u32],
-    j: usize,
-    head: usize,
-    factors: usize,
-    free: usize,
-    spare: usize,
-) -> Freed
-    requires { ⌜ Releasable (now s) (now pool) j head factors free spare ⌝ }
-    ensures { λ r. ⌜ ((g : Releasable (now (s .entry)) (now (pool .entry)) j head factors free spare) → Released g (now (s .exit)) (now (pool .exit)) (r .free) (r .spare)) ⌝ }
+// The root j, whose value is v, is given up: with its last use its records are given back.
+pub(crate) fn release(s: &mut [u32], pool: &mut [u32], j: usize, v: Value, left: Ledger) -> Ledger
+    requires { ⌜ Releasable (now s) (now pool) j v left ⌝ }
+    ensures { λ r. ⌜ ((g : Releasable (now (s .entry)) (now (pool .entry)) j v left) → Released g (now (s .exit)) (now (pool .exit)) r) ⌝ }
 {
     let u = use_of(s, j);
     set_use(s, j, u - 1);
     if u != 1 {
-        return Freed { free, spare };
+        return left;
     }
-    let back = give_back(pool, free, head, factors);
-    Freed {
+    let count = v.count;
+    let back = give_back(pool, left.free, v.head, count);
+    Ledger {
         free: back,
-        spare: spare + factors,
+        spare: left.spare + count,
+        work: left.work,
     }
 }
 
@@ -175,30 +142,20 @@ pub(crate) fn walk_root(
     limit: usize,
     w: usize,
 ) -> Shown
-    requires { ⌜ Ready (now nodes) (now s) count w ⌝ }
-    ensures { λ r. ⌜ ((g : Ready (now (nodes .entry)) (now (s .entry)) count w) → Says (walkNodes limit (capOf (length (now (pool .entry))) - 1) (nodeAt (g .n) (now (nodes .entry))) count (w ∷ [])) (r .status) (Showing (now (pool .exit)) (r .head) (r .phase) (r .work))) ⌝ }
+    requires { ⌜ RootReady (now nodes) (now s) count w ⌝ }
+    ensures { λ r. ⌜ ((g : RootReady (now (nodes .entry)) (now (s .entry)) count w)
+        → Says (walkNodes limit (capOf (length (now (pool .entry))) - 1) (nodeAt (g .n) (now (nodes .entry))) count (w ∷ [])) (shownOut r)
+        (Showing (now (pool .exit)))) ⌝ }
 {
     zero_all(s);
     add_use(s, w / 4);
-    let b = begin(nodes, s, pool, count, limit, 1);
-    let st = b.status;
-    if st != 0 {
-        return not_shown(st);
+    match begin(nodes, s, pool, count, limit, 1) {
+        Evaluated::Refused(e) => Shown::Refused(e),
+        Evaluated::Done(left) => show_root(nodes, s, pool, count, limit, w, left),
     }
-    show_root(nodes, s, pool, count, limit, w, b.free, b.spare, b.work)
 }
 
 // ---- the end
-
-// The refusal that a status stands for.
-pub(crate) fn walk_error(status: usize) -> PbcError
-    ensures { λ r. ⌜ r ≡ walkError status ⌝ }
-{
-    if status == 17 {
-        return PbcError::ExpansionLimit;
-    }
-    PbcError::NoPool
-}
 
 // The first scratch words and every counted record are zero.
 pub(crate) fn wipe(s: &mut [u32], pool: &mut [u32], used: usize)

@@ -1,11 +1,12 @@
 //! The scratch words of a walk: four for each node, its uses left in two words, its value, and the link of the path that is being walked; and the counting of uses.
 //! What these words stand for: specs/Code/WalkWords.antt.
 
+use crate::pool::Value;
 use crate::pool::wide;
 ghost use mathlib.Core.Path.{_≡_};
-ghost use Prim.Native.Nat.{_+_, _*_, _-_, _≤_, _<_};
+ghost use Prim.Native.Nat.{_+_, _*_, _-_, _/_, _≤_, _<_};
 ghost use lib.ListN.{length, getD, set, replicate};
-ghost use Rattle.arena.specs.Code.WalkWords.{field, usesAt, withUse, valueAt, packed, headIn, countIn, turnIn, ValuesKept, Visiting, Visited, Counting, CountedUp};
+ghost use Rattle.arena.specs.Code.WalkWords.{scratchAt, usesAt, withUse, valueAt, valueWord, valueNamed, ValuesKept, Visiting, Visited, Counting, CountedUp};
 
 // ---- the words of a node
 
@@ -37,16 +38,29 @@ pub(crate) fn value_of(s: &[u32], i: usize) -> usize
     wide(s[4 * i + 2])
 }
 
-pub(crate) fn set_value(s: &mut [u32], i: usize, head: usize, count: usize, phase: usize)
-    requires { ⌜ (head < 65536) × (count ≤ 256) × (phase < 4) × (4 * i + 2 < length (now s)) ⌝ }
-    ensures { λ _. ⌜ now (s .exit) ≡ set (now (s .entry)) (4 * i + 2) (packed head count phase) ⌝ }
+pub(crate) fn set_value(s: &mut [u32], i: usize, v: Value)
+    requires { ⌜ (v .head < 65536) × (v .count ≤ 256) × (v .phase < 4) × (4 * i + 2 < length (now s)) ⌝ }
+    ensures { λ _. ⌜ now (s .exit) ≡ set (now (s .entry)) (4 * i + 2) (valueWord (v .head) (v .count) (v .phase)) ⌝ }
 {
-    s[4 * i + 2] = (1 + 2 * (phase + 4 * (count + 512 * head))) as u32;
+    s[4 * i + 2] = (1 + 2 * (v.phase + 4 * (v.count + 512 * v.head))) as u32;
+}
+
+// The value of the node that the word w names, turned by the phase in w.
+pub(crate) fn named_value(s: &[u32], w: usize) -> Value
+    requires { ⌜ 4 * (w / 4) + 2 < length (now s) ⌝ }
+    ensures { λ r. ⌜ r ≡ valueNamed (now (s .entry)) w ⌝ }
+{
+    let m = value_of(s, w / 4);
+    Value {
+        head: m / 4096,
+        count: m / 8 % 512,
+        phase: (w % 4 + m / 2 % 4) % 4,
+    }
 }
 
 pub(crate) fn link_of(s: &[u32], i: usize) -> usize
     requires { ⌜ 4 * i + 3 < length (now s) ⌝ }
-    ensures { λ r. ⌜ r ≡ field 3 (now (s .entry)) i ⌝ }
+    ensures { λ r. ⌜ r ≡ scratchAt 3 (now (s .entry)) i ⌝ }
 {
     wide(s[4 * i + 3])
 }
@@ -56,25 +70,6 @@ pub(crate) fn set_link(s: &mut [u32], i: usize, v: usize)
     ensures { λ _. ⌜ now (s .exit) ≡ set (now (s .entry)) (4 * i + 3) v ⌝ }
 {
     s[4 * i + 3] = v as u32;
-}
-
-// What a value's word says: its factors, its phase, and its first record.
-pub(crate) fn count_in(v: usize) -> usize
-    ensures { λ r. ⌜ r ≡ countIn v ⌝ }
-{
-    v / 8 % 512
-}
-
-pub(crate) fn phase_in(v: usize) -> usize
-    ensures { λ r. ⌜ r ≡ turnIn v ⌝ }
-{
-    v / 2 % 4
-}
-
-pub(crate) fn head_in(v: usize) -> usize
-    ensures { λ r. ⌜ r ≡ headIn v ⌝ }
-{
-    v / 4096
 }
 
 pub(crate) fn first_word(nodes: &[u32], i: usize) -> u32

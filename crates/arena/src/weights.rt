@@ -2,13 +2,16 @@
 
 use crate::checks::check_report;
 use crate::error::Checked;
+use crate::error::PbcError;
 use crate::expansion::MaxAxisWeights;
 use crate::header::Header;
+use crate::materialize::Evaluated;
+use crate::pool::Ledger;
 use crate::pool::cap_of;
+use crate::roots::Shown;
 use crate::roots::begin;
 use crate::roots::release;
 use crate::roots::show_root;
-use crate::roots::walk_error;
 use crate::roots::wipe;
 use crate::scratch::add_use;
 use crate::scratch::zero_all;
@@ -19,10 +22,13 @@ ghost use mathlib.Core.Path.{_≡_};
 ghost use mathlib.Core.Bool.{cond};
 ghost use Prim.Native.Nat.{_-_, _≤_, max};
 ghost use lib.ListN.{length};
+ghost use Rattle.arena.specs.References.{nodeIn};
 ghost use Rattle.arena.specs.Nodes.{nodeAt};
 ghost use Rattle.arena.specs.Readers.{reportWalk};
 ghost use Rattle.arena.specs.Expansion.{maxWeightsOf, reportStep};
-ghost use Rattle.arena.specs.Code.Roots.{Fit, axesOf, AxesNamed, Countable, AxesCounted, weighRoots, weightsOf, Weighing};
+ghost use Rattle.arena.specs.Code.Results.{Says, axisWeightOut};
+ghost use Rattle.arena.specs.Code.WalkWords.{Rooted};
+ghost use Rattle.arena.specs.Code.Roots.{Fit, weighedAt, axesOf, AxesNamed, Countable, AxesCounted, weighRoot, RootWeighed, weighRoots, weightsOf, Weighing};
 ghost use Rattle.arena.specs.Limits.{capOf};
 
 // One use for the axis of each operation.
@@ -51,6 +57,53 @@ fn raised(counts: bool, weight: usize, most: usize) -> usize
     }
 }
 
+// The axis of an operation: its word, and whether it counts as Clifford.
+pub struct Axis {
+    pub word: usize,
+    pub clifford: bool,
+}
+
+fn axis_at(header: Header, operations: &[u32], i: u32) -> Axis
+    ensures { λ r. ⌜ r .word ≡ weighedAt header (now (operations .entry)) i .word ⌝ }
+    ensures { λ r. ⌜ r .clifford ≡ weighedAt header (now (operations .entry)) i .clifford ⌝ }
+{
+    let op = op_at(header, operations, i);
+    Axis {
+        word: axis_word(op) as usize,
+        clifford: counts_as_clifford(op),
+    }
+}
+
+// The weight of an axis, and what is left after it was shown and released.
+pub enum AxisWeight {
+    Weighed(usize, Ledger),
+    Refused(PbcError),
+}
+
+// The axis w is shown, weighed and released.
+fn weigh_root(
+    nodes: &[u32],
+    s: &mut [u32],
+    pool: &mut [u32],
+    count: usize,
+    limit: usize,
+    w: usize,
+    left: Ledger,
+) -> AxisWeight
+    requires { ⌜ Rooted (now nodes) (now s) (now pool) count limit (nodeIn w) left ⌝ }
+    ensures { λ r. ⌜ ((g : Rooted (now (nodes .entry)) (now (s .entry)) (now (pool .entry)) count limit (nodeIn w) left)
+        → Says (weighRoot limit (g .at .room) (nodeAt (g .at .n) (now (nodes .entry))) count w (g .at .s)) (axisWeightOut r)
+        (RootWeighed w g (now (s .exit)) (now (pool .exit)))) ⌝ }
+{
+    match show_root(nodes, s, pool, count, limit, w, left) {
+        Shown::Refused(e) => AxisWeight::Refused(e),
+        Shown::Root(v, rest) => {
+            let after = release(s, pool, w / 4, v, rest);
+            AxisWeight::Weighed(v.count, after)
+        }
+    }
+}
+
 // Each axis is shown, weighed and released, in order.
 fn weigh_axes(
     header: Header,
@@ -59,40 +112,32 @@ fn weigh_axes(
     s: &mut [u32],
     pool: &mut [u32],
     limit: usize,
-    free0: usize,
-    spare0: usize,
-    work0: usize,
+    left0: Ledger,
 ) -> MaxAxisWeights
-    requires { ⌜ Weighing header (now nodes) (now operations) (now s) (now pool) limit free0 spare0 work0 ⌝ }
-    ensures { λ r. ⌜ ((g : Weighing header (now (nodes .entry)) (now (operations .entry)) (now (s .entry)) (now (pool .entry)) limit free0 spare0 work0) → r ≡ maxWeightsOf (weighRoots limit (g .room) (nodeAt (header .qubits) (now (nodes .entry))) (header .nodes) (axesOf header (now (operations .entry))) (weightsOf 0 0) (g .s))) ⌝ }
+    requires { ⌜ Weighing header (now nodes) (now operations) (now s) (now pool) limit left0 ⌝ }
+    ensures { λ r. ⌜ ((g : Weighing header (now (nodes .entry)) (now (operations .entry)) (now (s .entry)) (now (pool .entry)) limit left0)
+        → r ≡ maxWeightsOf (weighRoots limit (g .room) (nodeAt (header .qubits) (now (nodes .entry))) (header .nodes)
+        (axesOf header (now (operations .entry))) (weightsOf 0 0) (g .s))) ⌝ }
 {
     let count = header.nodes as usize;
     let total = header.operations;
-    let mut free = free0;
-    let mut spare = spare0;
-    let mut work = work0;
+    let mut left = left0;
     let mut non_clifford = 0;
     let mut clifford = 0;
     let mut i = 0;
     while i < total {
-        let op = op_at(header, operations, i);
-        let w = axis_word(op) as usize;
-        let even = counts_as_clifford(op);
-        let o = show_root(nodes, s, pool, count, limit, w, free, spare, work);
-        let st = o.status;
-        if st != 0 {
-            return MaxAxisWeights::Refused(walk_error(st));
+        let x = axis_at(header, operations, i);
+        match weigh_root(nodes, s, pool, count, limit, x.word, left) {
+            AxisWeight::Refused(e) => return MaxAxisWeights::Refused(e),
+            AxisWeight::Weighed(k, rest) => {
+                non_clifford = raised(!x.clifford, k, non_clifford);
+                clifford = raised(x.clifford, k, clifford);
+                left = rest;
+                i += 1;
+            }
         }
-        let k = o.factors;
-        let f = release(s, pool, w / 4, o.head, k, o.free, o.spare);
-        non_clifford = raised(!even, k, non_clifford);
-        clifford = raised(even, k, clifford);
-        free = f.free;
-        spare = f.spare;
-        work = o.work;
-        i += 1;
     }
-    MaxAxisWeights::Made(non_clifford, clifford, work)
+    MaxAxisWeights::Made(non_clifford, clifford, left.work)
 }
 
 // The walk of the report, with the scratch and the pool left as they are then.
@@ -105,28 +150,17 @@ fn report_walk(
     limit: usize,
 ) -> MaxAxisWeights
     requires { ⌜ Fit header (now nodes) (now s) × AxesNamed header (now operations) × (header .operations ≤ 65536) ⌝ }
-    ensures { λ r. ⌜ r ≡ maxWeightsOf (reportWalk limit (capOf (length (now (pool .entry))) - 1) (header .qubits) (header .nodes) (now (nodes .entry)) (axesOf header (now (operations .entry)))) ⌝ }
+    ensures { λ r. ⌜ r ≡ maxWeightsOf
+        (reportWalk limit (capOf (length (now (pool .entry))) - 1) (header .qubits) (header .nodes) (now (nodes .entry)) (axesOf header (now (operations .entry)))) ⌝ }
 {
     zero_all(s);
     count_axes(header, operations, s);
     let count = header.nodes as usize;
     let roots = header.operations as usize;
-    let b = begin(nodes, s, pool, count, limit, roots);
-    let st = b.status;
-    if st != 0 {
-        return MaxAxisWeights::Refused(walk_error(st));
+    match begin(nodes, s, pool, count, limit, roots) {
+        Evaluated::Refused(e) => MaxAxisWeights::Refused(e),
+        Evaluated::Done(left) => weigh_axes(header, nodes, operations, s, pool, limit, left),
     }
-    weigh_axes(
-        header,
-        nodes,
-        operations,
-        s,
-        pool,
-        limit,
-        b.free,
-        b.spare,
-        b.work,
-    )
 }
 
 impl Header {

@@ -2,21 +2,19 @@
 -- The functions of src/roots.rt, readers.rt and weights.rt that are not public ask and promise what is said here.
 use mathlib.Core.Path.{_≡_}
 use mathlib.Core.Logic.{_≢_}
-use mathlib.Core.Bool.{Bool, true, false, cond}
+use mathlib.Core.Bool.{Bool, true, false}
 use mathlib.Core.List.{List, [], _∷_}
-use Prim.Native.Nat.{ℕ, _*_, _-_, _≤_, _<_}
-use lib.Dec.{eqb}
+use Prim.Native.Nat.{ℕ, _+_, _*_, _-_, _≤_, _<_}
 use lib.ListN.{length, getD}
-use Rattle.pauli.specs.Letters.{phaseNumber}
-use Rattle.arena.specs.Errors.{PbcError, ExpansionLimit, NoPool}
 use Rattle.arena.specs.References.{nodeIn, phaseIn}
 use Rattle.arena.specs.Nodes.{PauliNode, Malformed, nodeAt}
 use Rattle.arena.specs.Operations.{AxisKind, NoKind, Pi8, Clifford, Measurement}
 use Rattle.arena.specs.Store.{Header}
 use Rattle.arena.specs.Sparse.{turned, size}
-use Rattle.arena.specs.Walk.{Out, fine, bind, State, Counted, rootUses, scan, charge, eval, release}
-use Rattle.arena.specs.Pool.{Who}
-use Rattle.arena.specs.Code.WalkWords.{Inv, none, valueAt, headIn, Uses, Rep, Rooted}
+use Rattle.arena.specs.Walk.{Out, fine, bind, State, Counted, rootUses, scan, charge, begin, eval, release}
+use Rattle.arena.specs.Pool.{Who, Chain}
+use Rattle.arena.specs.Code.Results.{Ledger, Value}
+use Rattle.arena.specs.Code.WalkWords.{Inv, none, valueAt, Uses, Rep, ValueIs, Rooted}
 use Rattle.arena.specs.Readers.{Weighed, Weights, weigh, wordsOf, Report}
 use Rattle.arena.specs.Expansion.{opAt, weighedOf, axesTo}
 
@@ -44,15 +42,18 @@ pub record Rootable (words l : List ℕ) (count roots : ℕ) : Type 0 where
   pub nodes-few : count ≤ 65536
 
 -- the uses of every node, and how many are reachable
-abbrev pub tallyOf : {words l : List ℕ} {count roots : ℕ} → Rootable words l count roots → Counted
-tallyOf {words} {l} {count} g = scan (nodeAt (g .n) words) count (rootUses (g .ws))
+abbrev pub tallyOf : (ℕ → PauliNode) → ℕ → List ℕ → Counted
+tallyOf node count ws = scan node count (rootUses ws)
+
+-- roots and reachable nodes are charged, before anything is evaluated
+abbrev pub startOf : ℕ → (ℕ → PauliNode) → ℕ → List ℕ → Out State
+startOf limit node count ws = charge limit (length ws + tallyOf node count ws .reached) (begin (tallyOf node count ws))
 
 -- the words stand for t, where nothing is shown yet
-pub record Begun {words l : List ℕ} {count roots : ℕ} (g : Rootable words l count roots) (limit room : ℕ) (l′ p′ : List ℕ) (free spare work : ℕ) (t : State) : Type 0 where
+pub record Begun {words l : List ℕ} {count roots : ℕ} (g : Rootable words l count roots) (limit room : ℕ) (l′ p′ : List ℕ) (t : State) (left : Ledger) : Type 0 where
   pub who : Who
-  pub rep : Rep count room l′ p′ free spare who t
-  pub inv : Inv limit room (g .n) count (nodeAt (g .n) words) (scan (nodeAt (g .n) words) count (rootUses (g .ws)) .uses) (rootUses (g .ws)) none 0 t
-  pub work-is : work ≡ t .work
+  pub rep : Rep count room l′ p′ left who t
+  pub inv : Inv limit room (g .n) count (nodeAt (g .n) words) (tallyOf (nodeAt (g .n) words) count (g .ws) .uses) (rootUses (g .ws)) none 0 t
 
 -- ---- a root shown
 
@@ -61,44 +62,36 @@ abbrev pub showRoot : ℕ → ℕ → (ℕ → PauliNode) → ℕ → ℕ → St
 showRoot limit room node depth j s = bind (eval limit room node depth j s) (λ t. charge limit (size (t .value j)) t)
 
 -- the words stand for t, and the value shown is a chain of the pool
-pub record RootShown (w : ℕ) {words l p : List ℕ} {count limit free spare work : ℕ} (g : Rooted words l p count limit (nodeIn w) free spare work)
-    (l′ p′ : List ℕ) (head factors phase free′ spare′ work′ : ℕ) (t : State) : Type 0 where
+pub record RootShown (w : ℕ) {words l p : List ℕ} {count limit : ℕ} {left : Ledger} (g : Rooted words l p count limit (nodeIn w) left)
+    (l′ p′ : List ℕ) (t : State) (b : Value × Ledger) : Type 0 where
   pub who : Who
-  pub rep : Rep count (g .at .room) l′ p′ free′ spare′ who t
+  pub rep : Rep count (g .at .room) l′ p′ (b .1) who t
   pub inv : Inv limit (g .at .room) (g .at .n) count (nodeAt (g .at .n) words) (g .at .total) (g .at .rest) none 0 t
   pub done-is : t .done (nodeIn w) ≡ true
   pub used : 0 < t .uses (nodeIn w)
-  pub head-is : head ≡ headIn (valueAt l′ (nodeIn w))
-  pub factors-are : factors ≡ size (t .value (nodeIn w))
-  pub phase-is : phase ≡ phaseNumber (turned (phaseIn w) (t .value (nodeIn w)) .phase)
-  pub work-is : work′ ≡ t .work
+  pub value : ValueIs p′ who (nodeIn w + 2) (b .0) (turned (phaseIn w) (t .value (nodeIn w)))
 
 -- ---- a root released
 
-pub record Releasable (l p : List ℕ) (j head factors free spare : ℕ) : Type 0 where
+pub record Releasable (l p : List ℕ) (j : ℕ) (v : Value) (left : Ledger) : Type 0 where
   pub count : ℕ
   pub room : ℕ
   pub who : Who
   pub s : State
-  pub rep : Rep count room l p free spare who s
+  pub rep : Rep count room l p left who s
   pub low : j < count
   pub nodes-few : count ≤ 65536
   pub few : room < 65536
-  pub done-is : s .done j ≡ true
   pub used : 0 < s .uses j
   pub holds : size (s .value j) ≤ s .held
-  pub head-is : head ≡ headIn (valueAt l j)
-  pub factors-are : factors ≡ size (s .value j)
+  pub chain : Chain p who (j + 2) 0 (v .head) (s .value j .factors)
+  pub count-is : v .count ≡ size (s .value j)
 
-pub record Released {l p : List ℕ} {j head factors free spare : ℕ} (g : Releasable l p j head factors free spare) (l′ p′ : List ℕ) (free′ spare′ : ℕ) : Type 0 where
+pub record Released {l p : List ℕ} {j : ℕ} {v : Value} {left : Ledger} (g : Releasable l p j v left) (l′ p′ : List ℕ) (left′ : Ledger) : Type 0 where
   pub who : Who
-  pub rep : Rep (g .count) (g .room) l′ p′ free′ spare′ who (release j (g .s))
+  pub rep : Rep (g .count) (g .room) l′ p′ left′ who (release j (g .s))
 
 -- ---- a whole walk
-
--- the refusal that a status stands for
-abbrev pub walkError : ℕ → PbcError
-walkError status = cond (eqb status 17) ExpansionLimit NoPool
 
 -- what the checks of a reader say of header, nodes and scratch
 pub record Fit (h : Header) (words l : List ℕ) : Type 0 where
@@ -110,15 +103,15 @@ pub record Fit (h : Header) (words l : List ℕ) : Type 0 where
 
 -- ---- the axes of operations
 
-abbrev pub axisAt : Header → List ℕ → ℕ → Weighed
-axisAt h ops i = weighedOf (opAt h ops i)
+abbrev pub weighedAt : Header → List ℕ → ℕ → Weighed
+weighedAt h ops i = weighedOf (opAt h ops i)
 
 abbrev pub axesOf : Header → List ℕ → List Weighed
 axesOf h ops = axesTo (opAt h ops) (h .operations)
 
 -- the axis of every used operation is a used node
 abbrev pub AxesNamed : Header → List ℕ → Type 0
-AxesNamed h ops = (i : ℕ) → i < h .operations → nodeIn (axisAt h ops i .word) < h .nodes
+AxesNamed h ops = (i : ℕ) → i < h .operations → nodeIn (weighedAt h ops i .word) < h .nodes
 
 pub record Countable (h : Header) (ops l : List ℕ) : Type 0 where
   pub zero-at : (k : ℕ) → getD l k 0 ≡ 0
@@ -132,30 +125,50 @@ pub record AxesCounted (h : Header) (ops l : List ℕ) : Type 0 where
   pub uses : Uses (h .nodes) l (rootUses (wordsOf (axesOf h ops)))
   pub blank : (k : ℕ) → valueAt l k ≡ 0
 
--- the axes xs are shown and weighed in turn; m are the largest weights so far
+-- a root's weight, and the walk after it was shown and released
+pub record RootWeight : Type 0 where
+  pub weight : ℕ
+  pub state : State
+
+abbrev pub weightOf : ℕ → State → RootWeight
+weightOf w t = record { weight = size (t .value (nodeIn w)); state = release (nodeIn w) t }
+
 module _ (limit room : ℕ) (node : ℕ → PauliNode) (depth : ℕ) where
+  -- the root w is shown, weighed and released
+  abbrev pub weighRoot : ℕ → State → Out RootWeight
+  weighRoot w s = bind (showRoot limit room node depth (nodeIn w) s) (λ t. fine (weightOf w t))
+
+  -- the axes xs in turn; m are the largest weights so far
   abbrev pub weighRoots : List Weighed → Weights → State → Out Report
   weighRoots [] m s = fine (record { weights = m; work = s .work })
-  weighRoots (x ∷ xs) m s =
-      bind (showRoot limit room node depth (nodeIn (x .word)) s) (λ t.
-      weighRoots xs (weigh (x .clifford) (size (t .value (nodeIn (x .word)))) m) (release (nodeIn (x .word)) t))
+  weighRoots (x ∷ xs) m s = bind (weighRoot (x .word) s) (λ a. weighRoots xs (weigh (x .clifford) (a .weight) m) (a .state))
+
+-- the words stand for the walk after the root w
+pub record RootWeighed (w : ℕ) {words l p : List ℕ} {count limit : ℕ} {left : Ledger} (g : Rooted words l p count limit (nodeIn w) left)
+    (l′ p′ : List ℕ) (a : RootWeight) (b : ℕ × Ledger) : Type 0 where
+  pub t : State
+  pub who : Who
+  pub rep : Rep count (g .at .room) l′ p′ (b .1) who (release (nodeIn w) t)
+  pub inv : Inv limit (g .at .room) (g .at .n) count (nodeAt (g .at .n) words) (g .at .total) (g .at .rest) none 0 t
+  pub done-is : t .done (nodeIn w) ≡ true
+  pub weight-is : b .0 ≡ a .weight
+  pub state-is : a .state ≡ release (nodeIn w) t
 
 abbrev pub weightsOf : ℕ → ℕ → Weights
 weightsOf a b = record { nonClifford = a; clifford = b }
 
 -- the walk at rest, the axes xs not yet shown
-pub record Resting (h : Header) (words l p : List ℕ) (xs : List Weighed) (limit room free spare work : ℕ) (s : State) : Type 0 where
+pub record Resting (h : Header) (words l p : List ℕ) (xs : List Weighed) (limit room : ℕ) (s : State) (left : Ledger) : Type 0 where
   pub total : ℕ → ℕ
   pub who : Who
-  pub rep : Rep (h .nodes) room l p free spare who s
+  pub rep : Rep (h .nodes) room l p left who s
   pub inv : Inv limit room (h .qubits) (h .nodes) (nodeAt (h .qubits) words) total (rootUses (wordsOf xs)) none 0 s
-  pub work-is : work ≡ s .work
 
 -- the walk has begun, and no axis is shown
-pub record Weighing (h : Header) (words ops l p : List ℕ) (limit free spare work : ℕ) : Type 0 where
+pub record Weighing (h : Header) (words ops l p : List ℕ) (limit : ℕ) (left : Ledger) : Type 0 where
   pub room : ℕ
   pub s : State
   pub few : room < 65536
   pub fit : Fit h words l
   pub named : AxesNamed h ops
-  pub rest : Resting h words l p (axesOf h ops) limit room free spare work s
+  pub rest : Resting h words l p (axesOf h ops) limit room s left

@@ -4,27 +4,27 @@ use mathlib.Core.Path.{_≡_}
 use mathlib.Core.Logic.{_≢_}
 use mathlib.Core.Bool.{Bool, true, false, cond}
 use mathlib.Core.List.{List, [], _∷_, _++_, map}
-use Prim.Native.Nat.{ℕ, zero, suc, _+_, _*_, _/_, _%_, _≤_, _<_}
+use Prim.Native.Nat.{ℕ, zero, suc, _+_, _*_, _/_, _%_, _≤_, _<_, min}
 use lib.Dec.{eqb}
 use lib.ListN.{length, getD, set, drop}
 use Rattle.pauli.specs.Letters.{pauliNumber, phaseNumber}
 use Rattle.pauli.specs.Rows.{identity}
 use Rattle.arena.specs.Types.{Pauli, I}
-use Rattle.arena.specs.Errors.{refusalIn}
 use Rattle.arena.specs.References.{nodeIn}
 use Rattle.arena.specs.Nodes.{PauliNode, Identity, Single, Product, Malformed, nodeAt, rowsTo}
-use Rattle.arena.specs.Sparse.{Factor, Sparse, size, dense, spread}
-use Rattle.arena.specs.Walk.{Out, fine, refused, State, Taken, childUses, scan, Walked}
+use Rattle.arena.specs.Sparse.{Factor, Sparse, size, dense, spread, one, multiply}
+use Rattle.arena.specs.Walk.{Out, fine, bind, State, Taken, childUses, scan, Walked, charge, lend, finish}
 use Rattle.arena.specs.Machine.{Spot}
 use Rattle.arena.specs.Pool.{Who, Chain, Free}
+use Rattle.arena.specs.Code.Results.{Ledger, Value}
 
 -- the qubits rise from lo on and stay below hi, and no letter is I
 abbrev pub Rising : ℕ → ℕ → List Factor → Type 0
 Rising lo hi [] = Unit {0}
 Rising lo hi (f ∷ fs) = (lo ≤ f .qubit) × (f .qubit < hi) × (f .pauli ≢ I) × Rising (suc (f .qubit)) hi fs
 
-abbrev pub Proper : ℕ → Sparse → Type 0
-Proper n v = Rising 0 n (v .factors)
+abbrev pub Ordered : ℕ → Sparse → Type 0
+Ordered n v = Rising 0 n (v .factors)
 
 -- ---- the walk's invariant
 
@@ -69,7 +69,7 @@ none j = 0
 
 -- v is a value of node j
 pub record Right (n count : ℕ) (node : ℕ → PauliNode) (j : ℕ) (v : Sparse) : Type 0 where
-  pub proper : Proper n v
+  pub proper : Ordered n v
   pub means : dense n v ≡ getD (rowsTo n node count) j (identity n)
 
 -- total: each node's uses in all. rest: each node's roots not yet shown. debt: the uses that the node in work has consumed. hand: the factors in hand.
@@ -93,12 +93,12 @@ abbrev pub Wanted : State → List ℕ → Type 0
 Wanted s [] = Unit {0}
 Wanted s (i ∷ p) = (0 < s .uses i) × Wanted s p
 
-abbrev pub field : ℕ → List ℕ → ℕ → ℕ
-field c l i = getD l (4 * i + c) 0
+abbrev pub scratchAt : ℕ → List ℕ → ℕ → ℕ
+scratchAt c l i = getD l (4 * i + c) 0
 
 abbrev pub Linked : List ℕ → ℕ → List ℕ → Type 0
 Linked l top [] = top ≡ 0
-Linked l top (i ∷ p) = (top ≡ suc i) × Linked l (field 3 l i) p
+Linked l top (i ∷ p) = (top ≡ suc i) × Linked l (scratchAt 3 l i) p
 
 -- ---- the scratch words of a node: its uses left in two, its value, its link
 
@@ -109,11 +109,11 @@ abbrev pub withUse : List ℕ → ℕ → ℕ → List ℕ
 withUse l i v = set (set l (4 * i) (v % 4294967296)) (4 * i + 1) (v / 4294967296)
 
 abbrev pub valueAt : List ℕ → ℕ → ℕ
-valueAt l i = field 2 l i
+valueAt l i = scratchAt 2 l i
 
 -- a value: the first record of its chain, the number of its factors, its phase
-abbrev pub packed : ℕ → ℕ → ℕ → ℕ
-packed head count phase = 1 + 2 * (phase + 4 * (count + 512 * head))
+abbrev pub valueWord : ℕ → ℕ → ℕ → ℕ
+valueWord head count phase = 1 + 2 * (phase + 4 * (count + 512 * head))
 
 abbrev pub headIn : ℕ → ℕ
 headIn w = w / 4096
@@ -123,6 +123,10 @@ countIn w = w / 8 % 512
 
 abbrev pub turnIn : ℕ → ℕ
 turnIn w = w / 2 % 4
+
+-- the value of the node that the word w names, turned by the phase in w
+abbrev pub valueNamed : List ℕ → ℕ → Value
+valueNamed l w = record { head = headIn (valueAt l (w / 4)); count = countIn (valueAt l (w / 4)); phase = (w % 4 + turnIn (valueAt l (w / 4))) % 4 }
 
 -- 0 for a node that is not done; else its factors and its phase
 abbrev pub Marks : Bool → Sparse → ℕ → Type 0
@@ -137,7 +141,7 @@ pub record Scratch (count : ℕ) (l : List ℕ) (s : State) : Type 0 where
 
 -- the links are as they were
 pub record LinksKept (l l′ : List ℕ) : Type 0 where
-  pub same : (k : ℕ) → field 3 l′ k ≡ field 3 l k
+  pub same : (k : ℕ) → scratchAt 3 l′ k ≡ scratchAt 3 l k
 
 -- the values are as they were
 pub record ValuesKept (l l′ : List ℕ) : Type 0 where
@@ -191,82 +195,95 @@ pub record CountedUp {words l : List ℕ} {count : ℕ} (g : Counting words l co
   pub uses : Uses count l′ (scan (nodeAt (g .n) words) count (g .u) .uses)
   pub reached-is : r ≡ scan (nodeAt (g .n) words) count (g .u) .reached
 
--- ---- an outcome and a status
-
--- the status is 0 with what P says of the answer, or the number of the refusal
-abbrev pub Agrees : {A : Type 0} → Out A → ℕ → (A → Type 0) → Type 0
-Agrees (fine a) status P = (status ≡ 0) × P a
-Agrees (refused e) status P = (status ≡ refusalIn e .number) × (status ≡ 0 → ⊥)
-
--- the same as a record, which determines its parts
-pub record Says {A : Type 0} (x : Out A) (status : ℕ) (P : A → Type 0) : Type 0 where
-  pub says : Agrees x status P
-
 -- ---- the state in words
 
 -- a value that is done and has a use left is the chain of the tag j + 2; the records that are spare and those held are the room
-pub record Rep (count room : ℕ) (l p : List ℕ) (free spare : ℕ) (who : Who) (s : State) : Type 0 where
+pub record Rep (count room : ℕ) (l p : List ℕ) (left : Ledger) (who : Who) (s : State) : Type 0 where
   pub scratch : Scratch count l s
   pub chains : (j : ℕ) → j < count → s .done j ≡ true → 0 < s .uses j → Chain p who (j + 2) 0 (headIn (valueAt l j)) (s .value j .factors)
-  pub freed : Free p who free spare
-  pub balance : spare + s .held ≡ room
+  pub freed : Free p who (left .free) (left .spare)
+  pub balance : left .spare + s .held ≡ room
+  pub work-is : left .work ≡ s .work
 
 -- the words stand for t
-pub record Stands (count room : ℕ) (l p : List ℕ) (free spare work : ℕ) (t : State) : Type 0 where
+pub record Stands (count room : ℕ) (l p : List ℕ) (t : State) (left : Ledger) : Type 0 where
   pub who : Who
-  pub rep : Rep count room l p free spare who t
-  pub work-is : work ≡ t .work
+  pub rep : Rep count room l p left who t
+
+-- v is the value x, and the chain of the tag
+pub record ValueIs (p : List ℕ) (who : Who) (tag : ℕ) (v : Value) (x : Sparse) : Type 0 where
+  pub chain : Chain p who tag 0 (v .head) (x .factors)
+  pub count-is : v .count ≡ size x
+  pub phase-is : v .phase ≡ phaseNumber (x .phase)
 
 -- ---- a use taken
 
-pub record Takeable (l p : List ℕ) (limit w free spare work : ℕ) : Type 0 where
+pub record Takeable (l p : List ℕ) (limit w : ℕ) (left : Ledger) : Type 0 where
   pub count : ℕ
   pub room : ℕ
   pub who : Who
   pub s : State
   pub tag : ℕ
   pub tag-low : tag < 2
-  pub rep : Rep count room l p free spare who s
+  pub rep : Rep count room l p left who s
   pub named : nodeIn w < count
   pub nodes-few : count ≤ 65536
   pub done-is : s .done (nodeIn w) ≡ true
   pub used : 0 < s .uses (nodeIn w)
-  pub work-is : work ≡ s .work
   pub paid : s .work ≤ limit
 
 -- the value in hand is the chain `tag`; another in hand stands
-pub record TookRep {l p : List ℕ} {limit w free spare work : ℕ} (g : Takeable l p limit w free spare work) (l′ p′ : List ℕ) (head size′ phase free′ spare′ work′ : ℕ) (a : Taken) : Type 0 where
+pub record TookRep {l p : List ℕ} {limit w : ℕ} {left : Ledger} (g : Takeable l p limit w left) (l′ p′ : List ℕ) (a : Taken) (b : Value × Ledger) : Type 0 where
   pub who′ : Who
-  pub rep : Rep (g .count) (g .room) l′ p′ free′ spare′ who′ (a .state)
-  pub chain : Chain p′ who′ (g .tag) 0 head (a .value .factors)
-  pub count-is : size′ ≡ size (a .value)
-  pub phase-is : phase ≡ phaseNumber (a .value .phase)
-  pub work-is : work′ ≡ a .state .work
+  pub rep : Rep (g .count) (g .room) l′ p′ (b .1) who′ (a .state)
+  pub value : ValueIs p′ who′ (g .tag) (b .0) (a .value)
   pub kept : (t lo h : ℕ) (fs : List Factor) → t < 2 → (t ≡ g .tag → ⊥) → Chain p (g .who) t lo h fs → Chain p′ who′ t lo h fs
+
+-- ---- a product made
+
+-- the values x and y, in hand, are to be multiplied into the node i
+pub record Multiplying (l p : List ℕ) (limit i : ℕ) (a b : Value) (left : Ledger) : Type 0 where
+  pub count : ℕ
+  pub room : ℕ
+  pub who : Who
+  pub s : State
+  pub x : Sparse
+  pub y : Sparse
+  pub rep : Rep count room l p left who s
+  pub first : ValueIs p who 0 a x
+  pub second : ValueIs p who 1 b y
+  pub low : i < count
+  pub few : room < 65536
+  pub paid : s .work ≤ limit
+  pub in-hand : size x + size y ≤ s .held
+  pub product-few : size (multiply x y) ≤ 256
+
+-- the smaller count is charged, and the node i is the product
+abbrev pub multiplied : ℕ → ℕ → Sparse → Sparse → State → Out State
+multiplied limit i x y s = bind (charge limit (min (size x) (size y)) s) (λ t. fine (finish i (multiply x y) (size x + size y) t))
 
 -- ---- the walk at rest between two steps
 
-pub record Walking (words l p : List ℕ) (count limit free spare work : ℕ) : Type 0 where
+pub record Walking (words l p : List ℕ) (count limit : ℕ) (left : Ledger) : Type 0 where
   pub n : ℕ
   pub room : ℕ
   pub total : ℕ → ℕ
   pub rest : ℕ → ℕ
   pub who : Who
   pub s : State
-  pub rep : Rep count room l p free spare who s
+  pub rep : Rep count room l p left who s
   pub inv : Inv limit room n count (nodeAt n words) total rest none 0 s
   pub well : (i : ℕ) → i < count → nodeAt n words i ≢ Malformed
-  pub work-is : work ≡ s .work
   pub qubits-few : n ≤ 256
   pub few : room < 65536
   pub nodes-few : count ≤ 65536
   pub nodes-long : 2 * count ≤ length words
 
 -- the node i, not done and with a use left, is the product of the words lw and rt, which are done
-pub record Combining (l p : List ℕ) (limit i lw rt free spare work : ℕ) : Type 0 where
+pub record Combining (l p : List ℕ) (limit i lw rt : ℕ) (left : Ledger) : Type 0 where
   pub words : List ℕ
   pub count : ℕ
-  pub at : Walking words l p count limit free spare work
+  pub at : Walking words l p count limit left
   pub low : i < count
   pub is-product : nodeAt (at .n) words i ≡ Product lw rt
   pub not-done : at .s .done i ≡ false
@@ -275,54 +292,57 @@ pub record Combining (l p : List ℕ) (limit i lw rt free spare work : ℕ) : Ty
   pub right-done : at .s .done (nodeIn rt) ≡ true
 
 -- the node i's value is to be made of at most one record
-pub record Making (l p : List ℕ) (i free spare work : ℕ) : Type 0 where
+pub record Making (l p : List ℕ) (i : ℕ) (left : Ledger) : Type 0 where
   pub count : ℕ
   pub room : ℕ
   pub who : Who
   pub s : State
-  pub rep : Rep count room l p free spare who s
+  pub rep : Rep count room l p left who s
   pub low : i < count
   pub nodes-few : count ≤ 65536
-  pub work-is : work ≡ s .work
+
+-- the node i is one factor
+abbrev pub factorMade : ℕ → ℕ → ℕ → Pauli → State → Out State
+factorMade room i q a s = bind (lend room 1 s) (λ t. fine (finish i (one q a) 1 t))
 
 -- the node i is the top of a path, whose links are words
-pub record Topped (words l p : List ℕ) (limit i free spare work : ℕ) : Type 0 where
+pub record Topped (words l p : List ℕ) (limit i : ℕ) (left : Ledger) : Type 0 where
   pub count : ℕ
-  pub at : Walking words l p count limit free spare work
+  pub at : Walking words l p count limit left
   pub path : List ℕ
   pub trail : Trail count (at .s) 0 (i ∷ path)
   pub wanted : Wanted (at .s) (i ∷ path)
   pub linked : Linked l (suc i) (i ∷ path)
 
 -- and a product
-pub record Branched (l p : List ℕ) (limit i lw rt free spare work : ℕ) : Type 0 where
+pub record Branched (l p : List ℕ) (limit i lw rt : ℕ) (left : Ledger) : Type 0 where
   pub words : List ℕ
-  pub top : Topped words l p limit i free spare work
+  pub top : Topped words l p limit i left
   pub is-product : nodeAt (top .at .n) words i ≡ Product lw rt
 
 -- the node i, not done, is alone on the path
-pub record Started (words l p : List ℕ) (count limit i free spare work : ℕ) : Type 0 where
-  pub at : Walking words l p count limit free spare work
+pub record Started (words l p : List ℕ) (count limit i : ℕ) (left : Ledger) : Type 0 where
+  pub at : Walking words l p count limit left
   pub low : i < count
   pub used : 0 < at .s .uses i
   pub not-done : at .s .done i ≡ false
-  pub ends : field 3 l i ≡ 0
+  pub ends : scratchAt 3 l i ≡ 0
 
 -- the words stand for the spot
-pub record Landed (count room : ℕ) (l p : List ℕ) (top free spare work : ℕ) (q : Spot) : Type 0 where
-  pub stands : Stands count room l p free spare work (q .state)
-  pub linked : Linked l top (q .path)
+pub record Landed (count room : ℕ) (l p : List ℕ) (q : Spot) (b : ℕ × Ledger) : Type 0 where
+  pub stands : Stands count room l p (q .state) (b .1)
+  pub linked : Linked l (b .0) (q .path)
 
 -- the node i is to be evaluated
-pub record Rooted (words l p : List ℕ) (count limit i free spare work : ℕ) : Type 0 where
-  pub at : Walking words l p count limit free spare work
+pub record Rooted (words l p : List ℕ) (count limit i : ℕ) (left : Ledger) : Type 0 where
+  pub at : Walking words l p count limit left
   pub low : i < count
   pub used : 0 < at .s .uses i
 
 -- ---- one root
 
 -- a walk of one root can begin
-pub record Ready (words l : List ℕ) (count w : ℕ) : Type 0 where
+pub record RootReady (words l : List ℕ) (count w : ℕ) : Type 0 where
   pub n : ℕ
   pub named : nodeIn w < count
   pub long : 4 * count ≤ length l
@@ -332,14 +352,13 @@ pub record Ready (words l : List ℕ) (count w : ℕ) : Type 0 where
   pub nodes-few : count ≤ 65536
 
 -- what was shown is a chain
-pub record Showing (p : List ℕ) (head phase work : ℕ) (r : Walked) : Type 0 where
-  pub value : Sparse
+pub record Showing (p : List ℕ) (r : Walked) (b : Value × Ledger) : Type 0 where
+  pub x : Sparse
   pub who : Who
   pub tag : ℕ
-  pub shown-is : r .shown ≡ value ∷ []
-  pub chain : Chain p who tag 0 head (value .factors)
-  pub phase-is : phase ≡ phaseNumber (value .phase)
-  pub work-is : work ≡ r .state .work
+  pub shown-is : r .shown ≡ x ∷ []
+  pub value : ValueIs p who tag (b .0) x
+  pub work-is : b .1 .work ≡ r .state .work
 
 -- ---- letters
 

@@ -17,7 +17,12 @@ set-link-requires : tie.Need-set-link-requires
 set-link-requires c κs = search needs
 
 run-path-requires : tie.Need-run-path-requires
-run-path-requires c κs = started (c .before .before .before .before .before .before .before .before .before .before .before .before .pre) (c .before .before .before .before .before .before .before .value-of .ensures) (c .before .before .before .before .before .before .if1 .left) (c .before .before .before .before .set-link .ensures)
+run-path-requires c κs =
+    let set-link = c .before .before .before .before .set-link in
+    let if1 = c .before .before .before .before .before .before .if1 in
+    let value-of = c .before .before .before .before .before .before .before .value-of in
+    let pre = c .before .before .before .before .before .before .before .before .before .before .before .before .pre in
+    started pre (value-of .ensures) (if1 .left) (set-link .ensures)
 
 same-length-2 : tie.Need-same-length-2
 same-length-2 c = search needs
@@ -26,7 +31,12 @@ same-length-3 : tie.Need-same-length-3
 same-length-3 c = search needs
 
 returns-2 : tie.Need-returns-2
-returns-2 c = λ g. c .before .before .before .before .run-path .ensures (started g (c .before .before .before .before .before .before .before .before .before .before .before .before .value-of .ensures) (c .before .before .before .before .before .before .before .before .before .before .before .if1 .left) (c .before .before .before .before .before .before .before .before .before .set-link .ensures))
+returns-2 c =
+    let run-path = c .before .before .before .before .run-path in
+    let set-link = c .before .before .before .before .before .before .before .before .before .set-link in
+    let if1 = c .before .before .before .before .before .before .before .before .before .before .before .if1 in
+    let value-of = c .before .before .before .before .before .before .before .before .before .before .before .before .value-of in
+    λ g. run-path .ensures (started g (value-of .ensures) (if1 .left) (set-link .ensures))
 
 pub eval-root-spec : {M : Type 1} → statement M
 eval-root-spec =

@@ -1,6 +1,6 @@
--- `product_step` meets its contract.
+-- `product_step` meets its contract: a child comes first, or the product is made.
 use native.Mathlib.Omega.{arith}
-use Rattle.arena.proofs.PathSteps.{left-room, right-room, link-low, push-left, push-right, combining, combined-step, words-room}
+use Rattle.arena.proofs.PathSteps.{words-room, left-room, right-room, link-low, push-left, push-right, combining, combined-step}
 use Rattle.arena.proofs.materialize.product_step.Statement.{statement}
 use Rattle.arena.proofs.materialize.product_step.Tie as tie
 
@@ -13,8 +13,8 @@ add-set-link c = record { fits = omega (arith, link-low (c .before .before .befo
 set-link-requires : tie.Need-set-link-requires
 set-link-requires c κs = (link-low (c .before .before .before .before .before .before .pre), left-room (c .before .before .before .before .before .before .pre))
 
-add-t22 : tie.Need-add-t22
-add-t22 c = record { fits = omega (arith, left-room (c .before .before .before .before .before .before .before .before .before .pre), c .before .before .before .before .before .before .before .before .before .good) }
+add-t19 : tie.Need-add-t19
+add-t19 c = record { fits = omega (arith, left-room (c .before .before .before .before .before .before .before .before .before .pre), c .before .before .before .before .before .before .before .before .before .good) }
 
 same-length : tie.Need-same-length
 same-length c = c .before .before .set-link .kept .0
@@ -31,43 +31,48 @@ add-set-link-2 c = record { fits = omega (arith, link-low (c .before .before .be
 set-link-requires-2 : tie.Need-set-link-requires-2
 set-link-requires-2 c κs = (link-low (c .before .before .before .before .before .before .before .before .before .pre), right-room (c .before .before .before .before .before .before .before .before .before .pre))
 
-add-t28 : tie.Need-add-t28
-add-t28 c = record { fits = omega (arith, right-room (c .before .before .before .before .before .before .before .before .before .before .before .before .pre), c .before .before .before .before .before .before .before .before .before .before .before .before .good) }
+add-t26 : tie.Need-add-t26
+add-t26 c = record { fits = omega (arith, right-room (c .before .before .before .before .before .before .before .before .before .before .before .before .pre), c .before .before .before .before .before .before .before .before .before .before .before .before .good) }
 
 same-length-2 : tie.Need-same-length-2
 same-length-2 c = c .before .before .set-link2 .kept .0
 
 returns-2 : tie.Need-returns-2
-returns-2 c = λ g. push-right g (c .before .before .before .before .before .before .before .before .value-of .ensures) (c .before .before .before .before .before .before .before .if1 .left) (c .before .before .before .before .before .value-of2 .ensures) (c .before .before .before .before .if2 .taken) (c .before .before .set-link2 .ensures)
-
-link-of-requires : tie.Need-link-of-requires
-link-of-requires c κs = words-room (c .before .before .before .before .before .before .before .before .before .pre .top)
-
-combine-at-requires : tie.Need-combine-at-requires
-combine-at-requires c κs =
+returns-2 c =
+    let set-link2 = c .before .before .set-link2 in
     let if2 = c .before .before .before .before .if2 in
     let value-of2 = c .before .before .before .before .before .value-of2 in
     let if1 = c .before .before .before .before .before .before .before .if1 in
     let value-of = c .before .before .before .before .before .before .before .before .value-of in
-    let pre = c .before .before .before .before .before .before .before .before .before .before .before .before .pre in
+    λ g. push-right g (value-of .ensures) (if1 .left) (value-of2 .ensures) (if2 .taken) (set-link2 .ensures)
+
+combine-at-requires : tie.Need-combine-at-requires
+combine-at-requires c κs =
+    let if2 = c .before .before .if2 in
+    let value-of2 = c .before .before .before .value-of2 in
+    let if1 = c .before .before .before .before .before .if1 in
+    let value-of = c .before .before .before .before .before .before .value-of in
+    let pre = c .before .before .before .before .before .before .before .before .before .before .pre in
     combining pre (value-of .ensures) (if1 .left) (value-of2 .ensures) (if2 .left)
 
+go-up-requires : tie.Need-go-up-requires
+go-up-requires c κs = omega (arith, words-room (c .before .before .before .before .before .before .before .before .before .before .before .before .before .before .before .before .pre .top), c .before .before .before .before .before .combine-at .kept .0)
+
 same-length-3 : tie.Need-same-length-3
-same-length-3 c = c .before .before .before .before .combine-at .kept .0
+same-length-3 c = c .before .before .before .before .before .before .combine-at .kept .0
 
 same-length-4 : tie.Need-same-length-4
-same-length-4 c = c .before .before .before .before .combine-at .kept .1 .0
+same-length-4 c = c .before .before .before .before .before .before .combine-at .kept .1 .0
 
 returns-3 : tie.Need-returns-3
 returns-3 c =
-    let combine-at = c .before .before .before .before .combine-at in
-    let link-of = c .before .before .before .before .before .before .before .link-of in
+    let combine-at = c .before .before .before .before .before .before .combine-at in
     let if2 = c .before .before .before .before .before .before .before .before .before .if2 in
     let value-of2 = c .before .before .before .before .before .before .before .before .before .before .value-of2 in
     let if1 = c .before .before .before .before .before .before .before .before .before .before .before .before .if1 in
     let value-of = c .before .before .before .before .before .before .before .before .before .before .before .before .before .value-of in
-    λ g. combined-step g (value-of .ensures) (if1 .left) (value-of2 .ensures) (if2 .left) (link-of .ensures) (combine-at .ensures .1)
-    (combine-at .ensures .0 (combining g (value-of .ensures) (if1 .left) (value-of2 .ensures) (if2 .left)))
+    λ g. rw (c .go-up .ensures) (combined-step g (value-of .ensures) (if1 .left) (value-of2 .ensures) (if2 .left) (combine-at .result)
+    (combine-at .ensures .1) (combine-at .ensures .0 (combining g (value-of .ensures) (if1 .left) (value-of2 .ensures) (if2 .left))))
 
 pub product-step-spec : {M : Type 1} → statement M
 product-step-spec =
@@ -76,17 +81,17 @@ product-step-spec =
     value-of-requires
     add-set-link
     set-link-requires
-    add-t22
+    add-t19
     same-length
     returns
     value-of-requires-2
     add-set-link-2
     set-link-requires-2
-    add-t28
+    add-t26
     same-length-2
     returns-2
-    link-of-requires
     combine-at-requires
+    go-up-requires
     same-length-3
     same-length-4
     returns-3)

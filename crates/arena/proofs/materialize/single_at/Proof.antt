@@ -1,29 +1,30 @@
 -- `single_at` meets its contract.
 use mathlib.Core.Path.{refl}
 use native.Mathlib.Omega.{arith}
-use borrow.Author.Needs.{needs}
 use Rattle.pauli.specs.Letters.{pauliOf}
 use Rattle.arena.proofs.ScratchWords.{links-same, links-value}
 use Rattle.arena.proofs.WalkProducts.{no-room, lender, single-made}
+use borrow.Author.Needs.{needs}
 use Rattle.arena.proofs.materialize.single_at.Statement.{statement}
 use Rattle.arena.proofs.materialize.single_at.Tie as tie
 
-not-evaluated-requires : tie.Need-not-evaluated-requires
-not-evaluated-requires c κs = search needs
-
 returns : tie.Need-returns
-returns c = (λ g. record { says = no-room g (c .before .before .before .before .args .qubit) (pauliOf (c .before .before .before .before .args .letter)) _ (c .not-evaluated .ensures) (c .before .if1 .taken) }, links-same refl)
+returns c = (λ g. no-room g (c .before .before .before .before .args .qubit) (pauliOf (c .before .before .before .before .args .letter)) (c .if1 .taken), links-same refl)
 
 single-requires : tie.Need-single-requires
-single-requires c κs = (lender (c .before .before .before .before .pre .0) (c .before .before .before .before .args .qubit) (pauliOf (c .before .before .before .before .args .letter)) (c .before .if1 .left), c .before .before .before .before .pre .1)
+single-requires c κs = (lender (c .before .before .before .before .before .pre .0) (c .before .before .before .before .before .args .qubit) (pauliOf (c .before .before .before .before .before .args .letter)) (c .before .if1 .left), c .before .before .before .before .before .pre .1)
 
 set-value-requires : tie.Need-set-value-requires
-set-value-requires c κs = (
-  c .before .before .before .single .ensures (lender (c .before .before .before .before .before .before .before .before .pre .0) (c .before .before .before .before .before .before .before .before .args .qubit) (pauliOf (c .before .before .before .before .before .before .before .before .args .letter)) (c .before .before .before .before .before .if1 .left)) .chain .0 .counted .low,
-  omega arith,
-  omega arith,
-  omega (arith, c .before .before .before .before .before .before .before .before .pre .0 .rep .scratch .long, c .before .before .before .before .before .before .before .before .pre .0 .low),
-)
+set-value-requires c κs =
+    let single = c .before .before .before .single in
+    let if1 = c .before .before .before .before .before .if1 in
+    let pre = c .before .before .before .before .before .before .before .before .before .pre in
+    let args = c .before .before .before .before .before .before .before .before .before .args in (
+      single .ensures (lender (pre .0) (args .qubit) (pauliOf (args .letter)) (if1 .left)) .chain .0 .counted .low,
+      omega arith,
+      omega arith,
+      omega (arith, pre .0 .rep .scratch .long, pre .0 .low),
+    )
 
 sub-t16 : tie.Need-sub-t16
 sub-t16 c = search needs
@@ -36,14 +37,12 @@ same-length-2 c = search needs
 
 returns-2 : tie.Need-returns-2
 returns-2 c =
-    let set-value = c .before .before .set-value in
-    let single = c .before .before .before .before .before .before .single in
-    let if1 = c .before .before .before .before .before .before .before .before .if1 in
-    let args = c .before .before .before .before .before .before .before .before .before .before .before .args in (
-      λ g. record {
-        says = single-made g (args .qubit) (pauliOf (args .letter)) (if1 .left) (single .ensures (lender g (args .qubit) (pauliOf (args .letter))
-            (if1 .left))) (set-value .ensures);
-      },
+    let set-value = c .before .before .before .set-value in
+    let single = c .before .before .before .before .before .before .before .single in
+    let if1 = c .before .before .before .before .before .before .before .before .before .if1 in
+    let args = c .before .before .before .before .before .before .before .before .before .before .before .before .before .args in (
+      λ g. single-made g (args .qubit) (pauliOf (args .letter)) (if1 .left) (single .ensures (lender g (args .qubit) (pauliOf (args .letter))
+          (if1 .left))) (set-value .ensures),
       links-value _ _ (set-value .ensures),
     )
 
@@ -51,7 +50,6 @@ pub single-at-spec : {M : Type 1} → statement M
 single-at-spec =
     tie.close
     (tie.spec
-    not-evaluated-requires
     returns
     single-requires
     set-value-requires

@@ -3,7 +3,7 @@ use mathlib.Core.Path.{_∙_}
 use mathlib.Core.Logic.{inl, inr, ⊎-elim}
 use native.Mathlib.Omega.{arith}
 use Rattle.arena.specs.PoolSteps.{Operands}
-use Rattle.arena.proofs.PoolMerge.{Merging, begin, turn′, small, Ready, ready, low-tail, room-tail, sum-fits, Rest, low-rest, finish}
+use Rattle.arena.proofs.PoolMerge.{Merging, begin, turn′, small, TurnReady, ready, low-tail, room-tail, sum-fits, Rest, low-rest, finish}
 use Rattle.arena.proofs.pool.multiply.Statement.{statement}
 use Rattle.arena.proofs.pool.multiply.Tie as tie
 
@@ -17,7 +17,7 @@ abbrev μ-loop : tie.MeasureT-loop
 
 -- at a turn, both chains have a record left
 here : (c : tie.Else1 Inv-loop μ-loop) →
-    Ready (c .before .before .loop .pool) (c .before .before .loop .free) (c .before .before .loop .a) (c .before .before .loop .b) (c .before .before .loop .tail) (c .before .before .loop .made) (c .before .before .loop .left) (c .before .before .loop .phase) (c .before .before .before .before .args .na) (c .before .before .before .before .args .nb)
+    TurnReady (c .before .before .loop .pool) (c .before .before .loop .free) (c .before .before .loop .a) (c .before .before .loop .b) (c .before .before .loop .tail) (c .before .before .loop .made) (c .before .before .loop .left) (c .before .before .loop .phase) (c .before .before .before .before .args .na) (c .before .before .before .before .args .nb)
 here c = ready (c .before .before .before .before .pre) (c .before .before .loop .inv (c .before .before .before .before .pre)) (c .before .loop-test .taken) (c .if1 .left)
 
 rest-is : (c : tie.Joined2 Inv-loop μ-loop) → Rest (c .before .before .loop .a) (c .before .before .loop .b) (c .if2 .rest)
@@ -85,8 +85,8 @@ attach-requires c κs =
     let s = c .before .before .before .loop .inv g in
     (low-tail g s, low-rest g s (rest-is (c .before)), room-tail g s)
 
-add-t25 : tie.Need-add-t25 Inv-loop μ-loop
-add-t25 c = record { fits = omega (arith, sum-fits (c .before .before .before .before .before .before .before .before .pre) (c .before .before .before .before .before .before .loop .inv (c .before .before .before .before .before .before .before .before .pre))) }
+add-t26 : tie.Need-add-t26 Inv-loop μ-loop
+add-t26 c = record { fits = omega (arith, sum-fits (c .before .before .before .before .before .before .before .before .pre) (c .before .before .before .before .before .before .loop .inv (c .before .before .before .before .before .before .before .before .pre))) }
 
 same-length : tie.Need-same-length Inv-loop μ-loop
 same-length c = c .before .before .attach .kept .0 ∙ (c .before .before .before .before .before .before .loop .inv (c .before .before .before .before .before .before .before .before .pre)) .at .parts .long
@@ -109,6 +109,6 @@ multiply-spec =
     loop-less
     loop-again
     attach-requires
-    add-t25
+    add-t26
     same-length
     returns)

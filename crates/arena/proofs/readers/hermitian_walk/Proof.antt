@@ -1,14 +1,15 @@
 -- `hermitian_walk` meets its contract: a refused walk, or the phase that is shown decides.
 use mathlib.Core.Path.{sym, ap, _∙_}
 use Prim.Native.Nat.{_-_}
-use borrow.Author.Needs.{needs}
 use lib.ListN.{length}
+use Rattle.arena.specs.Limits.{capOf}
 use Rattle.arena.specs.References.{PauliRef, axisOf}
-use Rattle.arena.specs.Expansion.{hermitianOf, HermitianMade, HermitianRefused}
+use Rattle.arena.specs.Expansion.{hermitianOf, HermitianMade}
+use Rattle.arena.specs.Code.Results.{shownOut}
 use Rattle.arena.proofs.ReaderWalks.{ready-of, axis-refused, axis-odd, axis-even}
+use borrow.Author.Needs.{needs}
 use Rattle.arena.proofs.readers.hermitian_walk.Statement.{statement}
 use Rattle.arena.proofs.readers.hermitian_walk.Tie as tie
-use Rattle.arena.specs.Limits.{capOf}
 
 cast-count : tie.Need-cast-count
 cast-count c = search needs
@@ -19,8 +20,11 @@ cast-walk-root c = search needs
 walk-root-requires : tie.Need-walk-root-requires
 walk-root-requires c κs = search needs
 
-walk-error-requires : tie.Need-walk-error-requires
-walk-error-requires c κs = search needs
+enum-known-e : tie.Need-enum-known-e
+enum-known-e c = search needs
+
+enum-known-v : tie.Need-enum-known-v
+enum-known-v c = search needs
 
 same-length : tie.Need-same-length
 same-length c = search needs
@@ -30,13 +34,17 @@ same-length-2 c = search needs
 
 returns : tie.Need-returns
 returns c =
-    let if1 = c .before .if1 in
-    let walk-root = c .before .before .before .before .before .before .walk-root in
-    let args = c .before .before .before .before .before .before .before .before .before .before .before .before .before .before .args in
-    let pre = c .before .before .before .before .before .before .before .before .before .before .before .before .before .before .pre in
-    ap HermitianRefused (c .walk-error .ensures) ∙ sym (ap (hermitianOf (args .reference)) (axis-refused (args .header .qubits) (args .header .nodes)
-    (args .nodes .now) (args .reference .word) (capOf (length (args .pool .now)) - 1) (args .limit) (walk-root .ensures (ready-of
-    (args .reference .word) (pre .0) (pre .1))) (if1 .taken)))
+    let v = c .before .before .before .v in
+    let walk-root = c .before .before .before .before .before .before .before .before .before .walk-root in
+    let back12 = c .before .before .before .before .before .before .before .before .before .before .before .before in
+    let args = back12 .before .before .before .before .before .args in
+    let pre = back12 .before .before .before .before .before .pre in
+    sym (ap (hermitianOf (args .reference)) (axis-odd (args .header .qubits) (args .header .nodes) (args .nodes .now) (args .reference .word) (capOf
+    (length (args .pool .now)) - 1) (args .limit) (walk-root .ensures (ready-of (args .reference .word) (pre .0) (pre .1))) (ap shownOut (v .given .1))
+    (c .if1 .taken)))
+
+assume-hermitian-requires : tie.Need-assume-hermitian-requires
+assume-hermitian-requires c κs = search needs
 
 same-length-3 : tie.Need-same-length-3
 same-length-3 c = search needs
@@ -46,16 +54,13 @@ same-length-4 c = search needs
 
 returns-2 : tie.Need-returns-2
 returns-2 c =
-    let if1 = c .before .before .if1 in
+    let e = c .before .e in
     let walk-root = c .before .before .before .before .before .before .before .walk-root in
     let back12 = c .before .before .before .before .before .before .before .before .before .before .before .before in
     let args = back12 .before .before .before .args in
     let pre = back12 .before .before .before .pre in
-    sym (ap (hermitianOf (args .reference)) (axis-odd (args .header .qubits) (args .header .nodes) (args .nodes .now) (args .reference .word) (capOf
-    (length (args .pool .now)) - 1) (args .limit) (walk-root .ensures (ready-of (args .reference .word) (pre .0) (pre .1))) (if1 .left) (c .if2 .taken)))
-
-assume-hermitian-requires : tie.Need-assume-hermitian-requires
-assume-hermitian-requires c κs = search needs
+    sym (ap (hermitianOf (args .reference)) (axis-refused (args .header .qubits) (args .header .nodes) (args .nodes .now) (args .reference .word) (capOf
+    (length (args .pool .now)) - 1) (args .limit) (walk-root .ensures (ready-of (args .reference .word) (pre .0) (pre .1))) (ap shownOut (e .given .1))))
 
 same-length-5 : tie.Need-same-length-5
 same-length-5 c = search needs
@@ -65,15 +70,15 @@ same-length-6 c = search needs
 
 returns-3 : tie.Need-returns-3
 returns-3 c =
-    let if2 = c .before .if2 in
-    let if1 = c .before .before .before .if1 in
-    let walk-root = c .before .before .before .before .before .before .before .before .walk-root in
+    let if1 = c .before .if1 in
+    let v = c .before .before .before .before .v in
+    let walk-root = c .before .before .before .before .before .before .before .before .before .before .walk-root in
     let back12 = c .before .before .before .before .before .before .before .before .before .before .before .before in
-    let args = back12 .before .before .before .before .args in
-    let pre = back12 .before .before .before .before .pre in
-    ap (λ (r : PauliRef). HermitianMade (axisOf r) (walk-root .result .work)) (c .assume-hermitian .ensures) ∙ sym (ap (hermitianOf (args .reference))
+    let args = back12 .before .before .before .before .before .before .args in
+    let pre = back12 .before .before .before .before .before .before .pre in
+    ap (λ (r : PauliRef). HermitianMade (axisOf r) (v .given .0 .1 .0 .work)) (c .assume-hermitian .ensures) ∙ sym (ap (hermitianOf (args .reference))
     (axis-even (args .header .qubits) (args .header .nodes) (args .nodes .now) (args .reference .word) (capOf (length (args .pool .now)) - 1)
-    (args .limit) (walk-root .ensures (ready-of (args .reference .word) (pre .0) (pre .1))) (if1 .left) (if2 .left)))
+    (args .limit) (walk-root .ensures (ready-of (args .reference .word) (pre .0) (pre .1))) (ap shownOut (v .given .1)) (if1 .left)))
 
 pub hermitian-walk-spec : {M : Type 1} → statement M
 hermitian-walk-spec =
@@ -82,14 +87,15 @@ hermitian-walk-spec =
     cast-count
     cast-walk-root
     walk-root-requires
-    walk-error-requires
+    enum-known-e
+    enum-known-v
     same-length
     same-length-2
     returns
+    assume-hermitian-requires
     same-length-3
     same-length-4
     returns-2
-    assume-hermitian-requires
     same-length-5
     same-length-6
     returns-3)

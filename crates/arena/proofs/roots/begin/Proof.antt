@@ -1,6 +1,6 @@
 -- `begin` meets its contract: the reachable nodes are counted, and the charge passes or not.
-use borrow.Author.Needs.{needs}
 use Rattle.arena.proofs.RootWalks.{counting, begin-dear, begun}
+use borrow.Author.Needs.{needs}
 use Rattle.arena.proofs.roots.begin.Statement.{statement}
 use Rattle.arena.proofs.roots.begin.Tie as tie
 
@@ -16,9 +16,6 @@ init-requires c κs = search needs
 add-if1 : tie.Need-add-if1
 add-if1 c = search needs
 
-not-evaluated-requires : tie.Need-not-evaluated-requires
-not-evaluated-requires c κs = search needs
-
 same-length : tie.Need-same-length
 same-length c = search needs
 
@@ -27,11 +24,9 @@ same-length-2 c = search needs
 
 returns : tie.Need-returns
 returns c =
-    let if1 = c .before .if1 in
-    let scan-uses = c .before .before .before .before .before .before .before .before .before .scan-uses in
-    let args = c .before .before .before .before .before .before .before .before .before .before .before .before .before .before .args in
-    λ g. begin-dear g (scan-uses .ensures .0 (counting g)) (scan-uses .ensures .1 .0) (scan-uses .kept .1 .0) (args .limit) _
-    (c .not-evaluated .ensures) (if1 .taken)
+    let scan-uses = c .before .before .before .before .before .before .before .before .scan-uses in
+    let args = c .before .before .before .before .before .before .before .before .before .before .before .before .before .args in
+    λ g. begin-dear g (scan-uses .ensures .0 (counting g)) (scan-uses .ensures .1 .0) (scan-uses .kept .1 .0) (args .limit) (c .if1 .taken)
 
 add-t12 : tie.Need-add-t12
 add-t12 c = search needs
@@ -59,7 +54,6 @@ begin-spec =
     room-of-requires
     init-requires
     add-if1
-    not-evaluated-requires
     same-length
     same-length-2
     returns

@@ -1,6 +1,8 @@
 -- `walk_root` meets its contract: the use counted, the walk begun, the root shown, or a refusal on the way.
-use borrow.Author.Needs.{needs}
+use mathlib.Core.Path.{ap}
+use Rattle.arena.specs.Code.Results.{evaluatedOut}
 use Rattle.arena.proofs.RootWalks.{add-fits, rootable, walk-refused, rooted, walk-shown}
+use borrow.Author.Needs.{needs}
 use Rattle.arena.proofs.roots.walk_root.Statement.{statement}
 use Rattle.arena.proofs.roots.walk_root.Tie as tie
 
@@ -13,8 +15,23 @@ add-use-requires c κs = add-fits (c .before .before .before .before .before .be
 begin-requires : tie.Need-begin-requires
 begin-requires c κs = rootable (c .before .before .before .before .before .before .before .before .before .before .before .before .before .pre) (c .before .before .before .before .before .before .before .before .zero-all .ensures) (c .before .before .before .before .add-use .ensures)
 
-not-shown-requires : tie.Need-not-shown-requires
-not-shown-requires c κs = search needs
+enum-known-e : tie.Need-enum-known-e
+enum-known-e c = search needs
+
+enum-known-left : tie.Need-enum-known-left
+enum-known-left c = search needs
+
+show-root-requires : tie.Need-show-root-requires
+show-root-requires c κs =
+    let left = c .before .before .before .left in
+    let begin = c .before .before .before .before .before .before .before .before .before .begin in
+    let add-use = c .before .before .before .before .before .before .before .before .before .before .before .before .before .before .add-use in
+    let back12 = c .before .before .before .before .before .before .before .before .before .before .before .before in
+    let zero-all = back12 .before .before .before .before .before .before .zero-all in
+    let pre = back12 .before .before .before .before .before .before .before .before .before .before .before .pre in
+    let args = back12 .before .before .before .before .before .before .before .before .before .before .before .args in
+    rooted pre (zero-all .ensures) (add-use .ensures) (args .pool .now) (begin .ensures (rootable pre (zero-all .ensures) (add-use .ensures)))
+    (ap evaluatedOut (left .given .1))
 
 same-length : tie.Need-same-length
 same-length c = search needs
@@ -24,25 +41,14 @@ same-length-2 c = search needs
 
 returns : tie.Need-returns
 returns c =
-    let if1 = c .before .if1 in
-    let begin = c .before .before .before .before .before .before .begin in
-    let add-use = c .before .before .before .before .before .before .before .before .before .before .before .add-use in
-    let back12 = c .before .before .before .before .before .before .before .before .before .before .before .before in
-    let zero-all = back12 .before .before .before .zero-all in
-    let args = back12 .before .before .before .before .before .before .before .before .args in
-    λ g. walk-refused g (zero-all .ensures) (add-use .ensures) (args .pool .now) (begin .ensures (rootable g (zero-all .ensures) (add-use .ensures))) _
-    (c .not-shown .ensures) (if1 .taken)
-
-show-root-requires : tie.Need-show-root-requires
-show-root-requires c κs =
-    let if1 = c .before .before .if1 in
+    let e = c .before .e in
     let begin = c .before .before .before .before .before .before .before .begin in
     let add-use = c .before .before .before .before .before .before .before .before .before .before .before .before .add-use in
     let back12 = c .before .before .before .before .before .before .before .before .before .before .before .before in
     let zero-all = back12 .before .before .before .before .zero-all in
-    let pre = back12 .before .before .before .before .before .before .before .before .before .pre in
     let args = back12 .before .before .before .before .before .before .before .before .before .args in
-    rooted pre (zero-all .ensures) (add-use .ensures) (args .pool .now) (begin .ensures (rootable pre (zero-all .ensures) (add-use .ensures))) (if1 .left)
+    λ g. walk-refused g (zero-all .ensures) (add-use .ensures) (args .pool .now) (begin .ensures (rootable g (zero-all .ensures) (add-use .ensures)))
+    (ap evaluatedOut (e .given .1))
 
 same-length-3 : tie.Need-same-length-3
 same-length-3 c = search needs
@@ -53,15 +59,16 @@ same-length-4 c = search needs
 returns-2 : tie.Need-returns-2
 returns-2 c =
     let show-root = c .before .before .before .before .show-root in
-    let if1 = c .before .before .before .before .before .before .before .if1 in
-    let begin = c .before .before .before .before .before .before .before .before .before .before .before .before .begin in
+    let left = c .before .before .before .before .before .before .before .before .left in
+    let begin = c .before .before .before .before .before .before .before .before .before .before .before .before .before .before .begin in
     let back12 = c .before .before .before .before .before .before .before .before .before .before .before .before in
-    let add-use = back12 .before .before .before .before .before .add-use in
-    let zero-all = back12 .before .before .before .before .before .before .before .before .before .zero-all in
-    let args = back12 .before .before .before .before .before .before .before .before .before .before .before .before .before .before .args in
+    let add-use = back12 .before .before .before .before .before .before .before .add-use in
+    let zero-all = back12 .before .before .before .before .before .before .before .before .before .before .before .zero-all in
+    let back24 = back12 .before .before .before .before .before .before .before .before .before .before .before .before in
+    let args = back24 .before .before .before .before .args in
     λ g. walk-shown g (zero-all .ensures) (add-use .ensures) (args .pool .now) (begin .ensures (rootable g (zero-all .ensures) (add-use .ensures)))
-    (if1 .left) (show-root .ensures (rooted g (zero-all .ensures) (add-use .ensures) (args .pool .now) (begin .ensures (rootable g (zero-all .ensures)
-    (add-use .ensures))) (if1 .left)))
+    (ap evaluatedOut (left .given .1)) (show-root .ensures (rooted g (zero-all .ensures) (add-use .ensures) (args .pool .now) (begin .ensures
+    (rootable g (zero-all .ensures) (add-use .ensures))) (ap evaluatedOut (left .given .1))))
 
 pub walk-root-spec : {M : Type 1} → statement M
 walk-root-spec =
@@ -70,11 +77,12 @@ walk-root-spec =
     zero-all-requires
     add-use-requires
     begin-requires
-    not-shown-requires
+    enum-known-e
+    enum-known-left
+    show-root-requires
     same-length
     same-length-2
     returns
-    show-root-requires
     same-length-3
     same-length-4
     returns-2)

@@ -1,9 +1,9 @@
 -- `report_walk` meets its contract: the axes counted, the walk begun, the axes weighed, or a refusal on the way.
 use mathlib.Core.Path.{sym, ap, _∙_}
-use Prim.Native.Nat.{_-_}
-use borrow.Author.Needs.{needs}
-use Rattle.arena.specs.Expansion.{maxWeightsOf, WeightsRefused}
+use Rattle.arena.specs.Expansion.{maxWeightsOf}
+use Rattle.arena.specs.Code.Results.{evaluatedOut}
 use Rattle.arena.proofs.WeightWalks.{countable, axes-rootable, report-refused, weighing, report-is}
+use borrow.Author.Needs.{needs}
 use Rattle.arena.proofs.weights.report_walk.Statement.{statement}
 use Rattle.arena.proofs.weights.report_walk.Tie as tie
 
@@ -32,8 +32,24 @@ begin-requires c κs =
     let pre = back12 .before .before .before .before .pre in
     axes-rootable (args .operations .now) (pre .0) (pre .1) (pre .2) (zero-all .ensures) (count-axes .ensures) (count-axes .kept .1 .1 .0)
 
-walk-error-requires : tie.Need-walk-error-requires
-walk-error-requires c κs = search needs
+enum-known-e : tie.Need-enum-known-e
+enum-known-e c = search needs
+
+enum-known-left : tie.Need-enum-known-left
+enum-known-left c = search needs
+
+weigh-axes-requires : tie.Need-weigh-axes-requires
+weigh-axes-requires c κs =
+    let left = c .before .before .before .left in
+    let begin = c .before .before .before .before .before .before .before .before .before .begin in
+    let back12 = c .before .before .before .before .before .before .before .before .before .before .before .before in
+    let count-axes = back12 .before .before .before .before .count-axes in
+    let zero-all = back12 .before .before .before .before .before .before .before .before .zero-all in
+    let args = back12 .before .before .before .before .before .before .before .before .before .before .before .before .before .before .args in
+    let pre = back12 .before .before .before .before .before .before .before .before .before .before .before .before .before .before .pre in
+    weighing (args .operations .now) (pre .0) (pre .1) (pre .2) (zero-all .ensures) (count-axes .ensures) (count-axes .kept .1 .1 .0) (args .limit)
+    (args .pool .now) (begin .ensures (axes-rootable (args .operations .now) (pre .0) (pre .1) (pre .2) (zero-all .ensures) (count-axes .ensures)
+    (count-axes .kept .1 .1 .0))) (ap evaluatedOut (left .given .1))
 
 same-length : tie.Need-same-length
 same-length c = search needs
@@ -43,32 +59,25 @@ same-length-2 c = search needs
 
 returns : tie.Need-returns
 returns c =
-    let if1 = c .before .if1 in
-    let begin = c .before .before .before .before .before .before .begin in
-    let count-axes = c .before .before .before .before .before .before .before .before .before .before .before .before .before .count-axes in
-    let back12 = c .before .before .before .before .before .before .before .before .before .before .before .before in
-    let zero-all = back12 .before .before .before .before .before .zero-all in
-    let args = back12 .before .before .before .before .before .before .before .before .before .before .before .args in
-    let pre = back12 .before .before .before .before .before .before .before .before .before .before .before .pre in
-    ap WeightsRefused (c .walk-error .ensures) ∙ report-refused (args .operations .now) (pre .0) (pre .1) (pre .2) (zero-all .ensures)
-    (count-axes .ensures) (count-axes .kept .1 .1 .0) (args .limit) (args .pool .now) (begin .ensures (axes-rootable (args .operations .now) (pre .0)
-    (pre .1) (pre .2) (zero-all .ensures) (count-axes .ensures) (count-axes .kept .1 .1 .0))) (if1 .taken)
-
-weigh-axes-requires : tie.Need-weigh-axes-requires
-weigh-axes-requires c κs =
-    let if1 = c .before .before .if1 in
+    let e = c .before .e in
     let begin = c .before .before .before .before .before .before .before .begin in
     let count-axes = c .before .before .before .before .before .before .before .before .before .before .before .before .before .before .count-axes in
     let back12 = c .before .before .before .before .before .before .before .before .before .before .before .before in
     let zero-all = back12 .before .before .before .before .before .before .zero-all in
     let args = back12 .before .before .before .before .before .before .before .before .before .before .before .before .args in
     let pre = back12 .before .before .before .before .before .before .before .before .before .before .before .before .pre in
-    weighing (args .operations .now) (pre .0) (pre .1) (pre .2) (zero-all .ensures) (count-axes .ensures) (count-axes .kept .1 .1 .0) (args .limit)
-    (args .pool .now) (begin .ensures (axes-rootable (args .operations .now) (pre .0) (pre .1) (pre .2) (zero-all .ensures) (count-axes .ensures)
-    (count-axes .kept .1 .1 .0))) (if1 .left)
+    report-refused (args .operations .now) (pre .0) (pre .1) (pre .2) (zero-all .ensures) (count-axes .ensures) (count-axes .kept .1 .1 .0)
+    (args .limit) (args .pool .now) (begin .ensures (axes-rootable (args .operations .now) (pre .0) (pre .1) (pre .2) (zero-all .ensures)
+    (count-axes .ensures) (count-axes .kept .1 .1 .0))) (ap evaluatedOut (e .given .1))
 
 same-length-3 : tie.Need-same-length-3
-same-length-3 c = search needs
+same-length-3 c =
+    let weigh-axes = c .before .before .before .before .weigh-axes in
+    let begin = c .before .before .before .before .before .before .before .before .before .before .before .before .before .before .begin in
+    let back12 = c .before .before .before .before .before .before .before .before .before .before .before .before in
+    let count-axes = back12 .before .before .before .before .before .before .before .before .before .count-axes in
+    let zero-all = back12 .before .before .before .before .before .before .before .before .before .before .before .before .before .zero-all in
+    weigh-axes .kept .1 .1 .1 .0 ∙ begin .kept .1 .0 ∙ count-axes .kept .1 .1 .0 ∙ zero-all .kept .0
 
 same-length-4 : tie.Need-same-length-4
 same-length-4 c = search needs
@@ -76,20 +85,20 @@ same-length-4 c = search needs
 returns-2 : tie.Need-returns-2
 returns-2 c =
     let weigh-axes = c .before .before .before .before .weigh-axes in
-    let if1 = c .before .before .before .before .before .before .before .if1 in
-    let begin = c .before .before .before .before .before .before .before .before .before .before .before .before .begin in
+    let left = c .before .before .before .before .before .before .before .before .left in
+    let begin = c .before .before .before .before .before .before .before .before .before .before .before .before .before .before .begin in
     let back12 = c .before .before .before .before .before .before .before .before .before .before .before .before in
-    let count-axes = back12 .before .before .before .before .before .before .before .count-axes in
-    let zero-all = back12 .before .before .before .before .before .before .before .before .before .before .before .zero-all in
+    let count-axes = back12 .before .before .before .before .before .before .before .before .before .count-axes in
+    let zero-all = back12 .before .before .before .before .before .before .before .before .before .before .before .before .before .zero-all in
     let back24 = back12 .before .before .before .before .before .before .before .before .before .before .before .before in
-    let args = back24 .before .before .before .before .before .args in
-    let pre = back24 .before .before .before .before .before .pre in
+    let args = back24 .before .before .before .before .before .before .before .args in
+    let pre = back24 .before .before .before .before .before .before .before .pre in
     weigh-axes .ensures (weighing (args .operations .now) (pre .0) (pre .1) (pre .2) (zero-all .ensures) (count-axes .ensures)
     (count-axes .kept .1 .1 .0) (args .limit) (args .pool .now) (begin .ensures (axes-rootable (args .operations .now) (pre .0) (pre .1) (pre .2)
-    (zero-all .ensures) (count-axes .ensures) (count-axes .kept .1 .1 .0))) (if1 .left)) ∙ sym (ap maxWeightsOf (report-is (args .operations .now)
-    (pre .0) (pre .1) (pre .2) (zero-all .ensures) (count-axes .ensures) (count-axes .kept .1 .1 .0) (args .limit) (args .pool .now) (begin .ensures
-    (axes-rootable (args .operations .now) (pre .0) (pre .1) (pre .2) (zero-all .ensures) (count-axes .ensures) (count-axes .kept .1 .1 .0)))
-    (if1 .left)))
+    (zero-all .ensures) (count-axes .ensures) (count-axes .kept .1 .1 .0))) (ap evaluatedOut (left .given .1))) ∙ sym (ap maxWeightsOf (report-is
+    (args .operations .now) (pre .0) (pre .1) (pre .2) (zero-all .ensures) (count-axes .ensures) (count-axes .kept .1 .1 .0) (args .limit)
+    (args .pool .now) (begin .ensures (axes-rootable (args .operations .now) (pre .0) (pre .1) (pre .2) (zero-all .ensures) (count-axes .ensures)
+    (count-axes .kept .1 .1 .0))) (ap evaluatedOut (left .given .1))))
 
 pub report-walk-spec : {M : Type 1} → statement M
 report-walk-spec =
@@ -100,11 +109,12 @@ report-walk-spec =
     cast-count
     cast-roots
     begin-requires
-    walk-error-requires
+    enum-known-e
+    enum-known-left
+    weigh-axes-requires
     same-length
     same-length-2
     returns
-    weigh-axes-requires
     same-length-3
     same-length-4
     returns-2)

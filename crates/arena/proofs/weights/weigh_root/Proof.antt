@@ -1,0 +1,65 @@
+-- `weigh_root` meets its contract: the root shown, then released.
+use mathlib.Core.Path.{ap}
+use Rattle.arena.specs.Code.Results.{shownOut}
+use Rattle.arena.proofs.WeightWalks.{weight-refused, to-release, weight-made}
+use borrow.Author.Needs.{needs}
+use Rattle.arena.proofs.weights.weigh_root.Statement.{statement}
+use Rattle.arena.proofs.weights.weigh_root.Tie as tie
+
+show-root-requires : tie.Need-show-root-requires
+show-root-requires c κs = (c .before .before .before .before .before .pre)
+
+enum-known-e : tie.Need-enum-known-e
+enum-known-e c = search needs
+
+enum-known-v : tie.Need-enum-known-v
+enum-known-v c = search needs
+
+release-requires : tie.Need-release-requires
+release-requires c κs =
+    let v = c .before .before .before .v in
+    let show-root = c .before .before .before .before .before .before .before .before .before .show-root in
+    let back12 = c .before .before .before .before .before .before .before .before .before .before .before .before in
+    let args = back12 .before .before .before .args in
+    let pre = back12 .before .before .before .pre in
+    to-release (args .w) pre (show-root .ensures pre) (ap shownOut (v .given .1))
+
+same-length : tie.Need-same-length
+same-length c = search needs
+
+same-length-2 : tie.Need-same-length-2
+same-length-2 c = search needs
+
+returns : tie.Need-returns
+returns c = λ g. weight-refused (c .before .before .before .before .before .before .before .before .before .before .before .before .before .args .w) g (c .before .before .before .before .before .before .before .show-root .ensures g) (ap shownOut (c .before .e .given .1))
+
+same-length-3 : tie.Need-same-length-3
+same-length-3 c = search needs
+
+same-length-4 : tie.Need-same-length-4
+same-length-4 c = search needs
+
+returns-2 : tie.Need-returns-2
+returns-2 c =
+    let release = c .before .before .before .before .release in
+    let v = c .before .before .before .before .before .before .before .before .v in
+    let show-root = c .before .before .before .before .before .before .before .before .before .before .before .before .before .before .show-root in
+    let back12 = c .before .before .before .before .before .before .before .before .before .before .before .before in
+    let args = back12 .before .before .before .before .before .before .before .before .args in
+    λ g. weight-made (args .w) g (show-root .ensures g) (ap shownOut (v .given .1)) (release .ensures (to-release (args .w) g (show-root .ensures g)
+    (ap shownOut (v .given .1))))
+
+pub weigh-root-spec : {M : Type 1} → statement M
+weigh-root-spec =
+    tie.close
+    (tie.spec
+    show-root-requires
+    enum-known-e
+    enum-known-v
+    release-requires
+    same-length
+    same-length-2
+    returns
+    same-length-3
+    same-length-4
+    returns-2)
