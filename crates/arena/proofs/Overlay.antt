@@ -4,10 +4,12 @@ use mathlib.Core.List.{List, [], _∷_, _++_, append-assoc, append-nil}
 use Prim.Native.Nat.{ℕ, zero, suc, _+_, _-_, _*_, _≤_, _<_}
 use native.Mathlib.Numerals.{add-one}
 use native.Mathlib.Omega.{arith}
+use borrow.Author.Tests.{le-ltb}
 use lib.ListN.{length, take, drop, set, getD, length-append, length-drop}
 use borrow.Rule.Slice.PartMut.{midOf, putMid, post-is}
 use lib.Seq.{take-all, drop-length, sets, set-append-seam, drop-cons, take-at, drop-append-seam, drop-drop}
-use Rattle.arena.specs.Builder.{overlay, qubitNodes, imageWords}
+use Rattle.arena.specs.Limits.{maxQubits, operationWords}
+use Rattle.arena.specs.Builder.{overlay, qubitNodes, imageWords, startFrame, frameStarted, operationWritten}
 
 -- code stores at `i + k`
 pub sets₂ : (ws : List ℕ) (i a b : ℕ) → set (set ws i a) (i + 1) b ≡ sets ws i (a ∷ b ∷ [])
@@ -72,3 +74,13 @@ overlay-rest us vs ws xs ys k e h x y =
   where
     rest : midOf k (length xs - k) xs ≡ drop k xs
     rest = take-all (length xs - k) (drop k xs) (rw length-drop (omega arith))
+
+-- ---- where there is room
+
+pub frame-started : (n : ℕ) (ws : List ℕ) → n ≤ maxQubits → 2 * n ≤ length ws → frameStarted n ws ≡ overlay (startFrame n) ws
+unfolding frameStarted
+frame-started n ws few room = rw (le-ltb maxQubits n few, le-ltb (length ws) (2 * n) room)
+
+pub operation-written : (i : ℕ) (vs ws : List ℕ) → operationWords * i + 3 < length ws → operationWritten i vs ws ≡ sets ws (operationWords * i) vs
+unfolding operationWritten
+operation-written i vs ws room = rw (le-ltb (length ws) (operationWords * i + operationWords) (omega arith))

@@ -54,6 +54,10 @@ startFrame n = imageWords 1 n ++ imageWords 2 n
 abbrev pub overlay : List ℕ → List ℕ → List ℕ
 overlay us ws = us ++ drop (length us) ws
 
+-- the frame as at the start, where the qubits are within the limit and the words have room
+unfoldable pub frameStarted : ℕ → List ℕ → List ℕ
+frameStarted n ws = cond (ltb maxQubits n || ltb (length ws) (2 * n)) ws (overlay (startFrame n) ws)
+
 pub record NodesAndFrame : Type 0 where
   pub nodes : List ℕ
   pub frame : List ℕ
@@ -127,6 +131,10 @@ productStep h ws l r =
 -- one more operation, and so many measurements
 abbrev pub withOperation : ℕ → Header → Header
 withOperation m h = headerOf (h .qubits) (h .cbits) (h .owner) (h .nodes) (h .operations + 1) m
+
+-- the words of operation i at its place, where there is room for them
+unfoldable pub operationWritten : ℕ → List ℕ → List ℕ → List ℕ
+operationWritten i vs ws = cond (ltb (length ws) (operationWords * i + operationWords)) ws (sets ws (operationWords * i) vs)
 
 abbrev pub operationPut : Header → List ℕ → List ℕ → List ℕ
 operationPut h ws vs = sets ws (operationWords * h .operations) vs

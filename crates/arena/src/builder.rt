@@ -10,6 +10,7 @@ use crate::checks::nodes_for;
 use crate::error::Checked;
 use crate::error::PbcError;
 use crate::header::Header;
+use crate::limits::MAX_QUBITS;
 use crate::limits::NODE_WORDS;
 use crate::limits::OPERATION_WORDS;
 use crate::op::MeasId;
@@ -23,11 +24,13 @@ ghost use mathlib.Core.List.{[], _∷_};
 ghost use Prim.Native.Nat.{_+_, _*_, _<_, _≤_};
 ghost use lib.ListN.{length};
 ghost use lib.Seq.{sets};
-ghost use Rattle.arena.specs.Limits.{nodeWords, operationWords};
+ghost use Rattle.arena.specs.Limits.{maxQubits, maxCbits, maxNodes, maxOperations, nodeWords};
+ghost use Rattle.arena.specs.Types.{X, Z};
+ghost use Rattle.arena.specs.Nodes.{singleWord};
 ghost use Rattle.arena.specs.Operations.{targetWord};
 ghost use Rattle.arena.specs.Store.{targetBit};
 ghost use Rattle.arena.specs.Builder.{newStep, singleStep, productStep, rotateStep, measureStep, conditionalStep};
-ghost use Rattle.arena.specs.Builder.{overlay, qubitNodes, startNodes, imageWords, startFrame, withNodes, withOperation, refTo};
+ghost use Rattle.arena.specs.Builder.{overlay, qubitNodes, startNodes, imageWords, frameStarted, operationWritten, withOperation, refTo};
 
 /// What `new` answers.
 pub enum Created {
@@ -98,7 +101,7 @@ impl Header {
         let node = self.nodes;
         put_node(nodes, node, 1 + 4 * pauli.number(), qubit);
         Singled::Made(
-            with_nodes(self, node + 1),
+            self.with_nodes(node + 1),
             PauliAxis::assume_hermitian(reference(self, node)),
         )
     }
@@ -115,7 +118,7 @@ impl Header {
         }
         let node = self.nodes;
         put_node(nodes, node, 2 + 4 * left.word, right.word);
-        Multiplied::Made(with_nodes(self, node + 1), reference(self, node))
+        Multiplied::Made(self.with_nodes(node + 1), reference(self, node))
     }
 
     /// One more operation: the rotation exp(-i k π/8 P). Refuses with 3, 4, 15. O(1). Promise: `rotateStep`.
@@ -184,7 +187,7 @@ impl Header {
     }
 }
 
-// ---- what the calls write once their checks have passed: the room is known, so nothing is refused here
+// ---- what the calls write once their checks have passed; here nothing is refused
 
 fn put_node(nodes: &mut [u32], index: u32, first: u32, second: u32)
     requires { ⌜ nodeWords * index + 1 < length (now nodes) ⌝ }
@@ -195,7 +198,8 @@ fn put_node(nodes: &mut [u32], index: u32, first: u32, second: u32)
     nodes[at + 1] = second;
 }
 
-fn put_operation(
+/// The words of an operation at its place, where the slice has room for them; else nothing. O(1). Promise: `operationWritten`.
+pub fn put_operation(
     operations: &mut [u32],
     index: u32,
     first: u32,
@@ -203,31 +207,20 @@ fn put_operation(
     measurement: u32,
     target: u32,
 )
-    requires { ⌜ operationWords * index + 3 < length (now operations) ⌝ }
-    ensures { λ _. ⌜ now (operations .exit) ≡ sets (now (operations .entry)) (operationWords * index) (first ∷ axis ∷ measurement ∷ target ∷ []) ⌝ }
+    ensures { λ _. ⌜ now (operations .exit) ≡ operationWritten index (first ∷ axis ∷ measurement ∷ target ∷ []) (now (operations .entry)) ⌝ }
 {
     let at = OPERATION_WORDS * (index as usize);
+    if operations.len() < at + OPERATION_WORDS {
+        return;
+    }
     operations[at] = first;
     operations[at + 1] = axis;
     operations[at + 2] = measurement;
     operations[at + 3] = target;
 }
 
-fn with_nodes(header: Header, nodes: u32) -> Header
-    ensures { λ r. ⌜ r ≡ withNodes nodes header ⌝ }
-{
-    Header {
-        qubits: header.qubits,
-        cbits: header.cbits,
-        owner: header.owner,
-        nodes,
-        operations: header.operations,
-        measurements: header.measurements,
-    }
-}
-
 fn with_operation(header: Header, measurements: u32) -> Header
-    requires { ⌜ header .operations < 65536 ⌝ }
+    requires { ⌜ header .operations < maxOperations ⌝ }
     ensures { λ r. ⌜ r ≡ withOperation measurements header ⌝ }
 {
     Header {
@@ -241,7 +234,7 @@ fn with_operation(header: Header, measurements: u32) -> Header
 }
 
 fn reference(header: Header, node: u32) -> PauliRef
-    requires { ⌜ node < 65536 ⌝ }
+    requires { ⌜ node < maxNodes ⌝ }
     ensures { λ r. ⌜ r ≡ refTo header node ⌝ }
 {
     PauliRef {
@@ -251,7 +244,7 @@ fn reference(header: Header, node: u32) -> PauliRef
 }
 
 fn target_word(target: Target) -> u32
-    requires { ⌜ targetBit target < 65536 ⌝ }
+    requires { ⌜ targetBit target < maxCbits ⌝ }
     ensures { λ r. ⌜ r ≡ targetWord target ⌝ }
 {
     match target {
@@ -260,20 +253,25 @@ fn target_word(target: Target) -> u32
     }
 }
 
+// The first words of the nodes X and Z.
+const SINGLE_X: u32 = 5;
+
+const SINGLE_Z: u32 = 13;
+
 // The X and Z of one qubit, four words.
 fn put_qubit(nodes: &mut [u32], qubit: u32)
-    requires { ⌜ (qubit < 256) × (4 * qubit + 3 < length (now nodes)) ⌝ }
-    ensures { λ _. ⌜ now (nodes .exit) ≡ sets (now (nodes .entry)) (4 * qubit) (5 ∷ qubit ∷ 13 ∷ qubit ∷ []) ⌝ }
+    requires { ⌜ (qubit < maxQubits) × (4 * qubit + 3 < length (now nodes)) ⌝ }
+    ensures { λ _. ⌜ now (nodes .exit) ≡ sets (now (nodes .entry)) (4 * qubit) (singleWord X ∷ qubit ∷ singleWord Z ∷ qubit ∷ []) ⌝ }
 {
     let at = 4 * (qubit as usize);
-    nodes[at] = 5;
+    nodes[at] = SINGLE_X;
     nodes[at + 1] = qubit;
-    nodes[at + 2] = 13;
+    nodes[at + 2] = SINGLE_Z;
     nodes[at + 3] = qubit;
 }
 
 fn qubit_nodes(nodes: &mut [u32], qubits: u32)
-    requires { ⌜ (qubits ≤ 256) × (4 * qubits ≤ length (now nodes)) ⌝ }
+    requires { ⌜ (qubits ≤ maxQubits) × (4 * qubits ≤ length (now nodes)) ⌝ }
     ensures { λ _. ⌜ now (nodes .exit) ≡ overlay (qubitNodes qubits) (now (nodes .entry)) ⌝ }
 {
     let mut qubit = 0;
@@ -284,7 +282,7 @@ fn qubit_nodes(nodes: &mut [u32], qubits: u32)
 }
 
 fn start_nodes(nodes: &mut [u32], qubits: u32)
-    requires { ⌜ (qubits ≤ 256) × (2 + 4 * qubits ≤ length (now nodes)) ⌝ }
+    requires { ⌜ (qubits ≤ maxQubits) × (2 + 4 * qubits ≤ length (now nodes)) ⌝ }
     ensures { λ _. ⌜ now (nodes .exit) ≡ overlay (startNodes qubits) (now (nodes .entry)) ⌝ }
 {
     put_node(nodes, 0, 0, 0);
@@ -293,7 +291,7 @@ fn start_nodes(nodes: &mut [u32], qubits: u32)
 
 // The words of every other node from `first` on.
 fn image_words(frame: &mut [u32], first: u32, qubits: u32)
-    requires { ⌜ (first ≤ 2) × (qubits ≤ 256) × (qubits ≤ length (now frame)) ⌝ }
+    requires { ⌜ (first ≤ 2) × (qubits ≤ maxQubits) × (qubits ≤ length (now frame)) ⌝ }
     ensures { λ _. ⌜ now (frame .exit) ≡ overlay (imageWords first qubits) (now (frame .entry)) ⌝ }
 {
     let mut qubit = 0;
@@ -303,10 +301,16 @@ fn image_words(frame: &mut [u32], first: u32, qubits: u32)
     }
 }
 
-fn start_frame(frame: &mut [u32], qubits: u32)
-    requires { ⌜ (qubits ≤ 256) × (2 * qubits ≤ length (now frame)) ⌝ }
-    ensures { λ _. ⌜ now (frame .exit) ≡ overlay (startFrame qubits) (now (frame .entry)) ⌝ }
+/// The frame as at the start, where the qubits are within the limit and the slice has room; else nothing. O(qubits). Promise: `frameStarted`.
+pub fn start_frame(frame: &mut [u32], qubits: u32)
+    ensures { λ _. ⌜ now (frame .exit) ≡ frameStarted qubits (now (frame .entry)) ⌝ }
 {
+    if MAX_QUBITS < qubits {
+        return;
+    }
+    if frame.len() < 2 * (qubits as usize) {
+        return;
+    }
     image_words(frame, 1, qubits);
     let half = qubits as usize;
     image_words(&mut frame[half..], 2, qubits);

@@ -10,6 +10,7 @@ use crate::op::MeasId;
 use crate::pauli_ref::PauliRef;
 ghost use mathlib.Core.Path.{_≡_};
 ghost use Rattle.arena.specs.Store.{breaksLimit, exceedsNodes, exceedsOperations, noNodeRoom, noOperationRoom, foreign, unknown};
+ghost use Rattle.arena.specs.Builder.{withNodes};
 
 /// A circuit but for its words: how many qubits and classical bits, the owner's number, and how much of the slices is used.
 pub struct Header {
@@ -22,6 +23,20 @@ pub struct Header {
 }
 
 impl Header {
+    /// The header with so many nodes used. Promise: `withNodes`.
+    pub fn with_nodes(self, nodes: u32) -> Header
+        ensures { λ r. ⌜ r ≡ withNodes nodes self ⌝ }
+    {
+        Header {
+            qubits: self.qubits,
+            cbits: self.cbits,
+            owner: self.owner,
+            nodes,
+            operations: self.operations,
+            measurements: self.measurements,
+        }
+    }
+
     /// The header breaks a limit, has no node, or more measurements than operations. Promise: `breaksLimit`.
     pub fn breaks_limit(self) -> bool
         ensures { λ r. ⌜ r ≡ breaksLimit self ⌝ }

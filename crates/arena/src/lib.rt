@@ -24,6 +24,8 @@ pub use builder::Measured;
 pub use builder::Multiplied;
 pub use builder::Pushed;
 pub use builder::Singled;
+pub use builder::put_operation;
+pub use builder::start_frame;
 pub use error::Checked;
 pub use error::PbcError;
 pub use error::Refusal;

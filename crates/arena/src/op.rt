@@ -36,6 +36,18 @@ pub enum Target {
     None,
 }
 
+impl Target {
+    /// What an operation's last word names: one more than the bit, 0 for none. Promise: `targetOf`.
+    pub fn of_word(word: u32) -> Target
+        ensures { λ r. ⌜ r ≡ targetOf word ⌝ }
+    {
+        if word == 0 {
+            return Target::None;
+        }
+        Target::Bit(word - 1)
+    }
+}
+
 /// An operation. +1 yields 0 as a measurement's bit, -1 yields 1; a conditional rotation turns where its measurement gave 1.
 pub enum PbcOp {
     Rotate(PauliAxis, PauliAngle),
@@ -90,7 +102,7 @@ fn measurement_of(axis: PauliAxis, cbits: u32, angle: u32, measurement: u32, tar
 {
     if (angle == 0) & (target <= cbits) {
         let owner = axis.as_ref().owner;
-        return PbcOp::Measure(axis, MeasId(owner, measurement), target_of(target));
+        return PbcOp::Measure(axis, MeasId(owner, measurement), Target::of_word(target));
     }
     PbcOp::Malformed
 }
@@ -107,16 +119,6 @@ fn conditional(axis: PauliAxis, angle: u32, measurement: u32, target: u32) -> Pb
         );
     }
     PbcOp::Malformed
-}
-
-// The bit that an operation's last word names: one more than the bit, 0 for none.
-fn target_of(word: u32) -> Target
-    ensures { λ r. ⌜ r ≡ targetOf word ⌝ }
-{
-    if word == 0 {
-        return Target::None;
-    }
-    Target::Bit(word - 1)
 }
 
 impl AxisKind {

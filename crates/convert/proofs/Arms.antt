@@ -1,8 +1,8 @@
 -- Arms of a match that name several kinds, or the rest: an answer that is right at each of an arm's numbers is right for every kind that takes it.
-use mathlib.Core.Path.{_≡_, refl, sym, ap, _∙_}
+use mathlib.Core.Path.{_≡_, refl, sym, ap, subst, _∙_}
 use mathlib.Core.Logic.{_⊎_, inl, inr}
 use mathlib.Core.List.{List, [], _∷_, map}
-use Prim.Native.Nat.{ℕ}
+use Prim.Native.Nat.{ℕ, _+_}
 use lib.ListN.{getD, drop}
 use types.Run.{OneOf}
 use denote.Enum.Declared.{tagOf}
@@ -10,7 +10,7 @@ use Rattle.convert.proofs.gate.GateKind.{the-type}
 use Rattle.convert.specs.Records.{GateKind, KindH, KindX, KindZ, KindS, KindSdg, KindT, KindTdg, KindCnot, KindCz, KindCcx, KindCcz, KindMeasure, KindY, KindSx, KindSwap, KindCy, Unsupported, lowerAs}
 use Rattle.convert.specs.Frame.{frameGates}
 use Rattle.convert.specs.Code.RawPlanes.{planeStep, planeRun}
-use Rattle.convert.specs.Code.Raw.{recordGates, Writing, putRecord}
+use Rattle.convert.specs.Code.Raw.{recordGates, testsOf, Writing, putOp, putSeven, firstWord, loneWords, lastPlace, putRecord}
 
 -- the kinds as they are declared
 abbrev pub kindAt : ℕ → GateKind
@@ -49,6 +49,17 @@ arm f v (j ∷ []) e k o = at-key f v j [] e k o
 arm f v (j ∷ i ∷ js) e k (inl o) = at-key f v j (i ∷ js) e k o
 arm f v (j ∷ i ∷ js) e k (inr o) = arm f v (i ∷ js) (ap (drop 1) e) k o
 
+-- what holds at each of an arm's numbers holds for every kind that takes it
+abbrev pub Each : (GateKind → Type 0) → List ℕ → Type 0
+Each P [] = Unit {0}
+Each P (j ∷ js) = P (kindAt j) × Each P js
+
+pub each : (P : GateKind → Type 0) (js : List ℕ) → Each P js → (k : GateKind) → OneOf js (tagOf the-type k) → P k
+each P [] h k o = absurd o
+each P (j ∷ []) h k o = subst P (ap kindAt (sym o) ∙ at-tag k) (h .0)
+each P (j ∷ i ∷ js) h k (inl o) = subst P (ap kindAt (sym o) ∙ at-tag k) (h .0)
+each P (j ∷ i ∷ js) h k (inr o) = each P (i ∷ js) (h .1) k o
+
 -- ---- the kinds for which a dispatch does nothing
 
 pub no-frame : (k : GateKind) (a b : ℕ) → OneOf (5 ∷ 6 ∷ 9 ∷ 10 ∷ 11 ∷ 12 ∷ 13 ∷ 14 ∷ 15 ∷ 16 ∷ []) (tagOf the-type k) → frameGates k a b ≡ []
@@ -66,3 +77,17 @@ no-planes l k a b p o = arm (λ (k : GateKind). planeRun l (recordGates k a b) p
 pub no-record : (n given : ℕ) (k : GateKind) (a b d : ℕ) (fs : List ℕ) (s : Writing) → OneOf (0 ∷ 1 ∷ 2 ∷ 3 ∷ 4 ∷ 7 ∷ 8 ∷ 12 ∷ 13 ∷ 14 ∷ 15 ∷ 16 ∷ []) (tagOf the-type k) → s ≡ putRecord n given k a b d fs s
 unfolding putRecord
 no-record n given k a b d fs s o = arm (λ (k : GateKind). putRecord n given k a b d fs s) s (0 ∷ 1 ∷ 2 ∷ 3 ∷ 4 ∷ 7 ∷ 8 ∷ 12 ∷ 13 ∷ 14 ∷ 15 ∷ 16 ∷ []) refl k o
+
+-- ---- the kinds that write alone, and ccx and ccz
+
+pub lone-record : (n given : ℕ) (k : GateKind) (a b d : ℕ) (fs : List ℕ) (s : Writing) → OneOf (5 ∷ 6 ∷ 11 ∷ []) (tagOf the-type k)
+    → putOp (loneWords k (getD fs (n + a) 0) given b) s ≡ putRecord n given k a b d fs s
+unfolding putRecord firstWord lowerAs
+lone-record n given k a b d fs s o =
+    each (λ (k : GateKind). putOp (loneWords k (getD fs (n + a) 0) given b) s ≡ putRecord n given k a b d fs s) (5 ∷ 6 ∷ 11 ∷ []) (refl, (refl, (refl, tt))) k o
+
+pub seven-record : (n given : ℕ) (k : GateKind) (a b d : ℕ) (fs : List ℕ) (s : Writing) → OneOf (9 ∷ 10 ∷ []) (tagOf the-type k)
+    → putSeven (getD fs (n + a) 0) (getD fs (n + b) 0) (getD fs (lastPlace k n d) 0) s ≡ putRecord n given k a b d fs s
+unfolding putRecord testsOf lowerAs
+seven-record n given k a b d fs s o =
+    each (λ (k : GateKind). putSeven (getD fs (n + a) 0) (getD fs (n + b) 0) (getD fs (lastPlace k n d) 0) s ≡ putRecord n given k a b d fs s) (9 ∷ 10 ∷ []) (refl, (refl, tt)) k o

@@ -1,4 +1,4 @@
--- The checks of gates, by the number of their qubits.
+-- The checks of gates, by their shape.
 use mathlib.Core.Path.{_≡_, refl, sym, ap, _∙_}
 use mathlib.Core.Bool.{Bool, true, false, not, _&&_, _||_}
 use mathlib.Core.List.{List, [], _∷_}
@@ -8,13 +8,13 @@ use native.Mathlib.Numerals.{add-one}
 use lib.ListN.{length, getD, take, drop}
 use native.Mathlib.Omega.{arith}
 use lib.Dec.{leb, ltb, eqb}
-use borrow.Author.Tests.{ltb-true, le-leb, lt-leb, eq-eqb, ne-eqb, not-true}
+use borrow.Author.Tests.{ltb-true, eqb-true, le-leb, lt-leb, ne-eqb, not-true}
 use Rattle.arena.specs.Errors.{_⟫_⇒_}
 use Rattle.convert.specs.Types.{PbcError, QubitOutOfRange, RepeatedOperand, UnsupportedGate, ClassicalBitOutOfRange, BadStore, NonCliffordFrameGate, NoFrame, NoNodes, Header, Checked, Fine, Wrong}
 use Rattle.arena.specs.Store.{breaksLimit, exceedsNodes, noNodeRoom}
 use Rattle.convert.specs.Planes.{partWords}
 use Rattle.convert.proofs.RestLaws.{drop-record, no-more}
-use Rattle.convert.specs.Records.{GateKind, KindH, KindX, KindZ, KindS, KindSdg, KindT, KindTdg, KindCnot, KindCz, KindCcx, KindCcz, KindMeasure, KindY, KindSx, KindSwap, KindCy, Unsupported, arityOf, records, kindOf, lowerAs}
+use Rattle.convert.specs.Records.{GateKind, KindH, KindX, KindZ, KindS, KindSdg, KindT, KindTdg, KindCnot, KindCz, KindCcx, KindCcz, KindMeasure, KindY, KindSx, KindSwap, KindCy, Unsupported, Shape, NoShape, OneQubit, TwoQubits, ThreeQubits, Measured, shapeOf, shapeNumber, hasShape, records, kindOf, lowerAs}
 use Rattle.convert.specs.Frame.{qubitsBy, qubitsOf, operandsChecked, namesUnused, frameGates, gateNodes, total, cliffordCheck}
 use Rattle.convert.specs.Conversion.{isDoubly, recordChecked, recordsChecked, anyDoubly}
 use Rattle.convert.specs.Code.Raw.{isFrame, frameNodes, measuresOf, recordOf}
@@ -28,63 +28,61 @@ or-false : (b : Bool) → b || false ≡ b
 or-false true = refl
 or-false false = refl
 
-arity-most : (k : GateKind) → arityOf k ≤ 4
-arity-most KindH = omega arith
-arity-most KindX = omega arith
-arity-most KindZ = omega arith
-arity-most KindS = omega arith
-arity-most KindSdg = omega arith
-arity-most KindT = omega arith
-arity-most KindTdg = omega arith
-arity-most KindCnot = omega arith
-arity-most KindCz = omega arith
-arity-most KindCcx = omega arith
-arity-most KindCcz = omega arith
-arity-most KindMeasure = omega arith
-arity-most KindY = omega arith
-arity-most KindSx = omega arith
-arity-most KindSwap = omega arith
-arity-most KindCy = omega arith
-arity-most Unsupported = omega arith
+-- ---- shapes
+
+shapeAt : ℕ → Shape
+shapeAt j = getD (NoShape ∷ OneQubit ∷ TwoQubits ∷ ThreeQubits ∷ []) j Measured
+
+at-number : (s : Shape) → shapeAt (shapeNumber s) ≡ s
+unfolding shapeAt
+at-number NoShape = refl
+at-number OneQubit = refl
+at-number TwoQubits = refl
+at-number ThreeQubits = refl
+at-number Measured = refl
+
+has-shape : (k : GateKind) (s : Shape) → hasShape k s ≡ true → shapeOf k ≡ s
+has-shape k s e = sym (at-number (shapeOf k)) ∙ ap shapeAt (eqb-true (shapeNumber (shapeOf k)) (shapeNumber s) e) ∙ at-number s
 
 module _ (s : Checked) (n i : ℕ) (k : GateKind) (a b c : ℕ) where
-  pub none-checked : arityOf k ≡ 0 → s ≡ operandsChecked s n i [] (qubitsOf k a b c)
+  pub none-checked : hasShape k NoShape ≡ true → s ≡ operandsChecked s n i [] (qubitsOf k a b c)
   unfolding operandsChecked qubitsOf
-  none-checked e = rw (e)
+  none-checked e = rw (has-shape k NoShape e)
 
-  pub one-checked : (f : Checked) → f ≡ (s ⟫ leb n a ⇒ QubitOutOfRange i a) → (eqb (arityOf k) 1 || eqb (arityOf k) 4) ≡ true → f ≡ operandsChecked s n i [] (qubitsOf k a b c)
+  pub one-checked : (f : Checked) → f ≡ (s ⟫ leb n a ⇒ QubitOutOfRange i a) → (hasShape k OneQubit || hasShape k Measured) ≡ true → f ≡ operandsChecked s n i [] (qubitsOf k a b c)
   unfolding operandsChecked qubitsOf
-  one-checked f ef e = ef ∙ go (arityOf k) refl e
+  one-checked f ef e = ef ∙ go (shapeOf k) refl e
     where
-      go : (m : ℕ) → qubitsBy (arityOf k) a b c ≡ qubitsBy m a b c → (eqb m 1 || eqb m 4) ≡ true → (s ⟫ leb n a ⇒ QubitOutOfRange i a) ≡ operandsChecked s n i [] (qubitsOf k a b c)
-      go zero q t = let z : _≡_ {A = ℕ} 0 1 = cc in absurd (omega arith)
-      go (suc zero) q t = rw q (sym (no-test (s ⟫ leb n a ⇒ QubitOutOfRange i a) (RepeatedOperand i a)))
-      go (suc (suc zero)) q t = let z : _≡_ {A = ℕ} 0 1 = cc in absurd (omega arith)
-      go (suc (suc (suc zero))) q t = let z : _≡_ {A = ℕ} 0 1 = cc in absurd (omega arith)
-      go (suc (suc (suc (suc m)))) q t = rw q (sym (no-test (s ⟫ leb n a ⇒ QubitOutOfRange i a) (RepeatedOperand i a)))
+      go : (t : Shape) → qubitsBy (shapeOf k) a b c ≡ qubitsBy t a b c → (eqb (shapeNumber t) 1 || eqb (shapeNumber t) 4) ≡ true
+          → (s ⟫ leb n a ⇒ QubitOutOfRange i a) ≡ operandsChecked s n i [] (qubitsOf k a b c)
+      go NoShape q t = let z : _≡_ {A = ℕ} 0 1 = cc in absurd (omega arith)
+      go OneQubit q t = rw q (sym (no-test (s ⟫ leb n a ⇒ QubitOutOfRange i a) (RepeatedOperand i a)))
+      go TwoQubits q t = let z : _≡_ {A = ℕ} 0 1 = cc in absurd (omega arith)
+      go ThreeQubits q t = let z : _≡_ {A = ℕ} 0 1 = cc in absurd (omega arith)
+      go Measured q t = rw q (sym (no-test (s ⟫ leb n a ⇒ QubitOutOfRange i a) (RepeatedOperand i a)))
 
-  pub two-checked : (f g h : Checked) → f ≡ (s ⟫ leb n a ⇒ QubitOutOfRange i a) → g ≡ (f ⟫ leb n b ⇒ QubitOutOfRange i b) → h ≡ (g ⟫ eqb b a ⇒ RepeatedOperand i b) → arityOf k ≡ 2
-      → h ≡ operandsChecked s n i [] (qubitsOf k a b c)
+  pub two-checked : (f g h : Checked) → f ≡ (s ⟫ leb n a ⇒ QubitOutOfRange i a) → g ≡ (f ⟫ leb n b ⇒ QubitOutOfRange i b) → h ≡ (g ⟫ eqb b a ⇒ RepeatedOperand i b)
+      → hasShape k TwoQubits ≡ true → h ≡ operandsChecked s n i [] (qubitsOf k a b c)
   unfolding operandsChecked qubitsOf
-  two-checked f g h ef eg eh e = rw (eh, eg, ef, e, no-test (s ⟫ leb n a ⇒ QubitOutOfRange i a) (RepeatedOperand i a), or-false (eqb b a))
+  two-checked f g h ef eg eh e =
+      rw (eh, eg, ef, has-shape k TwoQubits e, no-test (s ⟫ leb n a ⇒ QubitOutOfRange i a) (RepeatedOperand i a), or-false (eqb b a))
 
   pub three-checked : (f g h j m : Checked) → f ≡ (s ⟫ leb n a ⇒ QubitOutOfRange i a) → g ≡ (f ⟫ leb n b ⇒ QubitOutOfRange i b) → h ≡ (g ⟫ eqb b a ⇒ RepeatedOperand i b)
       → j ≡ (h ⟫ leb n c ⇒ QubitOutOfRange i c) → m ≡ (j ⟫ eqb c b || eqb c a ⇒ RepeatedOperand i c)
-      → (arityOf k ≡ 0 → ⊥) → (eqb (arityOf k) 1 || eqb (arityOf k) 4) ≡ false → (arityOf k ≡ 2 → ⊥) → m ≡ operandsChecked s n i [] (qubitsOf k a b c)
+      → hasShape k NoShape ≡ false → (hasShape k OneQubit || hasShape k Measured) ≡ false → hasShape k TwoQubits ≡ false → m ≡ operandsChecked s n i [] (qubitsOf k a b c)
   unfolding operandsChecked qubitsOf
   three-checked f g h j m ef eg eh ej em n0 n14 n2 =
-      rw (em, ej, eh, eg, ef, three (arityOf k) (arity-most k) n0 n14 n2, no-test (s ⟫ leb n a ⇒ QubitOutOfRange i a) (RepeatedOperand i a), or-false (eqb b a), or-false (eqb c a))
+      rw (em, ej, eh, eg, ef, three (shapeOf k) n0 n14 n2, no-test (s ⟫ leb n a ⇒ QubitOutOfRange i a) (RepeatedOperand i a), or-false (eqb b a), or-false (eqb c a))
     where
-      three : (m : ℕ) → m ≤ 4 → (m ≡ 0 → ⊥) → (eqb m 1 || eqb m 4) ≡ false → (m ≡ 2 → ⊥) → m ≡ 3
-      three zero h a b c = absurd (a refl)
-      three (suc zero) h a b c = let z : _≡_ {A = ℕ} 0 1 = cc in absurd (omega arith)
-      three (suc (suc zero)) h a b c = absurd (c refl)
-      three (suc (suc (suc zero))) h a b c = refl
-      three (suc (suc (suc (suc zero)))) h a b c = let z : _≡_ {A = ℕ} 0 1 = cc in absurd (omega arith)
-      three (suc (suc (suc (suc (suc m))))) h a b c = absurd (omega arith)
+      three : (t : Shape) → eqb (shapeNumber t) 0 ≡ false → (eqb (shapeNumber t) 1 || eqb (shapeNumber t) 4) ≡ false → eqb (shapeNumber t) 2 ≡ false → t ≡ ThreeQubits
+      three NoShape a b c = let z : _≡_ {A = ℕ} 0 1 = cc in absurd (omega arith)
+      three OneQubit a b c = let z : _≡_ {A = ℕ} 0 1 = cc in absurd (omega arith)
+      three TwoQubits a b c = let z : _≡_ {A = ℕ} 0 1 = cc in absurd (omega arith)
+      three ThreeQubits a b c = refl
+      three Measured a b c = let z : _≡_ {A = ℕ} 0 1 = cc in absurd (omega arith)
 
-pub record-checked : (s : Checked) (n cbits i number a b c : ℕ) (u q r : Checked) → u ≡ (s ⟫ eqb (arityOf (kindOf number)) 0 ⇒ UnsupportedGate i number)
-    → q ≡ operandsChecked u n i [] (qubitsOf (kindOf number) a b c) → r ≡ (q ⟫ eqb (arityOf (kindOf number)) 4 && leb cbits b ⇒ ClassicalBitOutOfRange i b)
+pub record-checked : (s : Checked) (n cbits i number a b c : ℕ) (u q r : Checked) → u ≡ (s ⟫ hasShape (kindOf number) NoShape ⇒ UnsupportedGate i number)
+    → q ≡ operandsChecked u n i [] (qubitsOf (kindOf number) a b c) → r ≡ (q ⟫ hasShape (kindOf number) Measured && leb cbits b ⇒ ClassicalBitOutOfRange i b)
     → r ≡ recordChecked s n cbits i (recordOf number a b c)
 unfolding recordChecked
 record-checked s n cbits i number a b c u q r eu eq er = rw (er, eq, eu)
@@ -190,8 +188,8 @@ unfolding cliffordCheck
 clifford-checked h nodes fs kind a b x y z r₁ r₂ r₃ r₄ r₅ ex ey ez e₁ e₂ e₃ e₄ e₅ =
     rw (e₅, e₄, e₃, e₂, e₁, ex, ey, ez, frame-by (kindOf kind) a b, nodes-by (kindOf kind) a b)
 
-pub measures-by : (k : GateKind) → (arityOf k ≡ 4 → 1 ≡ measuresOf k) × ((arityOf k ≡ 4 → ⊥) → 0 ≡ measuresOf k)
-measures-by k = ((λ e. rw (eq-eqb (arityOf k) 4 e)), λ h. rw (ne-eqb (arityOf k) 4 h))
+pub measures-by : (k : GateKind) → (hasShape k Measured ≡ true → 1 ≡ measuresOf k) × (hasShape k Measured ≡ false → 0 ≡ measuresOf k)
+measures-by k = ((λ e. rw e), λ e. rw e)
 
 -- ---- a record that passes its checks
 
@@ -202,41 +200,43 @@ and-both false b e = (e, (let z : _≡_ {A = ℕ} 0 1 = cc in absurd (omega arit
 below : (a n : ℕ) → ltb a n ≡ true → leb n a ≡ false
 below a n e = lt-leb n a (ltb-true a n e)
 
-sound-by : (s : Checked) (n cbits i number m a b c : ℕ) → m ≤ 4 → (not (eqb m 0) && ltb a n) ≡ true
-    → ((ltb b n && not (eqb b a)) || not (eqb m 2 || eqb m 3)) ≡ true → ((ltb c n && (not (eqb c a) && not (eqb c b))) || not (eqb m 3)) ≡ true → (ltb b cbits || not (eqb m 4)) ≡ true
-    → (operandsChecked (s ⟫ eqb m 0 ⇒ UnsupportedGate i number) n i [] (qubitsBy m a b c) ⟫ eqb m 4 && leb cbits b ⇒ ClassicalBitOutOfRange i b) ≡ s
+sound-by : (s : Checked) (n cbits i number : ℕ) (t : Shape) (a b c : ℕ) → (not (eqb (shapeNumber t) 0) && ltb a n) ≡ true
+    → ((ltb b n && not (eqb b a)) || not (eqb (shapeNumber t) 2 || eqb (shapeNumber t) 3)) ≡ true
+    → ((ltb c n && (not (eqb c a) && not (eqb c b))) || not (eqb (shapeNumber t) 3)) ≡ true → (ltb b cbits || not (eqb (shapeNumber t) 4)) ≡ true
+    → (operandsChecked (s ⟫ eqb (shapeNumber t) 0 ⇒ UnsupportedGate i number) n i [] (qubitsBy t a b c) ⟫ eqb (shapeNumber t) 4 && leb cbits b ⇒ ClassicalBitOutOfRange i b) ≡ s
 unfolding operandsChecked _⟫_⇒_
-sound-by s n cbits i number zero a b c h h₁ h₂ h₃ h₄ = let z : _≡_ {A = ℕ} 0 1 = cc in absurd (omega arith)
-sound-by (Wrong e) n cbits i number (suc zero) a b c h h₁ h₂ h₃ h₄ = refl
-sound-by (Wrong e) n cbits i number (suc (suc zero)) a b c h h₁ h₂ h₃ h₄ = refl
-sound-by (Wrong e) n cbits i number (suc (suc (suc zero))) a b c h h₁ h₂ h₃ h₄ = refl
-sound-by (Wrong e) n cbits i number (suc (suc (suc (suc zero)))) a b c h h₁ h₂ h₃ h₄ = refl
-sound-by Fine n cbits i number (suc zero) a b c h h₁ h₂ h₃ h₄ = rw (below a n h₁)
-sound-by Fine n cbits i number (suc (suc zero)) a b c h h₁ h₂ h₃ h₄ =
+sound-by s n cbits i number NoShape a b c h₁ h₂ h₃ h₄ = let z : _≡_ {A = ℕ} 0 1 = cc in absurd (omega arith)
+sound-by (Wrong e) n cbits i number OneQubit a b c h₁ h₂ h₃ h₄ = refl
+sound-by (Wrong e) n cbits i number TwoQubits a b c h₁ h₂ h₃ h₄ = refl
+sound-by (Wrong e) n cbits i number ThreeQubits a b c h₁ h₂ h₃ h₄ = refl
+sound-by (Wrong e) n cbits i number Measured a b c h₁ h₂ h₃ h₄ = refl
+sound-by Fine n cbits i number OneQubit a b c h₁ h₂ h₃ h₄ = rw (below a n h₁)
+sound-by Fine n cbits i number TwoQubits a b c h₁ h₂ h₃ h₄ =
     let p = and-both (ltb b n) (not (eqb b a)) (sym (or-false (ltb b n && not (eqb b a))) ∙ h₂) in
     rw (below a n h₁, below b n (p .0), not-true (eqb b a) (p .1))
-sound-by Fine n cbits i number (suc (suc (suc zero))) a b c h h₁ h₂ h₃ h₄ =
+sound-by Fine n cbits i number ThreeQubits a b c h₁ h₂ h₃ h₄ =
     let p = and-both (ltb b n) (not (eqb b a)) (sym (or-false (ltb b n && not (eqb b a))) ∙ h₂) in
     let r = and-both (ltb c n) (not (eqb c a) && not (eqb c b)) (sym (or-false (ltb c n && (not (eqb c a) && not (eqb c b)))) ∙ h₃) in
     let t = and-both (not (eqb c a)) (not (eqb c b)) (r .1) in
     rw (below a n h₁, below b n (p .0), not-true (eqb b a) (p .1), below c n (r .0), not-true (eqb c a) (t .0), not-true (eqb c b) (t .1))
-sound-by Fine n cbits i number (suc (suc (suc (suc zero)))) a b c h h₁ h₂ h₃ h₄ = rw (below a n h₁, below b cbits (sym (or-false (ltb b cbits)) ∙ h₄))
-sound-by s n cbits i number (suc (suc (suc (suc (suc m))))) a b c h h₁ h₂ h₃ h₄ = absurd (omega arith)
+sound-by Fine n cbits i number Measured a b c h₁ h₂ h₃ h₄ = rw (below a n h₁, below b cbits (sym (or-false (ltb b cbits)) ∙ h₄))
 
-pub sound-record : (s : Checked) (n cbits i number a b c : ℕ) (k : GateKind) (m : ℕ) → k ≡ kindOf number → m ≡ arityOf k
-    → (((not (eqb m 0) && ltb a n) && ((ltb b n && not (eqb b a)) || not (eqb m 2 || eqb m 3))) && (((ltb c n && (not (eqb c a) && not (eqb c b))) || not (eqb m 3)) && (ltb b cbits || not (eqb m 4)))) ≡ true
+-- whether each shape is the kind's: none, two, three, measured
+pub sound-record : (s : Checked) (n cbits i number a b c : ℕ) (k : GateKind) (none two three measured : Bool)
+    → k ≡ kindOf number → none ≡ hasShape k NoShape → two ≡ hasShape k TwoQubits → three ≡ hasShape k ThreeQubits → measured ≡ hasShape k Measured
+    → (((not none && ltb a n) && ((ltb b n && not (eqb b a)) || not (two || three))) && (((ltb c n && (not (eqb c a) && not (eqb c b))) || not three) && (ltb b cbits || not measured))) ≡ true
     → recordChecked s n cbits i (recordOf number a b c) ≡ s
 unfolding recordChecked qubitsOf
-sound-record s n cbits i number a b c k m ek em e =
-    let first = not (eqb m 0) && ltb a n in
-    let second = (ltb b n && not (eqb b a)) || not (eqb m 2 || eqb m 3) in
-    let third = (ltb c n && (not (eqb c a) && not (eqb c b))) || not (eqb m 3) in
-    let target = ltb b cbits || not (eqb m 4) in
+sound-record s n cbits i number a b c k none two three measured ek e₀ e₂ e₃ e₄ e =
+    let first = not none && ltb a n in
+    let second = (ltb b n && not (eqb b a)) || not (two || three) in
+    let third = (ltb c n && (not (eqb c a) && not (eqb c b))) || not three in
+    let target = ltb b cbits || not measured in
     let p = and-both (first && second) (third && target) e in
     let p₁ = and-both first second (p .0) in
     let p₂ = and-both third target (p .1) in
-    rw (← ek, ← em)
-    (sound-by s n cbits i number m a b c (rw em (arity-most k)) (p₁ .0) (p₁ .1) (p₂ .0) (p₂ .1))
+    rw (← ek)
+    (sound-by s n cbits i number (shapeOf k) a b c (rw (← e₀) (p₁ .0)) (rw (← e₂, ← e₃) (p₁ .1)) (rw (← e₃) (p₂ .0)) (rw (← e₄) (p₂ .1)))
 
 -- the list so far is sound, as is this record
 pub sound-more : (f g : Bool) (n cbits : ℕ) (gs : List ℕ) (i : ℕ) → i < length gs / 4

@@ -16,7 +16,7 @@ use Rattle.arena.proofs.Accepted.{passed-before, test-passed, left-false, right
 use Rattle.convert.specs.Types.{Header, BadStore, NonCliffordFrameGate, Fine}
 use Rattle.convert.specs.Records.{kindOf}
 use Rattle.convert.specs.Frame.{qubitsOf, operandsChecked, namesUnused, frameGates, frameRun, cliffordCheck, opened}
-use Rattle.convert.specs.Code.Raw.{arena, putRun, Small, Ready, Ran}
+use Rattle.convert.specs.Code.Raw.{arena, putRun, Small, FrameReady, Ran}
 use Rattle.convert.proofs.Accepting.{passed-operands, FitsGate, fits-gate}
 use Rattle.convert.proofs.Laid.{laid, put-run}
 
@@ -53,7 +53,7 @@ module _ (h : Header) (ns fs : List ℕ) (kind a b : ℕ) (e : cliffordCheck h (
       let v : getD fs i 0 / 4 < h .nodes = rw (← g) u in
       omega (arith, v, s .nodes)
 
-  pub clifford-ready : Ready (h .qubits) (frameGates (kindOf kind) a b) (h .nodes) ns fs
+  pub clifford-ready : FrameReady (h .qubits) (frameGates (kindOf kind) a b) (h .nodes) ns fs
   clifford-ready =
       let s = sound h sounds in
       record {

@@ -9,7 +9,7 @@ use Rattle.convert.specs.Types.{MinusOne}
 use lib.ListN.{length, getD, set}
 use Rattle.pauli.specs.Gates.{Gate, gateH, gateX, gateZ, gateS, gateSdg, gateCnot, gateCz}
 use Rattle.convert.specs.Frame.{Arena, gateNodes}
-use Rattle.convert.specs.Code.Raw.{arena, putMultiplied, putStep, putRun, Multiplied, Small, Ready, Ran}
+use Rattle.convert.specs.Code.Raw.{arena, putMultiplied, putStep, putRun, ProductPut, Small, FrameReady, Ran}
 
 getD-set-any : (t : List ℕ) (i j P d : ℕ) → (getD (set t i P) j d ≡ getD t j d) ⊎ (getD (set t i P) j d ≡ P)
 getD-set-any [] i j P d = inl refl
@@ -24,7 +24,7 @@ small-set n fs s i v h j lt = ⊎-elim
     (λ (e : getD (set fs i v) j 0 ≡ v). rw e h)
     (getD-set-any fs i j v 0)
 
-pub h-ran : {n q c : ℕ} {ns fs : List ℕ} → Ready n (gateH q ∷ []) c ns fs
+pub h-ran : {n q c : ℕ} {ns fs : List ℕ} → FrameReady n (gateH q ∷ []) c ns fs
     → Ran n (gateH q ∷ []) c ns fs c ns (set (set fs q (getD fs (n + q) 0)) (n + q) (getD fs q 0))
 unfolding putRun putStep
 h-ran {n} {q} {c} {ns} {fs} r = record {
@@ -33,7 +33,7 @@ h-ran {n} {q} {c} {ns} {fs} r = record {
   counted = omega arith;
 }
 
-pub x-ran : {n q c : ℕ} {ns fs : List ℕ} → Ready n (gateX q ∷ []) c ns fs → (w : ℕ) → w ≡ scaledWord MinusOne (getD fs (n + q) 0)
+pub x-ran : {n q c : ℕ} {ns fs : List ℕ} → FrameReady n (gateX q ∷ []) c ns fs → (w : ℕ) → w ≡ scaledWord MinusOne (getD fs (n + q) 0)
     → Ran n (gateX q ∷ []) c ns fs c ns (set fs (n + q) w)
 unfolding putRun putStep
 x-ran {n} {q} {c} {ns} {fs} r w e = record {
@@ -42,7 +42,7 @@ x-ran {n} {q} {c} {ns} {fs} r w e = record {
   counted = omega arith;
 }
 
-pub z-ran : {n q c : ℕ} {ns fs : List ℕ} → Ready n (gateZ q ∷ []) c ns fs → (w : ℕ) → w ≡ scaledWord MinusOne (getD fs q 0)
+pub z-ran : {n q c : ℕ} {ns fs : List ℕ} → FrameReady n (gateZ q ∷ []) c ns fs → (w : ℕ) → w ≡ scaledWord MinusOne (getD fs q 0)
     → Ran n (gateZ q ∷ []) c ns fs c ns (set fs q w)
 unfolding putRun putStep
 z-ran {n} {q} {c} {ns} {fs} r w e = record {
@@ -53,7 +53,7 @@ z-ran {n} {q} {c} {ns} {fs} r w e = record {
 
 -- after one product
 module _ (n : ℕ) {c : ℕ} {ns fs : List ℕ} {i l r p c′ : ℕ} {ns′ fs′ : List ℕ} (small : Small n fs) (few : c < 65536) (phase : p < 4)
-    (e : Multiplied i l r p c ns fs c′ ns′ fs′) where
+    (e : ProductPut i l r p c ns fs c′ ns′ fs′) where
   pub mul-count : c′ ≡ c + 1
   unfolding putMultiplied
   mul-count = ap (λ (s : Arena). s .count) (e .same)
@@ -62,8 +62,8 @@ module _ (n : ℕ) {c : ℕ} {ns fs : List ℕ} {i l r p c′ : ℕ} {ns′ fs�
   unfolding putMultiplied
   mul-small = let f : fs′ ≡ set fs i (4 * c + p) = ap (λ (s : Arena). s .frame) (e .same) in rw f (small-set n fs small i (4 * c + p) (omega arith))
 
-pub s-ran : {n q c : ℕ} {ns fs : List ℕ} {c′ : ℕ} {ns′ fs′ : List ℕ} → Ready n (gateS q ∷ []) c ns fs
-    → Multiplied q q (n + q) 3 c ns fs c′ ns′ fs′ → Ran n (gateS q ∷ []) c ns fs c′ ns′ fs′
+pub s-ran : {n q c : ℕ} {ns fs : List ℕ} {c′ : ℕ} {ns′ fs′ : List ℕ} → FrameReady n (gateS q ∷ []) c ns fs
+    → ProductPut q q (n + q) 3 c ns fs c′ ns′ fs′ → Ran n (gateS q ∷ []) c ns fs c′ ns′ fs′
 unfolding putRun putStep
 s-ran {n} {q} {c} {ns} {fs} r e = record {
   same = e .same;
@@ -71,8 +71,8 @@ s-ran {n} {q} {c} {ns} {fs} r e = record {
   counted = omega (arith, mul-count n (r .small) (omega arith) (omega arith) e);
 }
 
-pub sdg-ran : {n q c : ℕ} {ns fs : List ℕ} {c′ : ℕ} {ns′ fs′ : List ℕ} → Ready n (gateSdg q ∷ []) c ns fs
-    → Multiplied q q (n + q) 1 c ns fs c′ ns′ fs′ → Ran n (gateSdg q ∷ []) c ns fs c′ ns′ fs′
+pub sdg-ran : {n q c : ℕ} {ns fs : List ℕ} {c′ : ℕ} {ns′ fs′ : List ℕ} → FrameReady n (gateSdg q ∷ []) c ns fs
+    → ProductPut q q (n + q) 1 c ns fs c′ ns′ fs′ → Ran n (gateSdg q ∷ []) c ns fs c′ ns′ fs′
 unfolding putRun putStep
 sdg-ran {n} {q} {c} {ns} {fs} r e = record {
   same = e .same;
@@ -81,9 +81,9 @@ sdg-ran {n} {q} {c} {ns} {fs} r e = record {
 }
 
 pub two-ran : {n : ℕ} (g : Gate) {i l r j k m c : ℕ} {ns fs : List ℕ} {c₁ : ℕ} {ns₁ fs₁ : List ℕ} {c₂ : ℕ} {ns₂ fs₂ : List ℕ}
-    → Ready n (g ∷ []) c ns fs → gateNodes g ≡ 2
+    → FrameReady n (g ∷ []) c ns fs → gateNodes g ≡ 2
     → ((s : Arena) → putStep n g s ≡ putMultiplied j k m 0 (putMultiplied i l r 0 s))
-    → Multiplied i l r 0 c ns fs c₁ ns₁ fs₁ → Multiplied j k m 0 c₁ ns₁ fs₁ c₂ ns₂ fs₂
+    → ProductPut i l r 0 c ns fs c₁ ns₁ fs₁ → ProductPut j k m 0 c₁ ns₁ fs₁ c₂ ns₂ fs₂
     → Ran n (g ∷ []) c ns fs c₂ ns₂ fs₂
 unfolding putRun
 two-ran {n} g {i} {l} {r} {j} {k} {m} {c} {ns} {fs} rd two st e₁ e₂ =
@@ -106,7 +106,7 @@ cz-step n c t s = refl
 
 -- ---- several gates
 
-pub head-ready : {n : ℕ} {g : Gate} {gs : List Gate} {c : ℕ} {ns fs : List ℕ} → Ready n (g ∷ gs) c ns fs → Ready n (g ∷ []) c ns fs
+pub head-ready : {n : ℕ} {g : Gate} {gs : List Gate} {c : ℕ} {ns fs : List ℕ} → FrameReady n (g ∷ gs) c ns fs → FrameReady n (g ∷ []) c ns fs
 head-ready r = record {
   valid = (r .valid .0, tt);
   qubits = r .qubits;
@@ -116,8 +116,8 @@ head-ready r = record {
   room = omega arith;
 }
 
-pub tail-ready : {n : ℕ} {g : Gate} {gs : List Gate} {c : ℕ} {ns fs : List ℕ} {c′ : ℕ} {ns′ fs′ : List ℕ} → Ready n (g ∷ gs) c ns fs
-    → Ran n (g ∷ []) c ns fs c′ ns′ fs′ → length ns′ ≡ length ns → length fs′ ≡ length fs → Ready n gs c′ ns′ fs′
+pub tail-ready : {n : ℕ} {g : Gate} {gs : List Gate} {c : ℕ} {ns fs : List ℕ} {c′ : ℕ} {ns′ fs′ : List ℕ} → FrameReady n (g ∷ gs) c ns fs
+    → Ran n (g ∷ []) c ns fs c′ ns′ fs′ → length ns′ ≡ length ns → length fs′ ≡ length fs → FrameReady n gs c′ ns′ fs′
 tail-ready r d ln lf = record {
   valid = r .valid .1;
   qubits = r .qubits;
@@ -127,7 +127,7 @@ tail-ready r d ln lf = record {
   room = omega arith;
 }
 
-pub none-ran : {n c : ℕ} {ns fs : List ℕ} → Ready n [] c ns fs → Ran n [] c ns fs c ns fs
+pub none-ran : {n c : ℕ} {ns fs : List ℕ} → FrameReady n [] c ns fs → Ran n [] c ns fs c ns fs
 unfolding putRun
 none-ran r = record { same = refl; small = r .small; counted = omega arith }
 

@@ -1,14 +1,19 @@
 -- The table of the seven rows, and what ccx and ccz write in the buffers.
 use mathlib.Core.Path.{_≡_, refl, sym, ap, _∙_}
+use mathlib.Core.Bool.{Bool, cond}
 use mathlib.Core.List.{List, [], _∷_}
-use Prim.Native.Nat.{ℕ, zero, suc, _+_, _*_, _<_}
+use Prim.Native.Nat.{ℕ, zero, suc, _+_, _*_, _<_, _≤_}
 use native.Mathlib.Omega.{arith}
 use native.Mathlib.Numerals.{add-one}
-use lib.ListN.{getD, set}
+use lib.ListN.{length, getD, set}
 use lib.Seq.{sets}
 use Rattle.arena.specs.Limits.{operationWords}
 use Rattle.arena.specs.Operations.{rotateWords}
-use Rattle.convert.specs.Code.Raw.{Writing, writing, putOp, rowAt, subsetOf, subsetWord, putRows, putFour, putSeven}
+use Rattle.arena.specs.Builder.{operationWritten}
+use Rattle.arena.proofs.Overlay.{operation-written}
+use Rattle.convert.specs.Records.{GateKind}
+use Rattle.convert.specs.Conversion.{isMeasure}
+use Rattle.convert.specs.Code.Raw.{Writing, writing, putOp, rowAt, subsetOf, subsetWord, putRows, putFour, putSeven, firstWord, loneWords}
 
 abbrev pub table : List ℕ
 table = 1 ∷ 1 ∷ 2 ∷ 1 ∷ 4 ∷ 1 ∷ 3 ∷ 7 ∷ 5 ∷ 7 ∷ 6 ∷ 7 ∷ 7 ∷ 1 ∷ []
@@ -86,3 +91,8 @@ seven-put c ns u os a b d c′ u′ r s ns′ os′ f g m =
 pub op-put : (c : ℕ) (ns : List ℕ) (u : ℕ) (os vs : List ℕ) (u₁ r s : ℕ) (os₁ : List ℕ) → (u₁ ≡ u + 1) × (os₁ ≡ sets os (operationWords * u) vs) → (r ≡ c) × (s ≡ u₁)
     → writing r ns s os₁ ≡ putOp vs (writing c ns u os)
 op-put c ns u os vs u₁ r s os₁ t m = rw (m .0, m .1, t .0, t .1)
+
+-- t, tdg or measure, by the words of its one operation
+pub lone-put : (kind : GateKind) (axis given bit u : ℕ) (os os₁ : List ℕ) (m : Bool) (f g b : ℕ) → m ≡ isMeasure kind → f ≡ firstWord kind → g ≡ cond m given 0 → b ≡ cond m (bit + 1) 0
+    → operationWords * u + operationWords ≤ length os → os₁ ≡ operationWritten u (f ∷ axis ∷ g ∷ b ∷ []) os → os₁ ≡ sets os (operationWords * u) (loneWords kind axis given bit)
+lone-put kind axis given bit u os os₁ m f g b em ef eg eb room e = e ∙ operation-written u (f ∷ axis ∷ g ∷ b ∷ []) os (omega arith) ∙ rw (ef, eg, eb, em)

@@ -17,7 +17,7 @@ use Rattle.convert.specs.Frame.{startArena, gateNodes, total}
 use Rattle.convert.specs.Words.{Words, startWords, flushWords, wordRun}
 use Rattle.convert.specs.Needs.{Needs, writtenNodes, writtenOps, needStep, needRun}
 use Rattle.convert.specs.Code.RawPlanes.{Wide}
-use Rattle.convert.specs.Code.Raw.{recordGates, planesFor, Decided, Fits, Small, Ready, Ran, FlushReady, FlushedIf, RecordReady, gatesOver, anyExceeds, costOf, loneNodes, measuresOf, needsOf, putRecord, putSeven, putFour, putRows, Writing, writing, plainLast, wordsLast, needsLast, Room}
+use Rattle.convert.specs.Code.Raw.{recordGates, planesFor, Decided, Fits, Small, FrameReady, Ran, FlushReady, FlushedIf, RecordReady, gatesOver, anyExceeds, costOf, loneNodes, measuresOf, needsOf, putRecord, putSeven, putFour, putRows, Writing, writing, plainLast, wordsLast, needsLast, Room}
 use Rattle.convert.proofs.CountLaws.{valid-of, wide-start}
 use Rattle.convert.proofs.RecordSteps.{run-append, need-append, word-append, One, one-record, framed, writeRecord, needs-eq}
 use Rattle.convert.proofs.RestLaws.{rest-more, rest-end, wide-went, restOf}
@@ -261,7 +261,7 @@ module _ (n : ℕ) (cap : Cap) (gs ns₀ fs₀ os₀ ps₀ : List ℕ) (c : ℕ)
     counted₁ : (c₁ ≡ c + cond flushI (total writtenNodes pendingI) 0) × (u₁ ≡ u + cond flushI (total writtenOps pendingI) 0)
     counted₁ = rw ef at (counted-if f n pendingI d₁)
 
-    pub write-frames : Ready n (recordGates kindI aI bI) c₁ ns₁ fs₁
+    pub write-frames : FrameReady n (recordGates kindI aI bI) c₁ ns₁ fs₁
     write-frames =
         let w = within in
         let k = counted₁ in

@@ -11,7 +11,7 @@ use Rattle.arena.specs.Limits.{maxQubits, maxCbits, maxNodes, maxOperations, no
 use Rattle.arena.specs.Errors.{_⟫_⇒_}
 use Rattle.arena.specs.Builder.{overlay, headerOf}
 use Rattle.convert.specs.Types.{Header, TooManyQubits, BrokenGateList, UnsupportedGate, ClassicalBitOutOfRange, CapTooSmall, NoPlanes, NoFrame, NoNodes, NoOperations, Checked, Fine, Wrong}
-use Rattle.convert.specs.Records.{GateKind, arityOf, Cap, NoCap, AtMost, Record, records, kindOf, Elementary, Placed, lowerAll, bare}
+use Rattle.convert.specs.Records.{GateKind, NoShape, ThreeQubits, Measured, hasShape, Cap, NoCap, AtMost, Record, records, kindOf, Elementary, Placed, lowerAll, bare}
 use Rattle.convert.specs.Plain.{Plain, begin, plainRun, tableRun}
 use Rattle.convert.specs.Paper.{Paper, paperRun, paperBegin}
 use Rattle.convert.specs.Frame.{qubitsOf, operandsChecked}
@@ -54,14 +54,14 @@ wordEnd x = wordRun (x .qubits) (x .cap) (gatesIn x) (begin (x .qubits)) (startW
 -- ---- checks of the gate list
 
 abbrev pub isUnsupported : GateKind → Bool
-isUnsupported k = eqb (arityOf k) 0
+isUnsupported k = hasShape k NoShape
 
 -- ccx and ccz
 abbrev pub isDoubly : GateKind → Bool
-isDoubly k = eqb (arityOf k) 3
+isDoubly k = hasShape k ThreeQubits
 
 abbrev pub isMeasure : GateKind → Bool
-isMeasure k = eqb (arityOf k) 4
+isMeasure k = hasShape k Measured
 
 -- the checks so far, then those of gate i: 5, then 7 and 8 operand by operand, then 9
 unfoldable pub recordChecked : Checked → ℕ → ℕ → ℕ → Record → Checked

@@ -1,7 +1,7 @@
 -- The frame in words (document 01, "Frame"), and what push_output_clifford answers and leaves: for acceptance and every refusal.
 use mathlib.Core.Bool.{Bool, false, _||_}
 use mathlib.Core.List.{List, [], _∷_, _++_}
-use Prim.Native.Nat.{ℕ, zero, suc, _+_, _*_}
+use Prim.Native.Nat.{ℕ, suc, _+_, _*_}
 use lib.Dec.{leb, ltb, eqb}
 use lib.ListN.{length, getD, set, take}
 use Rattle.pauli.specs.Letters.{phaseNumber}
@@ -13,7 +13,7 @@ use Rattle.arena.specs.Nodes.{productWord}
 use Rattle.arena.specs.Store.{breaksLimit, exceedsNodes, noNodeRoom}
 use Rattle.arena.specs.Builder.{Step, decided, NodesAndFrame, overlay, withNodes, startNodes, startFrame}
 use Rattle.convert.specs.Types.{Phase, One, PlusI, MinusOne, MinusI, Header, BadStore, NonCliffordFrameGate, QubitOutOfRange, RepeatedOperand, NoFrame, NoNodes, Checked, Fine}
-use Rattle.convert.specs.Records.{GateKind, arityOf, kindOf, Elementary, clifford, elT, elTdg, elCcx, elCcz, elMeasure, lowerAs}
+use Rattle.convert.specs.Records.{GateKind, Shape, NoShape, OneQubit, TwoQubits, ThreeQubits, Measured, shapeOf, kindOf, Elementary, clifford, elT, elTdg, elCcx, elCcz, elMeasure, lowerAs}
 pub use Rattle.convert.specs.declared.frame.FramePushed.the-variants.{the-data as FramePushed, Made as FramePushedMade, Refused as FramePushedRefused}
 
 -- ---- a gate's work on used nodes and frame words
@@ -66,16 +66,16 @@ gateNodes (gateCz c t) = 2
 
 -- ---- operands: 7, then 8, operand by operand
 
--- the qubits of a kind, in declared order
-abbrev pub qubitsBy : ℕ → ℕ → ℕ → ℕ → List ℕ
-qubitsBy zero a b c = []
-qubitsBy (suc zero) a b c = a ∷ []
-qubitsBy (suc (suc zero)) a b c = a ∷ b ∷ []
-qubitsBy (suc (suc (suc zero))) a b c = a ∷ b ∷ c ∷ []
-qubitsBy (suc (suc (suc (suc k)))) a b c = a ∷ []
+-- the qubits of a shape, in declared order
+abbrev pub qubitsBy : Shape → ℕ → ℕ → ℕ → List ℕ
+qubitsBy NoShape a b c = []
+qubitsBy OneQubit a b c = a ∷ []
+qubitsBy TwoQubits a b c = a ∷ b ∷ []
+qubitsBy ThreeQubits a b c = a ∷ b ∷ c ∷ []
+qubitsBy Measured a b c = a ∷ []
 
 unfoldable pub qubitsOf : GateKind → ℕ → ℕ → ℕ → List ℕ
-qubitsOf k a b c = qubitsBy (arityOf k) a b c
+qubitsOf k a b c = qubitsBy (shapeOf k) a b c
 
 abbrev pub member : ℕ → List ℕ → Bool
 member q [] = false

@@ -1,10 +1,13 @@
 -- Gate records (document 01), and the elementary gates that they are lowered to.
+use mathlib.Core.Bool.{Bool}
 use mathlib.Core.Logic.{_≢_}
 use mathlib.Core.List.{List, [], _∷_, _++_, map}
 use Prim.Native.Nat.{ℕ, suc, _<_}
+use lib.Dec.{eqb}
 use lib.ListN.{getD}
 use Rattle.pauli.specs.Gates.{Gate, gateH, gateX, gateZ, gateS, gateSdg, gateCnot, gateCz, Valid}
 pub use Rattle.convert.specs.declared.gate.GateKind.the-variants.{the-data as GateKind, H as KindH, X as KindX, Z as KindZ, S as KindS, Sdg as KindSdg, T as KindT, Tdg as KindTdg, Cnot as KindCnot, Cz as KindCz, Ccx as KindCcx, Ccz as KindCcz, Measure as KindMeasure, Y as KindY, Sx as KindSx, Swap as KindSwap, Cy as KindCy, Unsupported}
+pub use Rattle.convert.specs.declared.gate.Shape.the-variants.{the-data as Shape, None as NoShape, One as OneQubit, Two as TwoQubits, Three as ThreeQubits, Measured}
 pub use Rattle.convert.specs.declared.cap.Cap.the-variants.{the-data as Cap, None as NoCap, AtMost}
 
 -- four words: kind, then operands in declared order, the rest ignored
@@ -32,25 +35,36 @@ kinds =
 unfoldable pub kindOf : ℕ → GateKind
 kindOf k = getD kinds k Unsupported
 
--- how many qubits a kind has; 4 stands for measure, which has one and a classical bit
-abbrev pub arityOf : GateKind → ℕ
-arityOf KindH = 1
-arityOf KindX = 1
-arityOf KindZ = 1
-arityOf KindS = 1
-arityOf KindSdg = 1
-arityOf KindT = 1
-arityOf KindTdg = 1
-arityOf KindCnot = 2
-arityOf KindCz = 2
-arityOf KindCcx = 3
-arityOf KindCcz = 3
-arityOf KindMeasure = 4
-arityOf KindY = 1
-arityOf KindSx = 1
-arityOf KindSwap = 2
-arityOf KindCy = 2
-arityOf Unsupported = 0
+-- what operands a kind has: so many qubits, or one and a classical bit; what is not supported has none
+abbrev pub shapeOf : GateKind → Shape
+shapeOf KindH = OneQubit
+shapeOf KindX = OneQubit
+shapeOf KindZ = OneQubit
+shapeOf KindS = OneQubit
+shapeOf KindSdg = OneQubit
+shapeOf KindT = OneQubit
+shapeOf KindTdg = OneQubit
+shapeOf KindCnot = TwoQubits
+shapeOf KindCz = TwoQubits
+shapeOf KindCcx = ThreeQubits
+shapeOf KindCcz = ThreeQubits
+shapeOf KindMeasure = Measured
+shapeOf KindY = OneQubit
+shapeOf KindSx = OneQubit
+shapeOf KindSwap = TwoQubits
+shapeOf KindCy = TwoQubits
+shapeOf Unsupported = NoShape
+
+-- the shapes by number, as they are declared
+abbrev pub shapeNumber : Shape → ℕ
+shapeNumber NoShape = 0
+shapeNumber OneQubit = 1
+shapeNumber TwoQubits = 2
+shapeNumber ThreeQubits = 3
+shapeNumber Measured = 4
+
+abbrev pub hasShape : GateKind → Shape → Bool
+hasShape k s = eqb (shapeNumber (shapeOf k)) (shapeNumber s)
 
 -- ---- lowering
 

@@ -2,6 +2,7 @@
 
 use crate::cap::Cap;
 use crate::gate::GateKind;
+use crate::gate::Shape;
 use arena::Checked;
 use arena::Header;
 use arena::MAX_CBITS;
@@ -39,19 +40,18 @@ fn check_operand(checked: Checked, n: u32, i: u64, q: u32) -> Checked
 fn check_qubits(checked: Checked, n: u32, i: u64, kind: GateKind, a: u32, b: u32, c: u32) -> Checked
     ensures { λ r. ⌜ r ≡ operandsChecked checked n i [] (qubitsOf kind a b c) ⌝ }
 {
-    let arity = kind.arity();
-    if arity == 0 {
+    if kind.has_shape(Shape::None) {
         return checked;
     }
     let first = check_operand(checked, n, i, a);
-    if (arity == 1) | (arity == 4) {
+    if kind.has_shape(Shape::One) | kind.has_shape(Shape::Measured) {
         return first;
     }
     let second = check_operand(first, n, i, b).refuse_if(
         b == a,
         PbcError::RepeatedOperand(i, b as u64),
     );
-    if arity == 2 {
+    if kind.has_shape(Shape::Two) {
         return second;
     }
     check_operand(second, n, i, c).refuse_if(
@@ -75,11 +75,11 @@ fn check_record(
 {
     let kind = GateKind::of(number);
     let known = checked.refuse_if(
-        kind.arity() == 0,
+        kind.has_shape(Shape::None),
         PbcError::UnsupportedGate(i, number as u64),
     );
     check_qubits(known, n, i, kind, a, b, c).refuse_if(
-        (kind.arity() == 4) & (cbits <= b),
+        kind.has_shape(Shape::Measured) & (cbits <= b),
         PbcError::ClassicalBitOutOfRange(i, b as u64),
     )
 }
@@ -88,11 +88,12 @@ fn check_record(
 fn is_sound(n: u32, cbits: u32, number: u32, a: u32, b: u32, c: u32) -> bool
     ensures { λ r. ⌜ (r ≡ true → ((checked : Checked) (i : ℕ) → recordChecked checked n cbits i (recordOf number a b c) ≡ checked)) ⌝ }
 {
-    let arity = GateKind::of(number).arity();
-    let first = !(arity == 0) & (a < n);
-    let second = ((b < n) & !(b == a)) | !((arity == 2) | (arity == 3));
-    let third = ((c < n) & (!(c == a) & !(c == b))) | !(arity == 3);
-    let target = (b < cbits) | !(arity == 4);
+    let kind = GateKind::of(number);
+    let three = kind.has_shape(Shape::Three);
+    let first = !kind.has_shape(Shape::None) & (a < n);
+    let second = ((b < n) & !(b == a)) | !(kind.has_shape(Shape::Two) | three);
+    let third = ((c < n) & (!(c == a) & !(c == b))) | !three;
+    let target = (b < cbits) | !kind.has_shape(Shape::Measured);
     (first & second) & (third & target)
 }
 
@@ -152,7 +153,7 @@ fn any_doubly(gates: &[u32]) -> bool
     let mut found = false;
     let mut i: usize = 0;
     while i < count {
-        found = found | (GateKind::of(gates[4 * i]).arity() == 3);
+        found = found | GateKind::of(gates[4 * i]).has_shape(Shape::Three);
         i += 1;
     }
     found

@@ -13,6 +13,8 @@ ghost use Prim.Native.Nat.{_+_, _*_, _/_, _<_, _≤_};
 ghost use lib.ListN.{length};
 ghost use Rattle.pauli.specs.Table.{start};
 ghost use Rattle.convert.specs.Records.{AtMost, lowerAs, AllProper, records};
+ghost use Rattle.arena.specs.Limits.{maxQubits};
+ghost use Rattle.convert.specs.Conversion.{maxGateWords};
 ghost use Rattle.convert.specs.Planes.{partWords};
 ghost use Rattle.convert.specs.Code.Raw.{needed, costOf, costs, isCapped, refreshed, summed, planesFor, Decided, Fits, countFor, plainLast, needsLast};
 
@@ -77,7 +79,7 @@ fn add(flushed: bool, k: Needed, c: Needed) -> Needed
 }
 
 fn refresh(planes: &mut [u64], n: usize, l: usize, flushed: bool)
-    requires { ⌜ (l ≡ partWords n) × ((n + n) * (l + l) ≤ length (now planes)) × (n ≤ 256) ⌝ }
+    requires { ⌜ (l ≡ partWords n) × ((n + n) * (l + l) ≤ length (now planes)) × (n ≤ maxQubits) ⌝ }
     ensures { λ _. ⌜ now (planes .exit) ≡ refreshed flushed n l (now (planes .entry)) ⌝ }
 {
     if !flushed {
@@ -98,7 +100,7 @@ fn decide_under(
     d: usize,
 ) -> bool
     requires { ⌜ AllProper n (b + 1) (lowerAs kind a b d) ⌝ }
-    requires { ⌜ (l ≡ partWords n) × ((n + n) * (l + l) ≤ length (now planes)) × (n ≤ 256) ⌝ }
+    requires { ⌜ (l ≡ partWords n) × ((n + n) * (l + l) ≤ length (now planes)) × (n ≤ maxQubits) ⌝ }
     ensures { λ r. ⌜ Decided n (AtMost most) kind a b d (now (planes .entry)) r (now (planes .exit)) ⌝ }
 {
     if kind.tests() == 0 {
@@ -122,7 +124,7 @@ pub(crate) fn decide(
     d: usize,
 ) -> bool
     requires { ⌜ AllProper n (b + 1) (lowerAs kind a b d) ⌝ }
-    requires { ⌜ (l ≡ partWords n) × (isCapped cap ≡ true → (n + n) * (l + l) ≤ length (now planes)) × (n ≤ 256) ⌝ }
+    requires { ⌜ (l ≡ partWords n) × (isCapped cap ≡ true → (n + n) * (l + l) ≤ length (now planes)) × (n ≤ maxQubits) ⌝ }
     ensures { λ r. ⌜ Decided n cap kind a b d (now (planes .entry)) r (now (planes .exit)) ⌝ }
 {
     match cap {
@@ -133,7 +135,7 @@ pub(crate) fn decide(
 
 // Under a cap, the planes as at the start.
 pub(crate) fn prepare(planes: &mut [u64], n: usize, l: usize, cap: Cap)
-    requires { ⌜ (l ≡ partWords n) × (isCapped cap ≡ true → (n + n) * (l + l) ≤ length (now planes)) × (n ≤ 256) ⌝ }
+    requires { ⌜ (l ≡ partWords n) × (isCapped cap ≡ true → (n + n) * (l + l) ≤ length (now planes)) × (n ≤ maxQubits) ⌝ }
     ensures { λ _. ⌜ now (planes .exit) ≡ planesFor cap n (start n) (now (planes .entry)) ⌝ }
 {
     if !cap.is_capped() {
@@ -143,7 +145,7 @@ pub(crate) fn prepare(planes: &mut [u64], n: usize, l: usize, cap: Cap)
 }
 
 fn first(n: usize) -> Needed
-    requires { ⌜ n ≤ 256 ⌝ }
+    requires { ⌜ n ≤ maxQubits ⌝ }
     ensures { λ r. ⌜ r ≡ needed (1 + 2 * n) 0 0 0 ⌝ }
 {
     of(1 + 2 * (n as u32), 0, 0, 0)
@@ -151,7 +153,7 @@ fn first(n: usize) -> Needed
 
 // The most that the conversion can need: under a cap, as if all gates were pending at the end and then flushed. Without one it is what it needs.
 pub(crate) fn sum_records(n: usize, cap: Cap, gates: &[u32]) -> Needed
-    requires { ⌜ (n ≤ 256) × (length (now gates) ≤ 262144) ⌝ }
+    requires { ⌜ (n ≤ maxQubits) × (length (now gates) ≤ maxGateWords) ⌝ }
     ensures { λ r. ⌜ r ≡ costs (isCapped cap) (summed (needed (1 + 2 * n) 0 0 0) (records (now (gates .entry)))) (needed 0 0 0 0) ⌝ }
 {
     let count = gates.len() / 4;
@@ -173,7 +175,7 @@ pub(crate) fn count_records(
     gates: &[u32],
 ) -> Needed
     requires { ⌜ Fits n (now gates) ⌝ }
-    requires { ⌜ (l ≡ partWords n) × ((n + n) * (l + l) ≤ length (now planes)) × (n ≤ 256) × (length (now gates) ≤ 262144) ⌝ }
+    requires { ⌜ (l ≡ partWords n) × ((n + n) * (l + l) ≤ length (now planes)) × (n ≤ maxQubits) × (length (now gates) ≤ maxGateWords) ⌝ }
     ensures { λ r. ⌜ r ≡ countFor (plainLast n (AtMost most) (now (gates .entry))) (needsLast n (AtMost most) (now (gates .entry))) ⌝ }
     ensures { λ r. ⌜ now (planes .exit) ≡ planesFor (AtMost most) n (plainLast n (AtMost most) (now (gates .entry)) .table) (now (planes .entry)) ⌝ }
 {

@@ -4,18 +4,17 @@ use crate::frame::push;
 use crate::gate::GateKind;
 use crate::gate::kind_at;
 use crate::gate::operand_at;
-use arena::OPERATION_WORDS;
+use arena::put_operation;
 ghost use mathlib.Core.Path.{_≡_};
 ghost use mathlib.Core.List.{[], _∷_};
 ghost use Prim.Native.Nat.{_+_, _*_, _/_, _<_, _≤_};
 ghost use lib.ListN.{length};
 ghost use lib.Seq.{sets};
 ghost use Rattle.pauli.specs.Gates.{gateH, gateX, gateZ, gateS, gateSdg, gateCnot, gateCz};
-ghost use Rattle.arena.specs.Limits.{operationWords};
+ghost use Rattle.arena.specs.Limits.{maxQubits, maxNodes, maxOperations, nodeWords, operationWords};
 ghost use Rattle.arena.specs.Operations.{rotateWords};
-ghost use Rattle.arena.specs.Builder.{overlay, imageWords, startFrame};
 ghost use Rattle.convert.specs.Words.{idX, idZ};
-ghost use Rattle.convert.specs.Code.Raw.{writing, putJoint, FlushReady, Flushed, recordGates, gatesOver};
+ghost use Rattle.convert.specs.Code.Raw.{maxWord, writing, putJoint, FlushReady, Flushed, recordGates, gatesOver};
 
 /// The nodes and operations used.
 pub struct Used {
@@ -29,37 +28,18 @@ pub(crate) fn made(nodes: u32, operations: u32) -> Used
     Used { nodes, operations }
 }
 
-// The words of an operation; the count after it.
-pub(crate) fn put_operation(
-    operations: &mut [u32],
-    index: u32,
-    first: u32,
-    axis: u32,
-    measurement: u32,
-    target: u32,
-) -> u32
-    requires { ⌜ (index < 65536) × (4 * index + 4 ≤ length (now operations)) ⌝ }
-    ensures { λ r. ⌜ (r ≡ index + 1) × (now (operations .exit) ≡ sets (now (operations .entry)) (operationWords * index) (first ∷ axis ∷ measurement ∷ target ∷ [])) ⌝ }
-{
-    let at = OPERATION_WORDS * (index as usize);
-    operations[at] = first;
-    operations[at + 1] = axis;
-    operations[at + 2] = measurement;
-    operations[at + 3] = target;
-    index + 1
-}
-
-// A rotation by so many eighths.
+// A rotation by so many eighths; the count of operations after it.
 pub(crate) fn put_rotation(operations: &mut [u32], index: u32, axis: u32, angle: u32) -> u32
-    requires { ⌜ (index < 65536) × (4 * index + 4 ≤ length (now operations)) × (angle < 8) ⌝ }
+    requires { ⌜ (index < maxOperations) × (operationWords * index + operationWords ≤ length (now operations)) × (angle < 8) ⌝ }
     ensures { λ r. ⌜ (r ≡ index + 1) × (now (operations .exit) ≡ sets (now (operations .entry)) (operationWords * index) (rotateWords axis angle)) ⌝ }
 {
-    put_operation(operations, index, 4 * angle, axis, 0, 0)
+    put_operation(operations, index, 4 * angle, axis, 0, 0);
+    index + 1
 }
 
 // The word of the node X of qubit q.
 fn id_x(q: usize) -> u32
-    requires { ⌜ q < 256 ⌝ }
+    requires { ⌜ q < maxQubits ⌝ }
     ensures { λ r. ⌜ r ≡ idX q ⌝ }
 {
     4 * (1 + 2 * (q as u32))
@@ -67,7 +47,7 @@ fn id_x(q: usize) -> u32
 
 // The word of the node Z of qubit q.
 fn id_z(q: usize) -> u32
-    requires { ⌜ q < 256 ⌝ }
+    requires { ⌜ q < maxQubits ⌝ }
     ensures { λ r. ⌜ r ≡ idZ q ⌝ }
 {
     4 * (2 + 2 * (q as u32))
@@ -75,8 +55,10 @@ fn id_z(q: usize) -> u32
 
 // Two words and their product, turned about by 2, 2 and -2.
 fn put_joint(w: Used, nodes: &mut [u32], operations: &mut [u32], left: u32, right: u32) -> Used
-    requires { ⌜ (w .nodes < 65536) × (2 * w .nodes + 2 ≤ length (now nodes)) × (w .operations + 3 ≤ 65536) × (4 * (w .operations + 3) ≤ length (now operations)) × (left < 262144) ⌝ }
-    ensures { λ r. ⌜ writing (r .nodes) (now (nodes .exit)) (r .operations) (now (operations .exit)) ≡ putJoint left right (writing (w .nodes) (now (nodes .entry)) (w .operations) (now (operations .entry))) ⌝ }
+    requires { ⌜ (w .nodes < maxNodes) × (nodeWords * w .nodes + nodeWords ≤ length (now nodes))
+        × (w .operations + 3 ≤ maxOperations) × (operationWords * (w .operations + 3) ≤ length (now operations)) × (left < maxWord) ⌝ }
+    ensures { λ r. ⌜ writing (r .nodes) (now (nodes .exit)) (r .operations) (now (operations .exit))
+        ≡ putJoint left right (writing (w .nodes) (now (nodes .entry)) (w .operations) (now (operations .entry))) ⌝ }
 {
     let joint = 4 * w.nodes;
     let count = push(w.nodes, nodes, left, right);
@@ -89,7 +71,8 @@ fn put_joint(w: Used, nodes: &mut [u32], operations: &mut [u32], left: u32, righ
 
 fn flush_h(w: Used, nodes: &mut [u32], operations: &mut [u32], n: usize, q: usize) -> Used
     requires { ⌜ FlushReady n (gateH q ∷ []) (w .nodes) (now nodes) (w .operations) (now operations) ⌝ }
-    ensures { λ r. ⌜ Flushed (gateH q ∷ []) (w .nodes) (now (nodes .entry)) (w .operations) (now (operations .entry)) (r .nodes) (now (nodes .exit)) (r .operations) (now (operations .exit)) ⌝ }
+    ensures { λ r. ⌜ Flushed (gateH q ∷ []) (w .nodes) (now (nodes .entry)) (w .operations) (now (operations .entry))
+        (r .nodes) (now (nodes .exit)) (r .operations) (now (operations .exit)) ⌝ }
 {
     let z = id_z(q);
     let first = put_rotation(operations, w.operations, z, 2);
@@ -99,28 +82,32 @@ fn flush_h(w: Used, nodes: &mut [u32], operations: &mut [u32], n: usize, q: usiz
 
 fn flush_x(w: Used, nodes: &mut [u32], operations: &mut [u32], n: usize, q: usize) -> Used
     requires { ⌜ FlushReady n (gateX q ∷ []) (w .nodes) (now nodes) (w .operations) (now operations) ⌝ }
-    ensures { λ r. ⌜ Flushed (gateX q ∷ []) (w .nodes) (now (nodes .entry)) (w .operations) (now (operations .entry)) (r .nodes) (now (nodes .exit)) (r .operations) (now (operations .exit)) ⌝ }
+    ensures { λ r. ⌜ Flushed (gateX q ∷ []) (w .nodes) (now (nodes .entry)) (w .operations) (now (operations .entry))
+        (r .nodes) (now (nodes .exit)) (r .operations) (now (operations .exit)) ⌝ }
 {
     made(w.nodes, put_rotation(operations, w.operations, id_x(q), 4))
 }
 
 fn flush_z(w: Used, nodes: &mut [u32], operations: &mut [u32], n: usize, q: usize) -> Used
     requires { ⌜ FlushReady n (gateZ q ∷ []) (w .nodes) (now nodes) (w .operations) (now operations) ⌝ }
-    ensures { λ r. ⌜ Flushed (gateZ q ∷ []) (w .nodes) (now (nodes .entry)) (w .operations) (now (operations .entry)) (r .nodes) (now (nodes .exit)) (r .operations) (now (operations .exit)) ⌝ }
+    ensures { λ r. ⌜ Flushed (gateZ q ∷ []) (w .nodes) (now (nodes .entry)) (w .operations) (now (operations .entry))
+        (r .nodes) (now (nodes .exit)) (r .operations) (now (operations .exit)) ⌝ }
 {
     made(w.nodes, put_rotation(operations, w.operations, id_z(q), 4))
 }
 
 fn flush_s(w: Used, nodes: &mut [u32], operations: &mut [u32], n: usize, q: usize) -> Used
     requires { ⌜ FlushReady n (gateS q ∷ []) (w .nodes) (now nodes) (w .operations) (now operations) ⌝ }
-    ensures { λ r. ⌜ Flushed (gateS q ∷ []) (w .nodes) (now (nodes .entry)) (w .operations) (now (operations .entry)) (r .nodes) (now (nodes .exit)) (r .operations) (now (operations .exit)) ⌝ }
+    ensures { λ r. ⌜ Flushed (gateS q ∷ []) (w .nodes) (now (nodes .entry)) (w .operations) (now (operations .entry))
+        (r .nodes) (now (nodes .exit)) (r .operations) (now (operations .exit)) ⌝ }
 {
     made(w.nodes, put_rotation(operations, w.operations, id_z(q), 2))
 }
 
 fn flush_sdg(w: Used, nodes: &mut [u32], operations: &mut [u32], n: usize, q: usize) -> Used
     requires { ⌜ FlushReady n (gateSdg q ∷ []) (w .nodes) (now nodes) (w .operations) (now operations) ⌝ }
-    ensures { λ r. ⌜ Flushed (gateSdg q ∷ []) (w .nodes) (now (nodes .entry)) (w .operations) (now (operations .entry)) (r .nodes) (now (nodes .exit)) (r .operations) (now (operations .exit)) ⌝ }
+    ensures { λ r. ⌜ Flushed (gateSdg q ∷ []) (w .nodes) (now (nodes .entry)) (w .operations) (now (operations .entry))
+        (r .nodes) (now (nodes .exit)) (r .operations) (now (operations .exit)) ⌝ }
 {
     made(w.nodes, put_rotation(operations, w.operations, id_z(q), 6))
 }
@@ -134,7 +121,8 @@ fn flush_cnot(
     t: usize,
 ) -> Used
     requires { ⌜ FlushReady n (gateCnot c t ∷ []) (w .nodes) (now nodes) (w .operations) (now operations) ⌝ }
-    ensures { λ r. ⌜ Flushed (gateCnot c t ∷ []) (w .nodes) (now (nodes .entry)) (w .operations) (now (operations .entry)) (r .nodes) (now (nodes .exit)) (r .operations) (now (operations .exit)) ⌝ }
+    ensures { λ r. ⌜ Flushed (gateCnot c t ∷ []) (w .nodes) (now (nodes .entry)) (w .operations) (now (operations .entry))
+        (r .nodes) (now (nodes .exit)) (r .operations) (now (operations .exit)) ⌝ }
 {
     put_joint(w, nodes, operations, id_z(c), id_x(t))
 }
@@ -148,9 +136,65 @@ fn flush_cz(
     t: usize,
 ) -> Used
     requires { ⌜ FlushReady n (gateCz c t ∷ []) (w .nodes) (now nodes) (w .operations) (now operations) ⌝ }
-    ensures { λ r. ⌜ Flushed (gateCz c t ∷ []) (w .nodes) (now (nodes .entry)) (w .operations) (now (operations .entry)) (r .nodes) (now (nodes .exit)) (r .operations) (now (operations .exit)) ⌝ }
+    ensures { λ r. ⌜ Flushed (gateCz c t ∷ []) (w .nodes) (now (nodes .entry)) (w .operations) (now (operations .entry))
+        (r .nodes) (now (nodes .exit)) (r .operations) (now (operations .exit)) ⌝ }
 {
     put_joint(w, nodes, operations, id_z(c), id_z(t))
+}
+
+// ---- a record that stands for several gates, as specs/Records lowers it
+
+fn flush_y(w: Used, nodes: &mut [u32], operations: &mut [u32], n: usize, q: usize) -> Used
+    requires { ⌜ FlushReady n (gateZ q ∷ gateX q ∷ []) (w .nodes) (now nodes) (w .operations) (now operations) ⌝ }
+    ensures { λ r. ⌜ Flushed (gateZ q ∷ gateX q ∷ []) (w .nodes) (now (nodes .entry)) (w .operations) (now (operations .entry))
+        (r .nodes) (now (nodes .exit)) (r .operations) (now (operations .exit)) ⌝ }
+{
+    let w1 = flush_z(w, nodes, operations, n, q);
+    flush_x(w1, nodes, operations, n, q)
+}
+
+fn flush_sx(w: Used, nodes: &mut [u32], operations: &mut [u32], n: usize, q: usize) -> Used
+    requires { ⌜ FlushReady n (gateH q ∷ gateS q ∷ gateH q ∷ []) (w .nodes) (now nodes) (w .operations) (now operations) ⌝ }
+    ensures { λ r. ⌜ Flushed (gateH q ∷ gateS q ∷ gateH q ∷ []) (w .nodes) (now (nodes .entry)) (w .operations) (now (operations .entry))
+        (r .nodes) (now (nodes .exit)) (r .operations) (now (operations .exit)) ⌝ }
+{
+    let w1 = flush_h(w, nodes, operations, n, q);
+    let w2 = flush_s(w1, nodes, operations, n, q);
+    flush_h(w2, nodes, operations, n, q)
+}
+
+fn flush_swap(
+    w: Used,
+    nodes: &mut [u32],
+    operations: &mut [u32],
+    n: usize,
+    c: usize,
+    t: usize,
+) -> Used
+    requires { ⌜ FlushReady n (gateCnot c t ∷ gateCnot t c ∷ gateCnot c t ∷ []) (w .nodes) (now nodes) (w .operations) (now operations) ⌝ }
+    ensures { λ r. ⌜ Flushed (gateCnot c t ∷ gateCnot t c ∷ gateCnot c t ∷ []) (w .nodes) (now (nodes .entry)) (w .operations) (now (operations .entry))
+        (r .nodes) (now (nodes .exit)) (r .operations) (now (operations .exit)) ⌝ }
+{
+    let w1 = flush_cnot(w, nodes, operations, n, c, t);
+    let w2 = flush_cnot(w1, nodes, operations, n, t, c);
+    flush_cnot(w2, nodes, operations, n, c, t)
+}
+
+fn flush_cy(
+    w: Used,
+    nodes: &mut [u32],
+    operations: &mut [u32],
+    n: usize,
+    c: usize,
+    t: usize,
+) -> Used
+    requires { ⌜ FlushReady n (gateSdg t ∷ gateCnot c t ∷ gateS t ∷ []) (w .nodes) (now nodes) (w .operations) (now operations) ⌝ }
+    ensures { λ r. ⌜ Flushed (gateSdg t ∷ gateCnot c t ∷ gateS t ∷ []) (w .nodes) (now (nodes .entry)) (w .operations) (now (operations .entry))
+        (r .nodes) (now (nodes .exit)) (r .operations) (now (operations .exit)) ⌝ }
+{
+    let w1 = flush_sdg(w, nodes, operations, n, t);
+    let w2 = flush_cnot(w1, nodes, operations, n, c, t);
+    flush_s(w2, nodes, operations, n, t)
 }
 
 // The frame gates of a record.
@@ -164,7 +208,8 @@ fn flush_record(
     b: usize,
 ) -> Used
     requires { ⌜ FlushReady n (recordGates kind a b) (w .nodes) (now nodes) (w .operations) (now operations) ⌝ }
-    ensures { λ r. ⌜ Flushed (recordGates kind a b) (w .nodes) (now (nodes .entry)) (w .operations) (now (operations .entry)) (r .nodes) (now (nodes .exit)) (r .operations) (now (operations .exit)) ⌝ }
+    ensures { λ r. ⌜ Flushed (recordGates kind a b) (w .nodes) (now (nodes .entry)) (w .operations) (now (operations .entry))
+        (r .nodes) (now (nodes .exit)) (r .operations) (now (operations .exit)) ⌝ }
 {
     match kind {
         GateKind::H => flush_h(w, nodes, operations, n, a),
@@ -174,25 +219,10 @@ fn flush_record(
         GateKind::Sdg => flush_sdg(w, nodes, operations, n, a),
         GateKind::Cnot => flush_cnot(w, nodes, operations, n, a, b),
         GateKind::Cz => flush_cz(w, nodes, operations, n, a, b),
-        GateKind::Y => {
-            let w1 = flush_z(w, nodes, operations, n, a);
-            flush_x(w1, nodes, operations, n, a)
-        }
-        GateKind::Sx => {
-            let w1 = flush_h(w, nodes, operations, n, a);
-            let w2 = flush_s(w1, nodes, operations, n, a);
-            flush_h(w2, nodes, operations, n, a)
-        }
-        GateKind::Swap => {
-            let w1 = flush_cnot(w, nodes, operations, n, a, b);
-            let w2 = flush_cnot(w1, nodes, operations, n, b, a);
-            flush_cnot(w2, nodes, operations, n, a, b)
-        }
-        GateKind::Cy => {
-            let w1 = flush_sdg(w, nodes, operations, n, b);
-            let w2 = flush_cnot(w1, nodes, operations, n, a, b);
-            flush_s(w2, nodes, operations, n, b)
-        }
+        GateKind::Y => flush_y(w, nodes, operations, n, a),
+        GateKind::Sx => flush_sx(w, nodes, operations, n, a),
+        GateKind::Swap => flush_swap(w, nodes, operations, n, a, b),
+        GateKind::Cy => flush_cy(w, nodes, operations, n, a, b),
         _ => w,
     }
 }
@@ -209,7 +239,8 @@ pub(crate) fn flush_records(
 ) -> Used
     requires { ⌜ FlushReady n (gatesOver (now gates) from count) (w0 .nodes) (now nodes) (w0 .operations) (now operations) ⌝ }
     requires { ⌜ from + count ≤ length (now gates) / 4 ⌝ }
-    ensures { λ r. ⌜ Flushed (gatesOver (now (gates .entry)) from count) (w0 .nodes) (now (nodes .entry)) (w0 .operations) (now (operations .entry)) (r .nodes) (now (nodes .exit)) (r .operations) (now (operations .exit)) ⌝ }
+    ensures { λ r. ⌜ Flushed (gatesOver (now (gates .entry)) from count) (w0 .nodes) (now (nodes .entry)) (w0 .operations) (now (operations .entry))
+        (r .nodes) (now (nodes .exit)) (r .operations) (now (operations .exit)) ⌝ }
 {
     let mut w = w0;
     let mut k: usize = 0;
@@ -221,26 +252,4 @@ pub(crate) fn flush_records(
         k += 1;
     }
     w
-}
-
-// The words of every other node from `first` on.
-fn image_words(frame: &mut [u32], first: u32, qubits: u32)
-    requires { ⌜ (first ≤ 2) × (qubits ≤ 256) × (qubits ≤ length (now frame)) ⌝ }
-    ensures { λ _. ⌜ now (frame .exit) ≡ overlay (imageWords first qubits) (now (frame .entry)) ⌝ }
-{
-    let mut qubit = 0;
-    while qubit < qubits {
-        frame[qubit as usize] = 4 * (first + 2 * qubit);
-        qubit += 1;
-    }
-}
-
-// The frame as at the start.
-pub(crate) fn start_frame(frame: &mut [u32], qubits: u32)
-    requires { ⌜ (qubits ≤ 256) × (2 * qubits ≤ length (now frame)) ⌝ }
-    ensures { λ _. ⌜ now (frame .exit) ≡ overlay (startFrame qubits) (now (frame .entry)) ⌝ }
-{
-    image_words(frame, 1, qubits);
-    let half = qubits as usize;
-    image_words(&mut frame[half..], 2, qubits);
 }

@@ -10,11 +10,12 @@ ghost use mathlib.Core.List.{[], _∷_};
 ghost use Prim.Native.Nat.{_+_, _*_, _<_, _≤_};
 ghost use lib.ListN.{length, getD, set};
 ghost use Rattle.pauli.specs.Gates.{gateH, gateX, gateZ, gateS, gateSdg, gateCnot, gateCz};
+ghost use Rattle.arena.specs.Limits.{maxNodes, nodeWords};
 ghost use Rattle.arena.specs.References.{scaledWord};
+ghost use Rattle.arena.specs.Nodes.{productWord};
 ghost use Rattle.convert.specs.Types.{MinusOne};
-ghost use Rattle.arena.specs.Builder.{withNodes};
 ghost use Rattle.convert.specs.Frame.{frameGates, cliffordStep};
-ghost use Rattle.convert.specs.Code.Raw.{Multiplied, Ready, Ran, recordGates};
+ghost use Rattle.convert.specs.Code.Raw.{maxWord, ProductPut, FrameReady, Ran, recordGates};
 
 /// What `push_output_clifford` answers.
 pub enum FramePushed {
@@ -50,26 +51,13 @@ pub fn push_output_clifford(
         a as usize,
         b as usize,
     );
-    FramePushed::Made(with_nodes(header, count))
-}
-
-fn with_nodes(header: Header, nodes: u32) -> Header
-    ensures { λ r. ⌜ r ≡ withNodes nodes header ⌝ }
-{
-    Header {
-        qubits: header.qubits,
-        cbits: header.cbits,
-        owner: header.owner,
-        nodes,
-        operations: header.operations,
-        measurements: header.measurements,
-    }
+    FramePushed::Made(header.with_nodes(count))
 }
 
 // A product node; the count after it.
 pub(crate) fn push(count: u32, nodes: &mut [u32], left: u32, right: u32) -> u32
-    requires { ⌜ (count < 65536) × (2 * count + 2 ≤ length (now nodes)) × (left < 262144) ⌝ }
-    ensures { λ r. ⌜ (r ≡ count + 1) × (now (nodes .exit) ≡ set (set (now (nodes .entry)) (2 * count) (2 + 4 * left)) (2 * count + 1) right) ⌝ }
+    requires { ⌜ (count < maxNodes) × (nodeWords * count + nodeWords ≤ length (now nodes)) × (left < maxWord) ⌝ }
+    ensures { λ r. ⌜ (r ≡ count + 1) × (now (nodes .exit) ≡ set (set (now (nodes .entry)) (nodeWords * count) (productWord left)) (nodeWords * count + 1) right) ⌝ }
 {
     let k = 2 * (count as usize);
     nodes[k] = 2 + 4 * left;
@@ -87,9 +75,9 @@ fn multiply(
     right: usize,
     phase: u32,
 ) -> u32
-    requires { ⌜ (count < 65536) × (2 * count + 2 ≤ length (now nodes)) × (getD (now frame) left 0 < 262144) × (phase < 4) ⌝ }
+    requires { ⌜ (count < maxNodes) × (nodeWords * count + nodeWords ≤ length (now nodes)) × (getD (now frame) left 0 < maxWord) × (phase < 4) ⌝ }
     requires { ⌜ (place < length (now frame)) × (left < length (now frame)) × (right < length (now frame)) ⌝ }
-    ensures { λ r. ⌜ Multiplied place left right phase count (now (nodes .entry)) (now (frame .entry)) r (now (nodes .exit)) (now (frame .exit)) ⌝ }
+    ensures { λ r. ⌜ ProductPut place left right phase count (now (nodes .entry)) (now (frame .entry)) r (now (nodes .exit)) (now (frame .exit)) ⌝ }
 {
     let l = frame[left];
     let r = frame[right];
@@ -105,7 +93,7 @@ fn minus(w: u32) -> u32
 }
 
 fn gate_h(count: u32, nodes: &mut [u32], frame: &mut [u32], n: usize, q: usize) -> u32
-    requires { ⌜ Ready n (gateH q ∷ []) count (now nodes) (now frame) ⌝ }
+    requires { ⌜ FrameReady n (gateH q ∷ []) count (now nodes) (now frame) ⌝ }
     ensures { λ r. ⌜ Ran n (gateH q ∷ []) count (now (nodes .entry)) (now (frame .entry)) r (now (nodes .exit)) (now (frame .exit)) ⌝ }
 {
     let x = frame[q];
@@ -115,7 +103,7 @@ fn gate_h(count: u32, nodes: &mut [u32], frame: &mut [u32], n: usize, q: usize) 
 }
 
 fn gate_x(count: u32, nodes: &mut [u32], frame: &mut [u32], n: usize, q: usize) -> u32
-    requires { ⌜ Ready n (gateX q ∷ []) count (now nodes) (now frame) ⌝ }
+    requires { ⌜ FrameReady n (gateX q ∷ []) count (now nodes) (now frame) ⌝ }
     ensures { λ r. ⌜ Ran n (gateX q ∷ []) count (now (nodes .entry)) (now (frame .entry)) r (now (nodes .exit)) (now (frame .exit)) ⌝ }
 {
     let w = frame[n + q];
@@ -124,7 +112,7 @@ fn gate_x(count: u32, nodes: &mut [u32], frame: &mut [u32], n: usize, q: usize) 
 }
 
 fn gate_z(count: u32, nodes: &mut [u32], frame: &mut [u32], n: usize, q: usize) -> u32
-    requires { ⌜ Ready n (gateZ q ∷ []) count (now nodes) (now frame) ⌝ }
+    requires { ⌜ FrameReady n (gateZ q ∷ []) count (now nodes) (now frame) ⌝ }
     ensures { λ r. ⌜ Ran n (gateZ q ∷ []) count (now (nodes .entry)) (now (frame .entry)) r (now (nodes .exit)) (now (frame .exit)) ⌝ }
 {
     let w = frame[q];
@@ -133,21 +121,21 @@ fn gate_z(count: u32, nodes: &mut [u32], frame: &mut [u32], n: usize, q: usize) 
 }
 
 fn gate_s(count: u32, nodes: &mut [u32], frame: &mut [u32], n: usize, q: usize) -> u32
-    requires { ⌜ Ready n (gateS q ∷ []) count (now nodes) (now frame) ⌝ }
+    requires { ⌜ FrameReady n (gateS q ∷ []) count (now nodes) (now frame) ⌝ }
     ensures { λ r. ⌜ Ran n (gateS q ∷ []) count (now (nodes .entry)) (now (frame .entry)) r (now (nodes .exit)) (now (frame .exit)) ⌝ }
 {
     multiply(count, nodes, frame, q, q, n + q, 3)
 }
 
 fn gate_sdg(count: u32, nodes: &mut [u32], frame: &mut [u32], n: usize, q: usize) -> u32
-    requires { ⌜ Ready n (gateSdg q ∷ []) count (now nodes) (now frame) ⌝ }
+    requires { ⌜ FrameReady n (gateSdg q ∷ []) count (now nodes) (now frame) ⌝ }
     ensures { λ r. ⌜ Ran n (gateSdg q ∷ []) count (now (nodes .entry)) (now (frame .entry)) r (now (nodes .exit)) (now (frame .exit)) ⌝ }
 {
     multiply(count, nodes, frame, q, q, n + q, 1)
 }
 
 fn gate_cnot(count: u32, nodes: &mut [u32], frame: &mut [u32], n: usize, c: usize, t: usize) -> u32
-    requires { ⌜ Ready n (gateCnot c t ∷ []) count (now nodes) (now frame) ⌝ }
+    requires { ⌜ FrameReady n (gateCnot c t ∷ []) count (now nodes) (now frame) ⌝ }
     ensures { λ r. ⌜ Ran n (gateCnot c t ∷ []) count (now (nodes .entry)) (now (frame .entry)) r (now (nodes .exit)) (now (frame .exit)) ⌝ }
 {
     let next = multiply(count, nodes, frame, c, c, t, 0);
@@ -155,7 +143,7 @@ fn gate_cnot(count: u32, nodes: &mut [u32], frame: &mut [u32], n: usize, c: usiz
 }
 
 fn gate_cz(count: u32, nodes: &mut [u32], frame: &mut [u32], n: usize, c: usize, t: usize) -> u32
-    requires { ⌜ Ready n (gateCz c t ∷ []) count (now nodes) (now frame) ⌝ }
+    requires { ⌜ FrameReady n (gateCz c t ∷ []) count (now nodes) (now frame) ⌝ }
     ensures { λ r. ⌜ Ran n (gateCz c t ∷ []) count (now (nodes .entry)) (now (frame .entry)) r (now (nodes .exit)) (now (frame .exit)) ⌝ }
 {
     let next = multiply(count, nodes, frame, c, c, n + t, 0);
@@ -172,7 +160,7 @@ fn append(
     a: usize,
     b: usize,
 ) -> u32
-    requires { ⌜ Ready n (frameGates kind a b) count (now nodes) (now frame) ⌝ }
+    requires { ⌜ FrameReady n (frameGates kind a b) count (now nodes) (now frame) ⌝ }
     ensures { λ r. ⌜ Ran n (frameGates kind a b) count (now (nodes .entry)) (now (frame .entry)) r (now (nodes .exit)) (now (frame .exit)) ⌝ }
 {
     match kind {
@@ -187,6 +175,43 @@ fn append(
     }
 }
 
+// ---- a record that stands for several gates, as specs/Records lowers it
+
+fn gate_y(count: u32, nodes: &mut [u32], frame: &mut [u32], n: usize, q: usize) -> u32
+    requires { ⌜ FrameReady n (gateZ q ∷ gateX q ∷ []) count (now nodes) (now frame) ⌝ }
+    ensures { λ r. ⌜ Ran n (gateZ q ∷ gateX q ∷ []) count (now (nodes .entry)) (now (frame .entry)) r (now (nodes .exit)) (now (frame .exit)) ⌝ }
+{
+    let c1 = gate_z(count, nodes, frame, n, q);
+    gate_x(c1, nodes, frame, n, q)
+}
+
+fn gate_sx(count: u32, nodes: &mut [u32], frame: &mut [u32], n: usize, q: usize) -> u32
+    requires { ⌜ FrameReady n (gateH q ∷ gateS q ∷ gateH q ∷ []) count (now nodes) (now frame) ⌝ }
+    ensures { λ r. ⌜ Ran n (gateH q ∷ gateS q ∷ gateH q ∷ []) count (now (nodes .entry)) (now (frame .entry)) r (now (nodes .exit)) (now (frame .exit)) ⌝ }
+{
+    let c1 = gate_h(count, nodes, frame, n, q);
+    let c2 = gate_s(c1, nodes, frame, n, q);
+    gate_h(c2, nodes, frame, n, q)
+}
+
+fn gate_swap(count: u32, nodes: &mut [u32], frame: &mut [u32], n: usize, c: usize, t: usize) -> u32
+    requires { ⌜ FrameReady n (gateCnot c t ∷ gateCnot t c ∷ gateCnot c t ∷ []) count (now nodes) (now frame) ⌝ }
+    ensures { λ r. ⌜ Ran n (gateCnot c t ∷ gateCnot t c ∷ gateCnot c t ∷ []) count (now (nodes .entry)) (now (frame .entry)) r (now (nodes .exit)) (now (frame .exit)) ⌝ }
+{
+    let c1 = gate_cnot(count, nodes, frame, n, c, t);
+    let c2 = gate_cnot(c1, nodes, frame, n, t, c);
+    gate_cnot(c2, nodes, frame, n, c, t)
+}
+
+fn gate_cy(count: u32, nodes: &mut [u32], frame: &mut [u32], n: usize, c: usize, t: usize) -> u32
+    requires { ⌜ FrameReady n (gateSdg t ∷ gateCnot c t ∷ gateS t ∷ []) count (now nodes) (now frame) ⌝ }
+    ensures { λ r. ⌜ Ran n (gateSdg t ∷ gateCnot c t ∷ gateS t ∷ []) count (now (nodes .entry)) (now (frame .entry)) r (now (nodes .exit)) (now (frame .exit)) ⌝ }
+{
+    let c1 = gate_sdg(count, nodes, frame, n, t);
+    let c2 = gate_cnot(c1, nodes, frame, n, c, t);
+    gate_s(c2, nodes, frame, n, t)
+}
+
 // The frame gates of a record.
 pub(crate) fn frame_record(
     count: u32,
@@ -197,7 +222,7 @@ pub(crate) fn frame_record(
     a: usize,
     b: usize,
 ) -> u32
-    requires { ⌜ Ready n (recordGates kind a b) count (now nodes) (now frame) ⌝ }
+    requires { ⌜ FrameReady n (recordGates kind a b) count (now nodes) (now frame) ⌝ }
     ensures { λ r. ⌜ Ran n (recordGates kind a b) count (now (nodes .entry)) (now (frame .entry)) r (now (nodes .exit)) (now (frame .exit)) ⌝ }
 {
     match kind {
@@ -208,25 +233,10 @@ pub(crate) fn frame_record(
         GateKind::Sdg => gate_sdg(count, nodes, frame, n, a),
         GateKind::Cnot => gate_cnot(count, nodes, frame, n, a, b),
         GateKind::Cz => gate_cz(count, nodes, frame, n, a, b),
-        GateKind::Y => {
-            let c1 = gate_z(count, nodes, frame, n, a);
-            gate_x(c1, nodes, frame, n, a)
-        }
-        GateKind::Sx => {
-            let c1 = gate_h(count, nodes, frame, n, a);
-            let c2 = gate_s(c1, nodes, frame, n, a);
-            gate_h(c2, nodes, frame, n, a)
-        }
-        GateKind::Swap => {
-            let c1 = gate_cnot(count, nodes, frame, n, a, b);
-            let c2 = gate_cnot(c1, nodes, frame, n, b, a);
-            gate_cnot(c2, nodes, frame, n, a, b)
-        }
-        GateKind::Cy => {
-            let c1 = gate_sdg(count, nodes, frame, n, b);
-            let c2 = gate_cnot(c1, nodes, frame, n, a, b);
-            gate_s(c2, nodes, frame, n, b)
-        }
+        GateKind::Y => gate_y(count, nodes, frame, n, a),
+        GateKind::Sx => gate_sx(count, nodes, frame, n, a),
+        GateKind::Swap => gate_swap(count, nodes, frame, n, a, b),
+        GateKind::Cy => gate_cy(count, nodes, frame, n, a, b),
         _ => count,
     }
 }

@@ -3,7 +3,7 @@
 ghost use mathlib.Core.Path.{_≡_};
 ghost use Prim.Native.Nat.{_+_, _*_, _/_, _<_};
 ghost use lib.ListN.{length, getD};
-ghost use Rattle.convert.specs.Records.{kindOf, arityOf};
+ghost use Rattle.convert.specs.Records.{kindOf, shapeOf, shapeNumber, hasShape};
 ghost use Rattle.convert.specs.Code.Raw.{testsOf, isFrame, frameNodes};
 
 /// What a gate record's first word names. The Rust's names; all numbers that document 01 does not list are `Unsupported`.
@@ -25,6 +25,30 @@ pub enum GateKind {
     Swap,
     Cy,
     Unsupported,
+}
+
+/// The operands of a kind: so many qubits; for measure one, and a classical bit; `None` for what is not supported.
+pub enum Shape {
+    None,
+    One,
+    Two,
+    Three,
+    Measured,
+}
+
+impl Shape {
+    // As they are declared, so that the compiler makes nothing of it.
+    pub(crate) fn number(self) -> u32
+        ensures { λ r. ⌜ r ≡ shapeNumber self ⌝ }
+    {
+        match self {
+            Shape::None => 0,
+            Shape::One => 1,
+            Shape::Two => 2,
+            Shape::Three => 3,
+            Shape::Measured => 4,
+        }
+    }
 }
 
 impl GateKind {
@@ -53,9 +77,9 @@ impl GateKind {
         }
     }
 
-    // How many qubits it has; 4 stands for measure.
-    pub(crate) fn arity(self) -> u32
-        ensures { λ r. ⌜ r ≡ arityOf self ⌝ }
+    /// What operands it has. Promise: `shapeOf`.
+    pub fn shape(self) -> Shape
+        ensures { λ r. ⌜ r ≡ shapeOf self ⌝ }
     {
         match self {
             GateKind::H
@@ -66,12 +90,19 @@ impl GateKind {
             | GateKind::T
             | GateKind::Tdg
             | GateKind::Y
-            | GateKind::Sx => 1,
-            GateKind::Cnot | GateKind::Cz | GateKind::Swap | GateKind::Cy => 2,
-            GateKind::Ccx | GateKind::Ccz => 3,
-            GateKind::Measure => 4,
-            GateKind::Unsupported => 0,
+            | GateKind::Sx => Shape::One,
+            GateKind::Cnot | GateKind::Cz | GateKind::Swap | GateKind::Cy => Shape::Two,
+            GateKind::Ccx | GateKind::Ccz => Shape::Three,
+            GateKind::Measure => Shape::Measured,
+            GateKind::Unsupported => Shape::None,
         }
+    }
+
+    // By number: no branch.
+    pub(crate) fn has_shape(self, shape: Shape) -> bool
+        ensures { λ r. ⌜ r ≡ hasShape self shape ⌝ }
+    {
+        self.shape().number() == shape.number()
     }
 
     // What is tested before a gate: 0 nothing, 1 z of its qubit, 2 the seven products of ccx, 3 those of ccz.

@@ -79,19 +79,10 @@ fn measurement_in(owner: u64, w: u64) -> MeasId
     MeasId::new(owner, low_word(w))
 }
 
-fn bit_in(word: u32) -> Target
-    ensures { λ r. ⌜ r ≡ targetOf word ⌝ }
-{
-    if word == 0 {
-        return Target::None;
-    }
-    Target::Bit(word - 1)
-}
-
 fn target_in(w: u64) -> Target
     ensures { λ r. ⌜ r ≡ targetOf (low w) ⌝ }
 {
-    bit_in(low_word(w))
+    Target::of_word(low_word(w))
 }
 
 // ---- one call: the header answered, or the one before where the call refuses

@@ -17,5 +17,6 @@ pub use convert::to_pbc;
 pub use frame::FramePushed;
 pub use frame::push_output_clifford;
 pub use gate::GateKind;
+pub use gate::Shape;
 pub use later::convert_and_run;
 pub use later::run_calls;

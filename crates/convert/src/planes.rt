@@ -9,6 +9,7 @@ ghost use lib.ListN.{length, set};
 ghost use Rattle.pauli.specs.Gates.{AllValid, gateH, gateS, gateCnot, gateCz};
 ghost use Rattle.pauli.specs.Rows.{Row};
 ghost use Rattle.convert.specs.Records.{AtMost, lowerAs, AllProper};
+ghost use Rattle.arena.specs.Limits.{maxQubits};
 ghost use Rattle.convert.specs.Planes.{partWords, packed};
 ghost use Rattle.convert.specs.Code.Raw.{recordGates, anyExceeds};
 ghost use Rattle.convert.specs.Code.RawPlanes.{Wide, planeRun, xorTo, swapTo, weightTo, picked, joined, planeStep, planeReset, clearTo, sevenAbove};
@@ -81,7 +82,7 @@ fn weigh(planes: &[u64], l: usize, ua: u32, ub: u32, ud: u32, a: usize, b: usize
 }
 
 fn plane_h(planes: &mut [u64], n: usize, l: usize, q: usize)
-    requires { ⌜ (q < n) × ((n + n) * (l + l) ≤ length (now planes)) × (n ≤ 256) ⌝ }
+    requires { ⌜ (q < n) × ((n + n) * (l + l) ≤ length (now planes)) × (n ≤ maxQubits) ⌝ }
     ensures { λ _. ⌜ now (planes .exit) ≡ planeStep l (gateH q) (now (planes .entry)) ⌝ }
 {
     exchange(planes, l, q + q, q + q + 1);
@@ -89,14 +90,14 @@ fn plane_h(planes: &mut [u64], n: usize, l: usize, q: usize)
 
 // s and sdg
 fn plane_s(planes: &mut [u64], n: usize, l: usize, q: usize)
-    requires { ⌜ (q < n) × ((n + n) * (l + l) ≤ length (now planes)) × (n ≤ 256) ⌝ }
+    requires { ⌜ (q < n) × ((n + n) * (l + l) ≤ length (now planes)) × (n ≤ maxQubits) ⌝ }
     ensures { λ _. ⌜ now (planes .exit) ≡ planeStep l (gateS q) (now (planes .entry)) ⌝ }
 {
     xor_into(planes, l, q + q, q + q + 1);
 }
 
 fn plane_cnot(planes: &mut [u64], n: usize, l: usize, c: usize, t: usize)
-    requires { ⌜ (c < n) × (t < n) × ((n + n) * (l + l) ≤ length (now planes)) × (n ≤ 256) ⌝ }
+    requires { ⌜ (c < n) × (t < n) × ((n + n) * (l + l) ≤ length (now planes)) × (n ≤ maxQubits) ⌝ }
     ensures { λ _. ⌜ now (planes .exit) ≡ planeStep l (gateCnot c t) (now (planes .entry)) ⌝ }
 {
     xor_into(planes, l, c + c, t + t);
@@ -104,7 +105,7 @@ fn plane_cnot(planes: &mut [u64], n: usize, l: usize, c: usize, t: usize)
 }
 
 fn plane_cz(planes: &mut [u64], n: usize, l: usize, c: usize, t: usize)
-    requires { ⌜ (c < n) × (t < n) × ((n + n) * (l + l) ≤ length (now planes)) × (n ≤ 256) ⌝ }
+    requires { ⌜ (c < n) × (t < n) × ((n + n) * (l + l) ≤ length (now planes)) × (n ≤ maxQubits) ⌝ }
     ensures { λ _. ⌜ now (planes .exit) ≡ planeStep l (gateCz c t) (now (planes .entry)) ⌝ }
 {
     xor_into(planes, l, c + c, t + t + 1);
@@ -131,7 +132,7 @@ fn bit(k: usize) -> u64
 
 // X and Z of qubit q.
 fn mark(planes: &mut [u64], n: usize, l: usize, q: usize)
-    requires { ⌜ (q < n) × (q / 64 < l) × ((n + n) * (l + l) ≤ length (now planes)) × (n ≤ 256) ⌝ }
+    requires { ⌜ (q < n) × (q / 64 < l) × ((n + n) * (l + l) ≤ length (now planes)) × (n ≤ maxQubits) ⌝ }
     ensures { λ _. ⌜ now (planes .exit) ≡ set (set (now (planes .entry)) ((q + q) * (l + l) + q / 64) (2 ^ (q % 64))) (suc (q + q) * (l + l) + (l + q / 64)) (2 ^ (q % 64)) ⌝ }
 {
     let w = bit(q % 64);
@@ -142,7 +143,7 @@ fn mark(planes: &mut [u64], n: usize, l: usize, q: usize)
 }
 
 pub(crate) fn reset(planes: &mut [u64], n: usize, l: usize)
-    requires { ⌜ ((n + 63) / 64 ≤ l) × (l ≤ 4) × ((n + n) * (l + l) ≤ length (now planes)) × (n ≤ 256) ⌝ }
+    requires { ⌜ ((n + 63) / 64 ≤ l) × (l ≤ 4) × ((n + n) * (l + l) ≤ length (now planes)) × (n ≤ maxQubits) ⌝ }
     ensures { λ _. ⌜ now (planes .exit) ≡ planeReset n l (now (planes .entry)) ⌝ }
 {
     clear(planes, (n + n) * (l + l));
@@ -181,7 +182,7 @@ pub(crate) fn heavy(
     d: usize,
 ) -> bool
     requires { ⌜ AllProper n (b + 1) (lowerAs kind a b d) ⌝ }
-    requires { ⌜ (l ≡ partWords n) × ((n + n) * (l + l) ≤ length (now planes)) × (n ≤ 256) ⌝ }
+    requires { ⌜ (l ≡ partWords n) × ((n + n) * (l + l) ≤ length (now planes)) × (n ≤ maxQubits) ⌝ }
     ensures { λ r. ⌜ ((t : List Row) (rest : List ℕ) → Wide n t → now (planes .entry) ≡ packed n t ++ rest → r ≡ anyExceeds n (AtMost cap) t (lowerAs kind a b d)) ⌝ }
 {
     let k = kind.tests();
@@ -208,7 +209,7 @@ pub(crate) fn plane_record(
     b: usize,
 )
     requires { ⌜ AllValid n (recordGates kind a b) ⌝ }
-    requires { ⌜ ((n + n) * (l + l) ≤ length (now planes)) × (n ≤ 256) ⌝ }
+    requires { ⌜ ((n + n) * (l + l) ≤ length (now planes)) × (n ≤ maxQubits) ⌝ }
     ensures { λ _. ⌜ now (planes .exit) ≡ planeRun l (recordGates kind a b) (now (planes .entry)) ⌝ }
 {
     match kind {

@@ -6,21 +6,26 @@ use crate::count::prepare;
 use crate::flush::Used;
 use crate::flush::flush_records;
 use crate::flush::made;
-use crate::flush::put_operation;
 use crate::flush::put_rotation;
-use crate::flush::start_frame;
 use crate::frame::frame_record;
 use crate::frame::push;
 use crate::gate::GateKind;
+use crate::gate::Shape;
 use crate::gate::kind_at;
 use crate::gate::operand_at;
+use arena::put_operation;
+use arena::start_frame;
 ghost use mathlib.Core.Path.{_≡_};
 ghost use mathlib.Core.Bool.{true, cond};
 ghost use mathlib.Core.List.{[]};
 ghost use Prim.Native.Nat.{_+_, _*_, _/_, _<_, _≤_};
 ghost use lib.ListN.{length};
-ghost use Rattle.convert.specs.Code.Raw.{writing, rowAt, subsetOf, subsetWord, putRows, putFour, putSeven, putRecord, RecordReady, FlushReady, FlushedIf, gatesOver, planesFor, isCapped, measuresOf, Fits, Room, wordsLast, plainLast};
+ghost use lib.Seq.{sets};
+ghost use Rattle.convert.specs.Code.Raw.{maxWord, writing, rowAt, subsetOf, subsetWord, putRows, putFour, putSeven, firstWord, loneWords, lastPlace, putRecord, RecordReady};
+ghost use Rattle.convert.specs.Code.Raw.{FlushReady, FlushedIf, gatesOver, planesFor, isCapped, measuresOf, Fits, Room, wordsLast, plainLast};
+ghost use Rattle.arena.specs.Limits.{maxQubits, maxCbits, maxNodes, maxOperations, nodeWords, operationWords};
 ghost use Rattle.arena.specs.Builder.{overlay, startNodes, startFrame};
+ghost use Rattle.convert.specs.Conversion.{maxGateWords, isMeasure};
 ghost use Rattle.convert.specs.Words.{flat};
 ghost use Rattle.convert.specs.Planes.{partWords};
 
@@ -43,7 +48,7 @@ fn row_angle(row: usize) -> u32
 
 // The word of the product of the operands in a subset; ab is the node `joint`, and ad, bd, abd follow it.
 fn subset_word(subset: u32, a: u32, b: u32, d: u32, joint: u32) -> u32
-    requires { ⌜ joint + 3 < 65536 ⌝ }
+    requires { ⌜ joint + 3 < maxNodes ⌝ }
     ensures { λ r. ⌜ r ≡ subsetWord subset a b d joint ⌝ }
 {
     match subset {
@@ -60,7 +65,7 @@ fn subset_word(subset: u32, a: u32, b: u32, d: u32, joint: u32) -> u32
 
 // The rotations by the seven rows.
 fn put_rows(index: u32, operations: &mut [u32], a: u32, b: u32, d: u32, joint: u32) -> u32
-    requires { ⌜ (joint + 3 < 65536) × (index + 7 ≤ 65536) × (4 * (index + 7) ≤ length (now operations)) ⌝ }
+    requires { ⌜ (joint + 3 < maxNodes) × (index + 7 ≤ maxOperations) × (operationWords * (index + 7) ≤ length (now operations)) ⌝ }
     ensures { λ r. ⌜ (r ≡ index + 7) × (putRows 7 a b d joint (writing 0 [] index (now (operations .entry))) ≡ writing 0 [] r (now (operations .exit))) ⌝ }
 {
     let mut next = index;
@@ -75,7 +80,7 @@ fn put_rows(index: u32, operations: &mut [u32], a: u32, b: u32, d: u32, joint: u
 
 // The products ab, ad, bd and (ab)d.
 fn put_four(count: u32, nodes: &mut [u32], a: u32, b: u32, d: u32) -> u32
-    requires { ⌜ (count + 4 ≤ 65536) × (2 * (count + 4) ≤ length (now nodes)) × (a < 262144) × (b < 262144) ⌝ }
+    requires { ⌜ (count + 4 ≤ maxNodes) × (nodeWords * (count + 4) ≤ length (now nodes)) × (a < maxWord) × (b < maxWord) ⌝ }
     ensures { λ r. ⌜ (r ≡ count + 4) × (putFour a b d (writing count (now (nodes .entry)) 0 []) ≡ writing r (now (nodes .exit)) 0 []) ⌝ }
 {
     let first = push(count, nodes, a, b);
@@ -85,12 +90,84 @@ fn put_four(count: u32, nodes: &mut [u32], a: u32, b: u32, d: u32) -> u32
 }
 
 fn put_seven(w: Used, nodes: &mut [u32], operations: &mut [u32], a: u32, b: u32, d: u32) -> Used
-    requires { ⌜ (w .nodes + 4 ≤ 65536) × (2 * (w .nodes + 4) ≤ length (now nodes)) × (w .operations + 7 ≤ 65536) × (4 * (w .operations + 7) ≤ length (now operations)) × (a < 262144) × (b < 262144) ⌝ }
-    ensures { λ r. ⌜ writing (r .nodes) (now (nodes .exit)) (r .operations) (now (operations .exit)) ≡ putSeven a b d (writing (w .nodes) (now (nodes .entry)) (w .operations) (now (operations .entry))) ⌝ }
+    requires { ⌜ (w .nodes + 4 ≤ maxNodes) × (nodeWords * (w .nodes + 4) ≤ length (now nodes))
+        × (w .operations + 7 ≤ maxOperations) × (operationWords * (w .operations + 7) ≤ length (now operations)) × (a < maxWord) × (b < maxWord) ⌝ }
+    ensures { λ r. ⌜ writing (r .nodes) (now (nodes .exit)) (r .operations) (now (operations .exit))
+        ≡ putSeven a b d (writing (w .nodes) (now (nodes .entry)) (w .operations) (now (operations .entry))) ⌝ }
 {
     let count = put_four(w.nodes, nodes, a, b, d);
     let next = put_rows(w.operations, operations, a, b, d, w.nodes);
     made(count, next)
+}
+
+// ---- t, tdg and measure: one operation each, by its words and with no jump
+
+// Kind and angle in one: 4 × the eighths, and 1 for measure.
+fn first_word(kind: GateKind) -> u32
+    ensures { λ r. ⌜ r ≡ firstWord kind ⌝ }
+{
+    match kind {
+        GateKind::T => 4,
+        GateKind::Tdg => 28,
+        GateKind::Measure => 1,
+        _ => 0,
+    }
+}
+
+// A word that only a measurement has.
+fn only_if(measured: bool, word: u32) -> u32
+    ensures { λ r. ⌜ r ≡ cond measured word 0 ⌝ }
+{
+    if measured {
+        return word;
+    }
+    0
+}
+
+// The classical bit, of a measurement.
+fn bit_word(measured: bool, bit: usize) -> u32
+    requires { ⌜ (measured ≡ true → bit < maxCbits) ⌝ }
+    ensures { λ r. ⌜ r ≡ cond measured (bit + 1) 0 ⌝ }
+{
+    if !measured {
+        return 0;
+    }
+    (bit as u32) + 1
+}
+
+fn put_lone(
+    w: Used,
+    operations: &mut [u32],
+    kind: GateKind,
+    axis: u32,
+    given: u32,
+    bit: usize,
+) -> Used
+    requires { ⌜ (w .operations < maxOperations) × (operationWords * w .operations + operationWords ≤ length (now operations)) × (isMeasure kind ≡ true → bit < maxCbits) ⌝ }
+    ensures { λ r. ⌜ (r .nodes ≡ w .nodes) × (r .operations ≡ w .operations + 1)
+        × (now (operations .exit) ≡ sets (now (operations .entry)) (operationWords * w .operations) (loneWords kind axis given bit)) ⌝ }
+{
+    let measured = kind.has_shape(Shape::Measured);
+    put_operation(
+        operations,
+        w.operations,
+        first_word(kind),
+        axis,
+        only_if(measured, given),
+        bit_word(measured, bit),
+    );
+    made(w.nodes, w.operations + 1)
+}
+
+// Where the frame has the third operand: ccz its z, ccx its x.
+fn last_place(kind: GateKind, n: usize, d: usize) -> usize
+    requires { ⌜ (d < n) × (n ≤ maxQubits) ⌝ }
+    ensures { λ r. ⌜ r ≡ lastPlace kind n d ⌝ }
+{
+    if kind.tests() == 3 {
+        return n + d;
+    }
+    d
 }
 
 // What a record writes that is no frame gate.
@@ -107,36 +184,25 @@ fn write_record(
     d: usize,
 ) -> Used
     requires { ⌜ RecordReady n given kind a b d (w .nodes) (now nodes) (w .operations) (now operations) (now frame) ⌝ }
-    ensures { λ r. ⌜ writing (r .nodes) (now (nodes .exit)) (r .operations) (now (operations .exit)) ≡ putRecord n given kind a b d (now (frame .entry)) (writing (w .nodes) (now (nodes .entry)) (w .operations) (now (operations .entry))) ⌝ }
+    ensures { λ r. ⌜ writing (r .nodes) (now (nodes .exit)) (r .operations) (now (operations .exit))
+        ≡ putRecord n given kind a b d (now (frame .entry)) (writing (w .nodes) (now (nodes .entry)) (w .operations) (now (operations .entry))) ⌝ }
 {
     match kind {
-        GateKind::T => made(
-            w.nodes,
-            put_rotation(operations, w.operations, frame[n + a], 1),
+        GateKind::T | GateKind::Tdg | GateKind::Measure => put_lone(
+            w,
+            operations,
+            kind,
+            frame[n + a],
+            given,
+            b,
         ),
-        GateKind::Tdg => made(
-            w.nodes,
-            put_rotation(operations, w.operations, frame[n + a], 7),
-        ),
-        GateKind::Ccx => put_seven(w, nodes, operations, frame[n + a], frame[n + b], frame[d]),
-        GateKind::Ccz => put_seven(
+        GateKind::Ccx | GateKind::Ccz => put_seven(
             w,
             nodes,
             operations,
             frame[n + a],
             frame[n + b],
-            frame[n + d],
-        ),
-        GateKind::Measure => made(
-            w.nodes,
-            put_operation(
-                operations,
-                w.operations,
-                1,
-                frame[n + a],
-                given,
-                (b as u32) + 1,
-            ),
+            frame[last_place(kind, n, d)],
         ),
         _ => w,
     }
@@ -155,8 +221,9 @@ fn flush_if(
     count: usize,
 ) -> Used
     requires { ⌜ (flushed ≡ true → FlushReady n (gatesOver (now gates) from count) (w .nodes) (now nodes) (w .operations) (now operations)) ⌝ }
-    requires { ⌜ (from + count ≤ length (now gates) / 4) × (n ≤ 256) × (2 * n ≤ length (now frame)) ⌝ }
-    ensures { λ r. ⌜ FlushedIf flushed n (gatesOver (now (gates .entry)) from count) (w .nodes) (now (nodes .entry)) (now (frame .entry)) (w .operations) (now (operations .entry)) (r .nodes) (now (nodes .exit)) (now (frame .exit)) (r .operations) (now (operations .exit)) ⌝ }
+    requires { ⌜ (from + count ≤ length (now gates) / 4) × (n ≤ maxQubits) × (2 * n ≤ length (now frame)) ⌝ }
+    ensures { λ r. ⌜ FlushedIf flushed n (gatesOver (now (gates .entry)) from count) (w .nodes) (now (nodes .entry)) (now (frame .entry)) (w .operations) (now (operations .entry))
+        (r .nodes) (now (nodes .exit)) (now (frame .exit)) (r .operations) (now (operations .exit)) ⌝ }
 {
     if !flushed {
         return w;
@@ -186,7 +253,7 @@ fn later(flushed: bool, i: usize, place: usize) -> usize
 fn measures(kind: GateKind) -> u32
     ensures { λ r. ⌜ r ≡ measuresOf kind ⌝ }
 {
-    if kind.arity() == 4 {
+    if kind.has_shape(Shape::Measured) {
         return 1;
     }
     0
@@ -205,14 +272,17 @@ pub(crate) fn write_records(
 ) -> Written
     requires { ⌜ Fits n (now gates) ⌝ }
     requires { ⌜ Room n cap (now gates) (now nodes) (now operations) ⌝ }
-    requires { ⌜ (l ≡ partWords n) × (isCapped cap ≡ true → (n + n) * (l + l) ≤ length (now planes)) × (n ≤ 256) × (length (now gates) ≤ 262144) × (n + n ≤ length (now frame)) ⌝ }
+    requires { ⌜ (l ≡ partWords n) × (isCapped cap ≡ true → (n + n) * (l + l) ≤ length (now planes)) × (n ≤ maxQubits)
+        × (length (now gates) ≤ maxGateWords) × (n + n ≤ length (now frame)) ⌝ }
     requires { ⌜ (now nodes ≡ overlay (startNodes n) (now nodes)) × (now frame ≡ overlay (startFrame n) (now frame)) ⌝ }
-    ensures { λ r. ⌜ (r .nodes ≡ wordsLast n cap (now (gates .entry)) .arena .count) × (r .operations ≡ length (wordsLast n cap (now (gates .entry)) .ops)) × (r .measurements ≡ plainLast n cap (now (gates .entry)) .given) ⌝ }
+    ensures { λ r. ⌜ (r .nodes ≡ wordsLast n cap (now (gates .entry)) .arena .count)
+        × (r .operations ≡ length (wordsLast n cap (now (gates .entry)) .ops)) × (r .measurements ≡ plainLast n cap (now (gates .entry)) .given) ⌝ }
     ensures { λ r. ⌜ now (nodes .exit) ≡ overlay (wordsLast n cap (now (gates .entry)) .arena .nodes) (now (nodes .entry)) ⌝ }
     ensures { λ r. ⌜ now (operations .exit) ≡ overlay (flat (wordsLast n cap (now (gates .entry)) .ops)) (now (operations .entry)) ⌝ }
     ensures { λ r. ⌜ now (frame .exit) ≡ overlay (wordsLast n cap (now (gates .entry)) .arena .frame) (now (frame .entry)) ⌝ }
     ensures { λ r. ⌜ now (planes .exit) ≡ planesFor cap n (plainLast n cap (now (gates .entry)) .table) (now (planes .entry)) ⌝ }
-    ensures { λ r. ⌜ (length (wordsLast n cap (now (gates .entry)) .arena .nodes) ≡ 2 * wordsLast n cap (now (gates .entry)) .arena .count) × (length (wordsLast n cap (now (gates .entry)) .arena .frame) ≡ n + n) ⌝ }
+    ensures { λ r. ⌜ (length (wordsLast n cap (now (gates .entry)) .arena .nodes) ≡ 2 * wordsLast n cap (now (gates .entry)) .arena .count)
+        × (length (wordsLast n cap (now (gates .entry)) .arena .frame) ≡ n + n) ⌝ }
 {
     prepare(planes, n, l, cap);
     let count = gates.len() / 4;

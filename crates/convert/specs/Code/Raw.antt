@@ -9,12 +9,14 @@ use lib.ListN.{length, getD, set}
 use Rattle.pauli.specs.Gates.{Gate, gateH, gateX, gateZ, gateS, gateSdg, gateCnot, gateCz, AllValid}
 use Rattle.arena.specs.References.{scaledWord}
 use Rattle.arena.specs.Builder.{overlay, startFrame}
-use Rattle.arena.specs.Limits.{operationWords, maxCbits}
+use Rattle.arena.specs.Limits.{maxQubits, maxCbits, maxNodes, maxOperations, nodeWords, operationWords}
+use Rattle.arena.specs.Nodes.{productWord}
 use Rattle.convert.specs.Conversion.{isMeasure, isDoubly, roomChecked, limits}
 use Rattle.arena.specs.Operations.{rotateWords, measureWords}
 use Rattle.convert.specs.Words.{Words, startWords, wordRun, idX, idZ}
-use Rattle.convert.specs.Types.{MinusOne, Bit, PbcError, Checked, Fine, Wrong, Header}
+use Rattle.convert.specs.Types.{One, PlusI, MinusOne, MinusI, Bit, PbcError, Checked, Fine, Wrong, Header}
 use Rattle.convert.specs.Records.{GateKind, KindH, KindX, KindZ, KindS, KindSdg, KindT, KindTdg, KindCnot, KindCz, KindCcx, KindCcz, KindMeasure, KindY, KindSx, KindSwap, KindCy, Unsupported, Cap, NoCap, AtMost, Elementary, clifford, elT, elTdg, elCcx, elCcz, elMeasure, bare, lowerAs, Record, records, kindOf, AllProper, lowerAll}
+use Rattle.pauli.specs.Letters.{phaseNumber}
 use Rattle.pauli.specs.Rows.{Row, tally}
 use Rattle.pauli.specs.Doubly.{Term, term, sevenRows}
 use Rattle.pauli.specs.Table.{start, run}
@@ -70,12 +72,12 @@ arena c ns fs = record { count = c; nodes = ns; frame = fs }
 
 -- one more product, written over what the buffer has at its place
 abbrev pub putProduct : ℕ → ℕ → Arena → Arena
-putProduct l r s = arena (s .count + 1) (set (set (s .nodes) (2 * s .count) (2 + 4 * l)) (2 * s .count + 1) r) (s .frame)
+putProduct l r s = arena (s .count + 1) (set (set (s .nodes) (nodeWords * s .count) (productWord l)) (nodeWords * s .count + 1) r) (s .frame)
 
 unfoldable pub putMultiplied : ℕ → ℕ → ℕ → ℕ → Arena → Arena
 putMultiplied i l r p s = stored i (4 * s .count + p) (putProduct (word s l) (word s r) s)
 
-pub record Multiplied (i l r p c : ℕ) (ns fs : List ℕ) (c′ : ℕ) (ns′ fs′ : List ℕ) : Type 0 where
+pub record ProductPut (i l r p c : ℕ) (ns fs : List ℕ) (c′ : ℕ) (ns′ fs′ : List ℕ) : Type 0 where
   pub same : arena c′ ns′ fs′ ≡ putMultiplied i l r p (arena c ns fs)
 
 -- as frameStep, in the buffers
@@ -83,27 +85,31 @@ unfoldable pub putStep : ℕ → Gate → Arena → Arena
 putStep n (gateH q) s = stored (n + q) (word s q) (stored q (word s (n + q)) s)
 putStep n (gateX q) s = stored (n + q) (scaledWord MinusOne (word s (n + q))) s
 putStep n (gateZ q) s = stored q (scaledWord MinusOne (word s q)) s
-putStep n (gateS q) s = putMultiplied q q (n + q) 3 s
-putStep n (gateSdg q) s = putMultiplied q q (n + q) 1 s
-putStep n (gateCnot c t) s = putMultiplied (n + t) (n + c) (n + t) 0 (putMultiplied c c t 0 s)
-putStep n (gateCz c t) s = putMultiplied t (n + c) t 0 (putMultiplied c c (n + t) 0 s)
+putStep n (gateS q) s = putMultiplied q q (n + q) (phaseNumber MinusI) s
+putStep n (gateSdg q) s = putMultiplied q q (n + q) (phaseNumber PlusI) s
+putStep n (gateCnot c t) s = putMultiplied (n + t) (n + c) (n + t) (phaseNumber One) (putMultiplied c c t (phaseNumber One) s)
+putStep n (gateCz c t) s = putMultiplied t (n + c) t (phaseNumber One) (putMultiplied c c (n + t) (phaseNumber One) s)
 
 unfoldable pub putRun : ℕ → List Gate → Arena → Arena
 putRun n [] s = s
 putRun n (g ∷ gs) s = putRun n gs (putStep n g s)
 
--- the 2n frame words are references to nodes below 65,536
+-- the word of a node within the limit is below this
+abbrev pub maxWord : ℕ
+maxWord = 4 * maxNodes
+
+-- the 2n frame words are such words
 abbrev pub Small : ℕ → List ℕ → Type 0
-Small n fs = (i : ℕ) → i < n + n → getD fs i 0 < 262144
+Small n fs = (i : ℕ) → i < n + n → getD fs i 0 < maxWord
 
 -- what frame gates ask of the buffers
-pub record Ready (n : ℕ) (gs : List Gate) (c : ℕ) (ns fs : List ℕ) : Type 0 where
+pub record FrameReady (n : ℕ) (gs : List Gate) (c : ℕ) (ns fs : List ℕ) : Type 0 where
   pub valid : AllValid n gs
-  pub qubits : n ≤ 256
+  pub qubits : n ≤ maxQubits
   pub places : n + n ≤ length fs
   pub small : Small n fs
-  pub few : c + total gateNodes gs ≤ 65536
-  pub room : 2 * (c + total gateNodes gs) ≤ length ns
+  pub few : c + total gateNodes gs ≤ maxNodes
+  pub room : nodeWords * (c + total gateNodes gs) ≤ length ns
 
 -- what they make of them
 pub record Ran (n : ℕ) (gs : List Gate) (c : ℕ) (ns fs : List ℕ) (c′ : ℕ) (ns′ fs′ : List ℕ) : Type 0 where
@@ -196,7 +202,7 @@ putOp vs s = writing (s .count) (s .nodes) (s .used + 1) (sets (s .operations) (
 
 -- one more product
 abbrev pub putNode : ℕ → ℕ → Writing → Writing
-putNode l r s = writing (s .count + 1) (set (set (s .nodes) (2 * s .count) (2 + 4 * l)) (2 * s .count + 1) r) (s .used) (s .operations)
+putNode l r s = writing (s .count + 1) (set (set (s .nodes) (nodeWords * s .count) (productWord l)) (nodeWords * s .count + 1) r) (s .used) (s .operations)
 
 unfoldable pub putJoint : ℕ → ℕ → Writing → Writing
 putJoint l r s = putOp (rotateWords (4 * s .count) 6) (putOp (rotateWords r 2) (putOp (rotateWords l 2) (putNode l r s)))
@@ -218,11 +224,11 @@ putFlushes (g ∷ gs) s = putFlushes gs (putFlush g s)
 -- what a flush of gates asks of the buffers
 pub record FlushReady (n : ℕ) (gs : List Gate) (c : ℕ) (ns : List ℕ) (u : ℕ) (os : List ℕ) : Type 0 where
   pub valid : AllValid n gs
-  pub qubits : n ≤ 256
-  pub few : c + total writtenNodes gs ≤ 65536
-  pub room : 2 * (c + total writtenNodes gs) ≤ length ns
-  pub fewer : u + total writtenOps gs ≤ 65536
-  pub place : 4 * (u + total writtenOps gs) ≤ length os
+  pub qubits : n ≤ maxQubits
+  pub few : c + total writtenNodes gs ≤ maxNodes
+  pub room : nodeWords * (c + total writtenNodes gs) ≤ length ns
+  pub fewer : u + total writtenOps gs ≤ maxOperations
+  pub place : operationWords * (u + total writtenOps gs) ≤ length os
 
 -- what it makes of them
 pub record Flushed (gs : List Gate) (c : ℕ) (ns : List ℕ) (u : ℕ) (os : List ℕ) (c′ : ℕ) (ns′ : List ℕ) (u′ : ℕ) (os′ : List ℕ) : Type 0 where
@@ -268,6 +274,26 @@ putFour a b d s = putNode (4 * s .count) d (putNode b d (putNode a d (putNode a 
 unfoldable pub putSeven : ℕ → ℕ → ℕ → Writing → Writing
 putSeven a b d s = putRows 7 a b d (s .count) (putFour a b d s)
 
+-- the first word of what an elementary gate writes alone
+abbrev pub firstOf : Elementary → ℕ
+firstOf (clifford g) = 0
+firstOf (elT q) = 4
+firstOf (elTdg q) = 28
+firstOf (elCcx a b d) = 0
+firstOf (elCcz a b d) = 0
+firstOf (elMeasure q k) = 1
+
+unfoldable pub firstWord : GateKind → ℕ
+firstWord kind = over firstOf (lowerAs kind 0 0 0)
+
+-- the words of t, tdg or measure, after so many measurements
+abbrev pub loneWords : GateKind → ℕ → ℕ → ℕ → List ℕ
+loneWords kind axis given bit = firstWord kind ∷ axis ∷ cond (isMeasure kind) given 0 ∷ cond (isMeasure kind) (bit + 1) 0 ∷ []
+
+-- where the frame has the third operand: ccz its z, ccx its x
+abbrev pub lastPlace : GateKind → ℕ → ℕ → ℕ
+lastPlace kind n d = cond (eqb (testsOf kind) 3) (n + d) d
+
 -- what a record writes that is no frame gate, after so many measurements, by the frame words
 unfoldable pub putRecord : ℕ → ℕ → GateKind → ℕ → ℕ → ℕ → List ℕ → Writing → Writing
 putRecord n given KindH a b d fs s = s
@@ -291,13 +317,13 @@ putRecord n given Unsupported a b d fs s = s
 -- what it asks of the buffers
 pub record RecordReady (n given : ℕ) (kind : GateKind) (a b d c : ℕ) (ns : List ℕ) (u : ℕ) (os fs : List ℕ) : Type 0 where
   pub proper : AllProper n maxCbits (lowerAs kind a b d)
-  pub qubits : n ≤ 256
+  pub qubits : n ≤ maxQubits
   pub places : n + n ≤ length fs
   pub small : Small n fs
-  pub few : c + loneNodes kind ≤ 65536
-  pub room : 2 * (c + loneNodes kind) ≤ length ns
-  pub fewer : u + costOf kind .operations ≤ 65536
-  pub place : 4 * (u + costOf kind .operations) ≤ length os
+  pub few : c + loneNodes kind ≤ maxNodes
+  pub room : nodeWords * (c + loneNodes kind) ≤ length ns
+  pub fewer : u + costOf kind .operations ≤ maxOperations
+  pub place : operationWords * (u + costOf kind .operations) ≤ length os
 
 -- what a flush, if there is one, makes of the buffers: the pending gates are written and the frame starts again
 pub record FlushedIf (f : Bool) (n : ℕ) (gs : List Gate) (c : ℕ) (ns fs : List ℕ) (u : ℕ) (os : List ℕ) (c′ : ℕ) (ns′ fs′ : List ℕ) (u′ : ℕ) (os′ : List ℕ) : Type 0 where
@@ -318,10 +344,10 @@ needsLast n cap gs = needRun n cap (lowerAll (records gs)) (begin n) (needsOf (1
 
 -- the needs fit
 pub record Room (n : ℕ) (cap : Cap) (gs ns os : List ℕ) : Type 0 where
-  pub nodes : needsLast n cap gs .nodes ≤ 65536
-  pub nodes-lent : 2 * needsLast n cap gs .nodes ≤ length ns
-  pub operations : needsLast n cap gs .operations ≤ 65536
-  pub operations-lent : 4 * needsLast n cap gs .operations ≤ length os
+  pub nodes : needsLast n cap gs .nodes ≤ maxNodes
+  pub nodes-lent : nodeWords * needsLast n cap gs .nodes ≤ length ns
+  pub operations : needsLast n cap gs .operations ≤ maxOperations
+  pub operations-lent : operationWords * needsLast n cap gs .operations ≤ length os
 
 -- ---- the checks of what is needed
 

@@ -1,13 +1,24 @@
 -- `put_operation` meets its contract.
+use mathlib.Core.Path.{sym, _∙_}
+use mathlib.Core.List.{[], _∷_}
 use native.Mathlib.Omega.{arith}
 use borrow.Author.Needs.{needs}
+use borrow.Author.Tests.{lt-ltb}
 use lib.ListN.{length-set}
-use Rattle.arena.proofs.Overlay.{sets₄}
+use Rattle.arena.specs.Builder.{operationWritten}
+use Rattle.arena.proofs.Overlay.{sets₄, operation-written}
 use Rattle.arena.proofs.builder.put_operation.Statement.{statement}
 use Rattle.arena.proofs.builder.put_operation.Tie as tie
 
 mul-at : tie.Need-mul-at
 mul-at c = search needs
+
+add-if1 : tie.Need-add-if1
+add-if1 c = search needs
+
+returns : tie.Need-returns
+unfolding operationWritten
+returns c = rw (lt-ltb _ _ (c .if1 .taken))
 
 mul-operations : tie.Need-mul-operations
 mul-operations c = search needs
@@ -22,7 +33,7 @@ mul-operations-2 : tie.Need-mul-operations-2
 mul-operations-2 c = search needs
 
 slice-write-operations-2 : tie.Need-slice-write-operations-2
-slice-write-operations-2 c = simp length-set (omega arith)
+slice-write-operations-2 c = simp length-set (omega (arith, c .if1 .left))
 
 add-operations-2 : tie.Need-add-operations-2
 add-operations-2 c = search needs
@@ -31,7 +42,7 @@ mul-operations-3 : tie.Need-mul-operations-3
 mul-operations-3 c = search needs
 
 slice-write-operations-3 : tie.Need-slice-write-operations-3
-slice-write-operations-3 c = simp length-set (omega arith)
+slice-write-operations-3 c = simp length-set (omega (arith, c .if1 .left))
 
 add-operations-3 : tie.Need-add-operations-3
 add-operations-3 c = search needs
@@ -40,19 +51,24 @@ mul-operations-4 : tie.Need-mul-operations-4
 mul-operations-4 c = search needs
 
 slice-write-operations-4 : tie.Need-slice-write-operations-4
-slice-write-operations-4 c = search needs
+slice-write-operations-4 c = simp length-set (omega (arith, c .if1 .left))
 
 same-length : tie.Need-same-length
 same-length c = search needs
 
-returns : tie.Need-returns
-returns c = sets₄ (c .args .operations .now) _ _ _ _ _
+returns-2 : tie.Need-returns-2
+returns-2 c =
+    let args = c .before .args in
+    sets₄ (args .operations .now) _ (args .first) (args .axis) (args .measurement) (args .target) ∙ sym (operation-written (args .index)
+    (args .first ∷ args .axis ∷ args .measurement ∷ args .target ∷ []) (args .operations .now) (omega (arith, c .if1 .left)))
 
 pub put-operation-spec : {M : Type 1} → statement M
 put-operation-spec =
     tie.close
     (tie.spec
     mul-at
+    add-if1
+    returns
     mul-operations
     slice-write-operations
     add-operations
@@ -65,4 +81,4 @@ put-operation-spec =
     mul-operations-4
     slice-write-operations-4
     same-length
-    returns)
+    returns-2)

@@ -33,8 +33,8 @@ shared-slice-read-of c = omega (arith, c .before .loop-test .taken)
 of-requires : tie.Need-of-requires Inv-loop μ-loop
 of-requires c κs = search needs
 
-arity-requires : tie.Need-arity-requires Inv-loop μ-loop
-arity-requires c κs = search needs
+has-shape-requires : tie.Need-has-shape-requires Inv-loop μ-loop
+has-shape-requires c κs = search needs
 
 add-i : tie.Need-add-i Inv-loop μ-loop
 add-i c = omega (arith, c .before .before .before .loop-test .taken)
@@ -50,7 +50,7 @@ loop-again c =
     let args = c .before .before .before .before .before .before .args in (
       omega (arith, loop-test .taken),
       rw (
-        c .arity .ensures,
+        c .has-shape .ensures,
         the-of .ensures,
       ) (sym (doubly-more (args .gates .now) (the-loop .i) (the-loop .found) (loop-test .taken)) ∙ the-loop .inv .1),
     )
@@ -69,7 +69,7 @@ any-doubly-spec =
     mul-of-2
     shared-slice-read-of
     of-requires
-    arity-requires
+    has-shape-requires
     add-i
     loop-less
     loop-again

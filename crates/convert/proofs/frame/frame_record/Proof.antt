@@ -1,186 +1,88 @@
-use native.Mathlib.Omega.{arith}
+-- `frame_record` meets its contract: one arm a kind, and one for those that have no frame gate.
 use Rattle.convert.specs.Records.{lowerAs}
 use Rattle.convert.specs.Code.Raw.{recordGates}
-use Rattle.convert.proofs.FrameLaws.{head-ready, tail-ready, none-ran, more-ran}
+use Rattle.convert.proofs.FrameLaws.{none-ran}
 use Rattle.convert.proofs.Arms.{no-gates}
 use borrow.Author.Needs.{needs}
 use Rattle.convert.proofs.frame.frame_record.Statement.{statement}
 use Rattle.convert.proofs.frame.frame_record.Tie as tie
-use Rattle.convert.proofs.frame.frame_record.Reads as reads
-use Rattle.convert.proofs.frame.frame_record.Lts as lts
-use Rattle.convert.proofs.frame.gate_cnot.Reads as gate-cnot-reads
-use Rattle.convert.proofs.frame.gate_cz.Reads as gate-cz-reads
-use Rattle.convert.proofs.frame.gate_h.Reads as gate-h-reads
-use Rattle.convert.proofs.frame.gate_s.Reads as gate-s-reads
-use Rattle.convert.proofs.frame.gate_sdg.Reads as gate-sdg-reads
-use Rattle.convert.proofs.frame.gate_x.Reads as gate-x-reads
-use Rattle.convert.proofs.frame.gate_z.Reads as gate-z-reads
 
 enum-told : tie.Need-enum-told
 enum-told c = search needs
 
 gate-h-requires : tie.Need-gate-h-requires
 unfolding recordGates lowerAs
-gate-h-requires c κs =
-    let r0 = rw (c .before .before .enum-told .given .1) at (c .before .before .before .before .before .before .pre) in
-    head-ready r0
+gate-h-requires c κs = rw (c .before .before .enum-told .given .1) at (c .before .before .before .before .before .before .pre)
 
 enum-told-2 : tie.Need-enum-told-2
 enum-told-2 c = search needs
 
 gate-x-requires : tie.Need-gate-x-requires
 unfolding recordGates lowerAs
-gate-x-requires c κs =
-    let r0 = rw (c .before .before .enum-told2 .given .1) at (c .before .before .before .before .before .before .pre) in
-    head-ready r0
+gate-x-requires c κs = rw (c .before .before .enum-told2 .given .1) at (c .before .before .before .before .before .before .pre)
 
 enum-told-3 : tie.Need-enum-told-3
 enum-told-3 c = search needs
 
 gate-z-requires : tie.Need-gate-z-requires
 unfolding recordGates lowerAs
-gate-z-requires c κs =
-    let r0 = rw (c .before .before .enum-told3 .given .1) at (c .before .before .before .before .before .before .pre) in
-    head-ready r0
+gate-z-requires c κs = rw (c .before .before .enum-told3 .given .1) at (c .before .before .before .before .before .before .pre)
 
 enum-told-4 : tie.Need-enum-told-4
 enum-told-4 c = search needs
 
 gate-s-requires : tie.Need-gate-s-requires
 unfolding recordGates lowerAs
-gate-s-requires c κs =
-    let r0 = rw (c .before .before .enum-told4 .given .1) at (c .before .before .before .before .before .before .pre) in
-    head-ready r0
+gate-s-requires c κs = rw (c .before .before .enum-told4 .given .1) at (c .before .before .before .before .before .before .pre)
 
 enum-told-5 : tie.Need-enum-told-5
 enum-told-5 c = search needs
 
 gate-sdg-requires : tie.Need-gate-sdg-requires
 unfolding recordGates lowerAs
-gate-sdg-requires c κs =
-    let r0 = rw (c .before .before .enum-told5 .given .1) at (c .before .before .before .before .before .before .pre) in
-    head-ready r0
+gate-sdg-requires c κs = rw (c .before .before .enum-told5 .given .1) at (c .before .before .before .before .before .before .pre)
 
 enum-told-6 : tie.Need-enum-told-6
 enum-told-6 c = search needs
 
 gate-cnot-requires : tie.Need-gate-cnot-requires
 unfolding recordGates lowerAs
-gate-cnot-requires c κs =
-    let r0 = rw (c .before .before .enum-told6 .given .1) at (c .before .before .before .before .before .before .pre) in
-    head-ready r0
+gate-cnot-requires c κs = rw (c .before .before .enum-told6 .given .1) at (c .before .before .before .before .before .before .pre)
 
 enum-told-7 : tie.Need-enum-told-7
 enum-told-7 c = search needs
 
 gate-cz-requires : tie.Need-gate-cz-requires
 unfolding recordGates lowerAs
-gate-cz-requires c κs =
-    let r0 = rw (c .before .before .enum-told7 .given .1) at (c .before .before .before .before .before .before .pre) in
-    head-ready r0
+gate-cz-requires c κs = rw (c .before .before .enum-told7 .given .1) at (c .before .before .before .before .before .before .pre)
 
 enum-told-8 : tie.Need-enum-told-8
 enum-told-8 c = search needs
 
-gate-z-requires-2 : tie.Need-gate-z-requires-2
+gate-y-requires : tie.Need-gate-y-requires
 unfolding recordGates lowerAs
-gate-z-requires-2 c κs =
-    let r0 = rw (c .before .before .enum-told8 .given .1) at (c .before .before .before .before .before .before .pre) in
-    head-ready r0
-
-gate-x-requires-2 : tie.Need-gate-x-requires-2
-unfolding recordGates lowerAs
-gate-x-requires-2 c κs =
-    let r0 = rw (c .before .before .before .before .before .before .before .before .before .enum-told8 .given .1) at (c .before .before .before .before .before .before .before .before .before .before .before .before .before .pre) in
-    let r1 = tail-ready r0 (c .before .before .before .before .before .before .gate-z2 .ensures) (omega (arith, c .before .before .before .before .before .before .gate-z2 .kept)) (omega (arith, c .before .before .before .before .before .before .gate-z2 .kept)) in
-    head-ready r1
+gate-y-requires c κs = rw (c .before .before .enum-told8 .given .1) at (c .before .before .before .before .before .before .pre)
 
 enum-told-9 : tie.Need-enum-told-9
 enum-told-9 c = search needs
 
-gate-h-requires-2 : tie.Need-gate-h-requires-2
+gate-sx-requires : tie.Need-gate-sx-requires
 unfolding recordGates lowerAs
-gate-h-requires-2 c κs =
-    let r0 = rw (c .before .before .enum-told9 .given .1) at (c .before .before .before .before .before .before .pre) in
-    head-ready r0
-
-gate-s-requires-2 : tie.Need-gate-s-requires-2
-unfolding recordGates lowerAs
-gate-s-requires-2 c κs =
-    let r0 = rw (c .before .before .before .before .before .before .before .before .before .enum-told9 .given .1) at (c .before .before .before .before .before .before .before .before .before .before .before .before .before .pre) in
-    let r1 = tail-ready r0 (c .before .before .before .before .before .before .gate-h2 .ensures) (omega (arith, c .before .before .before .before .before .before .gate-h2 .kept)) (omega (arith, c .before .before .before .before .before .before .gate-h2 .kept)) in
-    head-ready r1
-
-gate-h-requires-3 : tie.Need-gate-h-requires-3
-unfolding recordGates lowerAs
-gate-h-requires-3 c κs =
-    let gate-s2 = c .before .before .before .before .before .before .gate-s2 in
-    let gate-h2 = c .before .before .before .before .before .before .before .before .before .before .before .before .before .gate-h2 in
-    let back12 = c .before .before .before .before .before .before .before .before .before .before .before .before in
-    let enum-told9 = back12 .before .before .before .before .enum-told9 in
-    let pre = back12 .before .before .before .before .before .before .before .before .pre in
-    let r0 = rw (enum-told9 .given .1) at pre in
-    let r1 = tail-ready r0 (gate-h2 .ensures) (omega (arith, gate-h2 .kept)) (omega (arith, gate-h2 .kept)) in
-    let r2 = tail-ready r1 (gate-s2 .ensures) (omega (arith, gate-s2 .kept)) (omega (arith, gate-s2 .kept)) in
-    head-ready r2
+gate-sx-requires c κs = rw (c .before .before .enum-told9 .given .1) at (c .before .before .before .before .before .before .pre)
 
 enum-told-10 : tie.Need-enum-told-10
 enum-told-10 c = search needs
 
-gate-cnot-requires-2 : tie.Need-gate-cnot-requires-2
+gate-swap-requires : tie.Need-gate-swap-requires
 unfolding recordGates lowerAs
-gate-cnot-requires-2 c κs =
-    let r0 = rw (c .before .before .enum-told10 .given .1) at (c .before .before .before .before .before .before .pre) in
-    head-ready r0
-
-gate-cnot-requires-3 : tie.Need-gate-cnot-requires-3
-unfolding recordGates lowerAs
-gate-cnot-requires-3 c κs =
-    let r0 = rw (c .before .before .before .before .before .before .before .before .before .enum-told10 .given .1) at (c .before .before .before .before .before .before .before .before .before .before .before .before .before .pre) in
-    let r1 = tail-ready r0 (c .before .before .before .before .before .before .gate-cnot2 .ensures) (omega (arith, c .before .before .before .before .before .before .gate-cnot2 .kept)) (omega (arith, c .before .before .before .before .before .before .gate-cnot2 .kept)) in
-    head-ready r1
-
-gate-cnot-requires-4 : tie.Need-gate-cnot-requires-4
-unfolding recordGates lowerAs
-gate-cnot-requires-4 c κs =
-    let gate-cnot3 = c .before .before .before .before .before .before .gate-cnot3 in
-    let gate-cnot2 = c .before .before .before .before .before .before .before .before .before .before .before .before .before .gate-cnot2 in
-    let back12 = c .before .before .before .before .before .before .before .before .before .before .before .before in
-    let enum-told10 = back12 .before .before .before .before .enum-told10 in
-    let pre = back12 .before .before .before .before .before .before .before .before .pre in
-    let r0 = rw (enum-told10 .given .1) at pre in
-    let r1 = tail-ready r0 (gate-cnot2 .ensures) (omega (arith, gate-cnot2 .kept)) (omega (arith, gate-cnot2 .kept)) in
-    let r2 = tail-ready r1 (gate-cnot3 .ensures) (omega (arith, gate-cnot3 .kept)) (omega (arith, gate-cnot3 .kept)) in
-    head-ready r2
+gate-swap-requires c κs = rw (c .before .before .enum-told10 .given .1) at (c .before .before .before .before .before .before .pre)
 
 enum-told-11 : tie.Need-enum-told-11
 enum-told-11 c = search needs
 
-gate-sdg-requires-2 : tie.Need-gate-sdg-requires-2
+gate-cy-requires : tie.Need-gate-cy-requires
 unfolding recordGates lowerAs
-gate-sdg-requires-2 c κs =
-    let r0 = rw (c .before .before .enum-told11 .given .1) at (c .before .before .before .before .before .before .pre) in
-    head-ready r0
-
-gate-cnot-requires-5 : tie.Need-gate-cnot-requires-5
-unfolding recordGates lowerAs
-gate-cnot-requires-5 c κs =
-    let r0 = rw (c .before .before .before .before .before .before .before .before .before .enum-told11 .given .1) at (c .before .before .before .before .before .before .before .before .before .before .before .before .before .pre) in
-    let r1 = tail-ready r0 (c .before .before .before .before .before .before .gate-sdg2 .ensures) (omega (arith, c .before .before .before .before .before .before .gate-sdg2 .kept)) (omega (arith, c .before .before .before .before .before .before .gate-sdg2 .kept)) in
-    head-ready r1
-
-gate-s-requires-3 : tie.Need-gate-s-requires-3
-unfolding recordGates lowerAs
-gate-s-requires-3 c κs =
-    let gate-cnot5 = c .before .before .before .before .before .before .gate-cnot5 in
-    let gate-sdg2 = c .before .before .before .before .before .before .before .before .before .before .before .before .before .gate-sdg2 in
-    let back12 = c .before .before .before .before .before .before .before .before .before .before .before .before in
-    let enum-told11 = back12 .before .before .before .before .enum-told11 in
-    let pre = back12 .before .before .before .before .before .before .before .before .pre in
-    let r0 = rw (enum-told11 .given .1) at pre in
-    let r1 = tail-ready r0 (gate-sdg2 .ensures) (omega (arith, gate-sdg2 .kept)) (omega (arith, gate-sdg2 .kept)) in
-    let r2 = tail-ready r1 (gate-cnot5 .ensures) (omega (arith, gate-cnot5 .kept)) (omega (arith, gate-cnot5 .kept)) in
-    head-ready r2
+gate-cy-requires c κs = rw (c .before .before .enum-told11 .given .1) at (c .before .before .before .before .before .before .pre)
 
 same-length : tie.Need-same-length
 same-length c = search needs
@@ -260,7 +162,7 @@ same-length-16 c = search needs
 
 returns-8 : tie.Need-returns-8
 unfolding recordGates lowerAs
-returns-8 c = rw (c .before .before .before .before .before .before .before .before .before .before .before .before .before .before .enum-told8 .given .1) (more-ran (c .before .before .before .before .before .before .before .before .before .before .before .gate-z2 .ensures) (c .before .before .before .before .gate-x2 .ensures))
+returns-8 c = rw (c .before .before .before .before .before .before .before .enum-told8 .given .1) (c .before .before .before .before .gate-y .ensures)
 
 same-length-17 : tie.Need-same-length-17
 same-length-17 c = search needs
@@ -270,13 +172,7 @@ same-length-18 c = search needs
 
 returns-9 : tie.Need-returns-9
 unfolding recordGates lowerAs
-returns-9 c =
-    let gate-h3 = c .before .before .before .before .gate-h3 in
-    let gate-s2 = c .before .before .before .before .before .before .before .before .before .before .before .gate-s2 in
-    let back12 = c .before .before .before .before .before .before .before .before .before .before .before .before in
-    let gate-h2 = back12 .before .before .before .before .before .before .gate-h2 in
-    let enum-told9 = back12 .before .before .before .before .before .before .before .before .before .enum-told9 in
-    rw (enum-told9 .given .1) (more-ran (gate-h2 .ensures) (more-ran (gate-s2 .ensures) (gate-h3 .ensures)))
+returns-9 c = rw (c .before .before .before .before .before .before .before .enum-told9 .given .1) (c .before .before .before .before .gate-sx .ensures)
 
 same-length-19 : tie.Need-same-length-19
 same-length-19 c = search needs
@@ -286,13 +182,7 @@ same-length-20 c = search needs
 
 returns-10 : tie.Need-returns-10
 unfolding recordGates lowerAs
-returns-10 c =
-    let gate-cnot4 = c .before .before .before .before .gate-cnot4 in
-    let gate-cnot3 = c .before .before .before .before .before .before .before .before .before .before .before .gate-cnot3 in
-    let back12 = c .before .before .before .before .before .before .before .before .before .before .before .before in
-    let gate-cnot2 = back12 .before .before .before .before .before .before .gate-cnot2 in
-    let enum-told10 = back12 .before .before .before .before .before .before .before .before .before .enum-told10 in
-    rw (enum-told10 .given .1) (more-ran (gate-cnot2 .ensures) (more-ran (gate-cnot3 .ensures) (gate-cnot4 .ensures)))
+returns-10 c = rw (c .before .before .before .before .before .before .before .enum-told10 .given .1) (c .before .before .before .before .gate-swap .ensures)
 
 same-length-21 : tie.Need-same-length-21
 same-length-21 c = search needs
@@ -302,18 +192,13 @@ same-length-22 c = search needs
 
 returns-11 : tie.Need-returns-11
 unfolding recordGates lowerAs
-returns-11 c =
-    let gate-s3 = c .before .before .before .before .gate-s3 in
-    let gate-cnot5 = c .before .before .before .before .before .before .before .before .before .before .before .gate-cnot5 in
-    let back12 = c .before .before .before .before .before .before .before .before .before .before .before .before in
-    let gate-sdg2 = back12 .before .before .before .before .before .before .gate-sdg2 in
-    let enum-told11 = back12 .before .before .before .before .before .before .before .before .before .enum-told11 in
-    rw (enum-told11 .given .1) (more-ran (gate-sdg2 .ensures) (more-ran (gate-cnot5 .ensures) (gate-s3 .ensures)))
+returns-11 c = rw (c .before .before .before .before .before .before .before .enum-told11 .given .1) (c .before .before .before .before .gate-cy .ensures)
 
 returns-12 : tie.Need-returns-12
 returns-12 c =
     let start = c .before .before .before in
-    rw (no-gates (start .args .kind) (start .args .a) (start .args .b) (c .match .keys12)) (none-ran (rw (no-gates (start .args .kind) (start .args .a) (start .args .b) (c .match .keys12)) at (start .pre)))
+    let none = no-gates (start .args .kind) (start .args .a) (start .args .b) (c .match .keys12) in
+    rw none (none-ran (rw none at (start .pre)))
 
 pub frame-record-spec : {M : Type 1} → statement M
 frame-record-spec =
@@ -334,20 +219,13 @@ frame-record-spec =
     enum-told-7
     gate-cz-requires
     enum-told-8
-    gate-z-requires-2
-    gate-x-requires-2
+    gate-y-requires
     enum-told-9
-    gate-h-requires-2
-    gate-s-requires-2
-    gate-h-requires-3
+    gate-sx-requires
     enum-told-10
-    gate-cnot-requires-2
-    gate-cnot-requires-3
-    gate-cnot-requires-4
+    gate-swap-requires
     enum-told-11
-    gate-sdg-requires-2
-    gate-cnot-requires-5
-    gate-s-requires-3
+    gate-cy-requires
     same-length
     same-length-2
     returns

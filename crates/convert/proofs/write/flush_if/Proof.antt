@@ -1,4 +1,6 @@
+use mathlib.Core.Path.{_∙_}
 use borrow.Author.Tests.{not-true, not-false}
+use Rattle.arena.proofs.Overlay.{frame-started}
 use Rattle.convert.proofs.FlushLaws.{not-flushed, is-flushed}
 use borrow.Author.Needs.{needs}
 use Rattle.convert.proofs.write.flush_if.Statement.{statement}
@@ -38,7 +40,8 @@ returns-2 c =
     let if1 = c .before .before .before .before .before .before .before .before .before .before .before .if1 in
     let back12 = c .before .before .before .before .before .before .before .before .before .before .before .before in
     let args = back12 .before .before .before .before .args in
-    is-flushed (args .n) (not-false (args .flushed) (if1 .left)) (flush-records .ensures) (start-frame .ensures)
+    let pre = back12 .before .before .before .before .pre in
+    is-flushed (args .n) (not-false (args .flushed) (if1 .left)) (flush-records .ensures) (start-frame .ensures ∙ frame-started (args .n) (args .frame .now) (pre .1 .1) (pre .1 .2))
 
 pub flush-if-spec : {M : Type 1} → statement M
 flush-if-spec =

@@ -8,6 +8,7 @@ use lib.Seq.{sets}
 use lib.ListN.{length}
 use Rattle.pauli.specs.Angle.{eighthsOf}
 use Rattle.arena.specs.Builder.{conditionalStep, PushedMade}
+use Rattle.arena.proofs.Overlay.{operation-written}
 use Rattle.arena.proofs.Accepted.{fits-conditional}
 use Rattle.arena.proofs.header.Header.conditional_rotate.Statement.{statement}
 use Rattle.arena.proofs.header.Header.conditional_rotate.Tie as tie
@@ -44,15 +45,7 @@ index-requires : tie.Need-index-requires
 index-requires c κs = search needs
 
 put-operation-requires : tie.Need-put-operation-requires
-put-operation-requires c κs =
-    let the-enum-told = c .before .before .before .before .enum-told in
-    let check-conditional = c .before .before .before .before .before .before .check-conditional in
-    let args = c .before .before .before .before .before .before .before .before .args in
-    omega (
-      arith,
-      (fits-conditional (args .self) (length (args .operations .now)) (args .axis) (args .outcome) (sym (check-conditional .ensures)
-          ∙ the-enum-told .given .1)),
-    )
+put-operation-requires c κs = search needs
 
 with-operation-requires : tie.Need-with-operation-requires
 with-operation-requires c κs =
@@ -78,9 +71,10 @@ returns-2 c =
     let the-enum-told = c .before .before .before .before .before .before .before .before .enum-told in
     let check-conditional = c .before .before .before .before .before .before .before .before .before .before .check-conditional in
     let args = c .before .before .before .before .before .before .before .before .before .before .before .before .args in
+    let room = fits-conditional (args .self) (length (args .operations .now)) (args .axis) (args .outcome) (sym (check-conditional .ensures) ∙ the-enum-told .given .1) in
     rw (sym (check-conditional .ensures) ∙ the-enum-told .given .1) (
       ap PushedMade (c .with-operation .ensures),
-      put-operation .ensures ∙ ap₂ (λ k r. sets (args .operations .now) (4 * args .self .operations) ((2 + 4 * k) ∷ r .word ∷ index .result ∷ 0 ∷ []))
+      put-operation .ensures ∙ operation-written (args .self .operations) _ (args .operations .now) (omega (arith, room)) ∙ ap₂ (λ k r. sets (args .operations .now) (4 * args .self .operations) ((2 + 4 * k) ∷ r .word ∷ index .result ∷ 0 ∷ []))
           (eighths .ensures) (as-ref .ensures)
           ∙ ap (λ m. sets (args .operations .now) (4 * args .self .operations) ((2 + 4 * eighthsOf (args .angle)) ∷ args .axis .0 .word ∷ m ∷ 0 ∷ []))
           (index .ensures),

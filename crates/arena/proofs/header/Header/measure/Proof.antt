@@ -7,6 +7,7 @@ use borrow.Author.Needs.{needs}
 use lib.Seq.{sets}
 use lib.ListN.{length}
 use Rattle.arena.specs.Builder.{measureStep, MeasuredMade}
+use Rattle.arena.proofs.Overlay.{operation-written}
 use Rattle.arena.proofs.Accepted.{fits-measure}
 use Rattle.arena.proofs.header.Header.measure.Statement.{statement}
 use Rattle.arena.proofs.header.Header.measure.Tie as tie
@@ -35,15 +36,7 @@ target-word-requires c κs =
     (fits-measure (args .self) (length (args .operations .now)) (args .axis) (args .target) (sym (check-measure .ensures) ∙ the-enum-told .given .1)) .1
 
 put-operation-requires : tie.Need-put-operation-requires
-put-operation-requires c κs =
-    let the-enum-told = c .before .before .before .enum-told in
-    let check-measure = c .before .before .before .before .before .check-measure in
-    let args = c .before .before .before .before .before .before .before .args in
-    omega (
-      arith,
-      (fits-measure (args .self) (length (args .operations .now)) (args .axis) (args .target) (sym (check-measure .ensures)
-          ∙ the-enum-told .given .1)) .0,
-    )
+put-operation-requires c κs = search needs
 
 add-with-operation : tie.Need-add-with-operation
 add-with-operation c =
@@ -83,9 +76,10 @@ returns-2 c =
     let the-enum-told = c .before .before .before .before .before .before .before .before .enum-told in
     let check-measure = c .before .before .before .before .before .before .before .before .before .before .check-measure in
     let args = c .before .before .before .before .before .before .before .before .before .before .before .before .args in
+    let room = (fits-measure (args .self) (length (args .operations .now)) (args .axis) (args .target) (sym (check-measure .ensures) ∙ the-enum-told .given .1)) .0 in
     rw (sym (check-measure .ensures) ∙ the-enum-told .given .1) (
       λ i. MeasuredMade (with-operation .ensures i) (c .new .ensures i),
-      put-operation .ensures ∙ ap₂ (λ r t. sets (args .operations .now) (4 * args .self .operations) (1 ∷ r .word ∷ args .self .measurements ∷ t ∷ []))
+      put-operation .ensures ∙ operation-written (args .self .operations) _ (args .operations .now) (omega (arith, room)) ∙ ap₂ (λ r t. sets (args .operations .now) (4 * args .self .operations) (1 ∷ r .word ∷ args .self .measurements ∷ t ∷ []))
           (as-ref .ensures) (target-word .ensures),
     )
 

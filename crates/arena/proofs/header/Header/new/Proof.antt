@@ -4,6 +4,7 @@ use native.Mathlib.Omega.{arith}
 use borrow.Author.Needs.{needs}
 use lib.ListN.{length}
 use Rattle.arena.specs.Builder.{newStep}
+use Rattle.arena.proofs.Overlay.{frame-started}
 use Rattle.arena.proofs.Accepted.{fits-new}
 use Rattle.arena.proofs.header.Header.new.Statement.{statement}
 use Rattle.arena.proofs.header.Header.new.Tie as tie
@@ -33,15 +34,7 @@ start-nodes-requires c κs =
     )
 
 start-frame-requires : tie.Need-start-frame-requires
-start-frame-requires c κs =
-    let the-enum-told = c .before .before .before .before .before .enum-told in
-    let check-new = c .before .before .before .before .before .before .before .check-new in
-    let args = c .before .before .before .before .before .before .before .before .before .before .args in
-    omega (
-      arith,
-      (fits-new (args .qubits) (args .cbits) (length (args .nodes .now)) (length (args .frame .now)) (sym (check-new .ensures)
-          ∙ the-enum-told .given .1)),
-    )
+start-frame-requires c κs = search needs
 
 mul-t15 : tie.Need-mul-t15
 mul-t15 c =
@@ -73,7 +66,17 @@ same-length-2 c = search needs
 
 returns-2 : tie.Need-returns-2
 unfolding newStep
-returns-2 c = rw (sym (c .before .before .before .before .before .before .before .before .before .before .check-new .ensures) ∙ c .before .before .before .before .before .before .before .before .enum-told .given .1) (refl, (c .before .before .before .before .before .before .start-nodes .ensures, c .before .before .start-frame .ensures))
+returns-2 c =
+    let start-frame = c .before .before .start-frame in
+    let start-nodes = c .before .before .before .before .before .before .start-nodes in
+    let the-enum-told = c .before .before .before .before .before .before .before .before .enum-told in
+    let check-new = c .before .before .before .before .before .before .before .before .before .before .check-new in
+    let args = c .before .before .before .before .before .before .before .before .before .before .before .before .before .args in
+    let fits = fits-new (args .qubits) (args .cbits) (length (args .nodes .now)) (length (args .frame .now)) (sym (check-new .ensures) ∙ the-enum-told .given .1) in
+    rw (sym (check-new .ensures) ∙ the-enum-told .given .1) (
+      refl,
+      (start-nodes .ensures, start-frame .ensures ∙ frame-started (args .qubits) (args .frame .now) (omega (arith, fits)) (omega (arith, fits))),
+    )
 
 pub new-spec : {M : Type 1} → statement M
 new-spec =

@@ -7,6 +7,7 @@ use borrow.Author.Needs.{needs}
 use lib.Seq.{sets}
 use lib.ListN.{length}
 use Rattle.arena.specs.Builder.{rotateStep, PushedMade}
+use Rattle.arena.proofs.Overlay.{operation-written}
 use Rattle.arena.proofs.Accepted.{fits-rotate}
 use Rattle.arena.proofs.header.Header.rotate.Statement.{statement}
 use Rattle.arena.proofs.header.Header.rotate.Tie as tie
@@ -37,11 +38,7 @@ as-ref-requires : tie.Need-as-ref-requires
 as-ref-requires c κs = search needs
 
 put-operation-requires : tie.Need-put-operation-requires
-put-operation-requires c κs =
-    let the-enum-told = c .before .before .before .enum-told in
-    let check-rotate = c .before .before .before .before .before .check-rotate in
-    let args = c .before .before .before .before .before .before .before .args in
-    omega (arith, (fits-rotate (args .self) (length (args .operations .now)) (args .axis) (sym (check-rotate .ensures) ∙ the-enum-told .given .1)))
+put-operation-requires c κs = search needs
 
 with-operation-requires : tie.Need-with-operation-requires
 with-operation-requires c κs =
@@ -62,9 +59,10 @@ returns-2 c =
     let the-enum-told = c .before .before .before .before .before .before .before .enum-told in
     let check-rotate = c .before .before .before .before .before .before .before .before .before .check-rotate in
     let args = c .before .before .before .before .before .before .before .before .before .before .before .args in
+    let room = fits-rotate (args .self) (length (args .operations .now)) (args .axis) (sym (check-rotate .ensures) ∙ the-enum-told .given .1) in
     rw (sym (check-rotate .ensures) ∙ the-enum-told .given .1) (
       ap PushedMade (c .with-operation .ensures),
-      put-operation .ensures ∙ ap₂ (λ k r. sets (args .operations .now) (4 * args .self .operations) ((4 * k) ∷ r .word ∷ 0 ∷ 0 ∷ [])) (eighths .ensures)
+      put-operation .ensures ∙ operation-written (args .self .operations) _ (args .operations .now) (omega (arith, room)) ∙ ap₂ (λ k r. sets (args .operations .now) (4 * args .self .operations) ((4 * k) ∷ r .word ∷ 0 ∷ 0 ∷ [])) (eighths .ensures)
           (as-ref .ensures),
     )
 

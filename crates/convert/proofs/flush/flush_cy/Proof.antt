@@ -1,0 +1,42 @@
+-- `flush_cy` meets its contract: the gates in turn.
+use native.Mathlib.Omega.{arith}
+use Rattle.convert.proofs.FlushLaws.{flush-head, flush-tail, more-flushed}
+use borrow.Author.Needs.{needs}
+use Rattle.convert.proofs.flush.flush_cy.Statement.{statement}
+use Rattle.convert.proofs.flush.flush_cy.Tie as tie
+
+flush-sdg-requires : tie.Need-flush-sdg-requires
+flush-sdg-requires c κs = flush-head (c .before .before .before .before .pre)
+
+flush-cnot-requires : tie.Need-flush-cnot-requires
+flush-cnot-requires c κs =
+    let r0 = c .before .before .before .before .before .before .before .before .before .before .before .pre in
+    let r1 = flush-tail r0 (c .before .before .before .before .before .before .flush-sdg .ensures) (omega (arith, c .before .before .before .before .before .before .flush-sdg .kept)) (omega (arith, c .before .before .before .before .before .before .flush-sdg .kept)) in
+    flush-head r1
+
+flush-s-requires : tie.Need-flush-s-requires
+flush-s-requires c κs =
+    let r0 = c .before .before .before .before .before .before .before .before .before .before .before .before .before .before .before .before .before .before .pre in
+    let r1 = flush-tail r0 (c .before .before .before .before .before .before .before .before .before .before .before .before .before .flush-sdg .ensures) (omega (arith, c .before .before .before .before .before .before .before .before .before .before .before .before .before .flush-sdg .kept)) (omega (arith, c .before .before .before .before .before .before .before .before .before .before .before .before .before .flush-sdg .kept)) in
+    let r2 = flush-tail r1 (c .before .before .before .before .before .before .flush-cnot .ensures) (omega (arith, c .before .before .before .before .before .before .flush-cnot .kept)) (omega (arith, c .before .before .before .before .before .before .flush-cnot .kept)) in
+    flush-head r2
+
+same-length : tie.Need-same-length
+same-length c = search needs
+
+same-length-2 : tie.Need-same-length-2
+same-length-2 c = search needs
+
+returns : tie.Need-returns
+returns c = more-flushed (c .before .before .before .before .before .before .before .before .before .before .before .before .before .before .before .before .before .before .flush-sdg .ensures) (more-flushed (c .before .before .before .before .before .before .before .before .before .before .before .flush-cnot .ensures) (c .before .before .before .before .flush-s .ensures))
+
+pub flush-cy-spec : {M : Type 1} → statement M
+flush-cy-spec =
+    tie.close
+    (tie.spec
+    flush-sdg-requires
+    flush-cnot-requires
+    flush-s-requires
+    same-length
+    same-length-2
+    returns)

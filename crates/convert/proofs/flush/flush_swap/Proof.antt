@@ -1,0 +1,42 @@
+-- `flush_swap` meets its contract: the gates in turn.
+use native.Mathlib.Omega.{arith}
+use Rattle.convert.proofs.FlushLaws.{flush-head, flush-tail, more-flushed}
+use borrow.Author.Needs.{needs}
+use Rattle.convert.proofs.flush.flush_swap.Statement.{statement}
+use Rattle.convert.proofs.flush.flush_swap.Tie as tie
+
+flush-cnot-requires : tie.Need-flush-cnot-requires
+flush-cnot-requires c κs = flush-head (c .before .before .before .before .pre)
+
+flush-cnot-requires-2 : tie.Need-flush-cnot-requires-2
+flush-cnot-requires-2 c κs =
+    let r0 = c .before .before .before .before .before .before .before .before .before .before .before .pre in
+    let r1 = flush-tail r0 (c .before .before .before .before .before .before .flush-cnot .ensures) (omega (arith, c .before .before .before .before .before .before .flush-cnot .kept)) (omega (arith, c .before .before .before .before .before .before .flush-cnot .kept)) in
+    flush-head r1
+
+flush-cnot-requires-3 : tie.Need-flush-cnot-requires-3
+flush-cnot-requires-3 c κs =
+    let r0 = c .before .before .before .before .before .before .before .before .before .before .before .before .before .before .before .before .before .before .pre in
+    let r1 = flush-tail r0 (c .before .before .before .before .before .before .before .before .before .before .before .before .before .flush-cnot .ensures) (omega (arith, c .before .before .before .before .before .before .before .before .before .before .before .before .before .flush-cnot .kept)) (omega (arith, c .before .before .before .before .before .before .before .before .before .before .before .before .before .flush-cnot .kept)) in
+    let r2 = flush-tail r1 (c .before .before .before .before .before .before .flush-cnot2 .ensures) (omega (arith, c .before .before .before .before .before .before .flush-cnot2 .kept)) (omega (arith, c .before .before .before .before .before .before .flush-cnot2 .kept)) in
+    flush-head r2
+
+same-length : tie.Need-same-length
+same-length c = search needs
+
+same-length-2 : tie.Need-same-length-2
+same-length-2 c = search needs
+
+returns : tie.Need-returns
+returns c = more-flushed (c .before .before .before .before .before .before .before .before .before .before .before .before .before .before .before .before .before .before .flush-cnot .ensures) (more-flushed (c .before .before .before .before .before .before .before .before .before .before .before .flush-cnot2 .ensures) (c .before .before .before .before .flush-cnot3 .ensures))
+
+pub flush-swap-spec : {M : Type 1} → statement M
+flush-swap-spec =
+    tie.close
+    (tie.spec
+    flush-cnot-requires
+    flush-cnot-requires-2
+    flush-cnot-requires-3
+    same-length
+    same-length-2
+    returns)

@@ -1,0 +1,42 @@
+-- `flush_sx` meets its contract: the gates in turn.
+use native.Mathlib.Omega.{arith}
+use Rattle.convert.proofs.FlushLaws.{flush-head, flush-tail, more-flushed}
+use borrow.Author.Needs.{needs}
+use Rattle.convert.proofs.flush.flush_sx.Statement.{statement}
+use Rattle.convert.proofs.flush.flush_sx.Tie as tie
+
+flush-h-requires : tie.Need-flush-h-requires
+flush-h-requires c κs = flush-head (c .before .before .before .before .pre)
+
+flush-s-requires : tie.Need-flush-s-requires
+flush-s-requires c κs =
+    let r0 = c .before .before .before .before .before .before .before .before .before .before .before .pre in
+    let r1 = flush-tail r0 (c .before .before .before .before .before .before .flush-h .ensures) (omega (arith, c .before .before .before .before .before .before .flush-h .kept)) (omega (arith, c .before .before .before .before .before .before .flush-h .kept)) in
+    flush-head r1
+
+flush-h-requires-2 : tie.Need-flush-h-requires-2
+flush-h-requires-2 c κs =
+    let r0 = c .before .before .before .before .before .before .before .before .before .before .before .before .before .before .before .before .before .before .pre in
+    let r1 = flush-tail r0 (c .before .before .before .before .before .before .before .before .before .before .before .before .before .flush-h .ensures) (omega (arith, c .before .before .before .before .before .before .before .before .before .before .before .before .before .flush-h .kept)) (omega (arith, c .before .before .before .before .before .before .before .before .before .before .before .before .before .flush-h .kept)) in
+    let r2 = flush-tail r1 (c .before .before .before .before .before .before .flush-s .ensures) (omega (arith, c .before .before .before .before .before .before .flush-s .kept)) (omega (arith, c .before .before .before .before .before .before .flush-s .kept)) in
+    flush-head r2
+
+same-length : tie.Need-same-length
+same-length c = search needs
+
+same-length-2 : tie.Need-same-length-2
+same-length-2 c = search needs
+
+returns : tie.Need-returns
+returns c = more-flushed (c .before .before .before .before .before .before .before .before .before .before .before .before .before .before .before .before .before .before .flush-h .ensures) (more-flushed (c .before .before .before .before .before .before .before .before .before .before .before .flush-s .ensures) (c .before .before .before .before .flush-h2 .ensures))
+
+pub flush-sx-spec : {M : Type 1} → statement M
+flush-sx-spec =
+    tie.close
+    (tie.spec
+    flush-h-requires
+    flush-s-requires
+    flush-h-requires-2
+    same-length
+    same-length-2
+    returns)

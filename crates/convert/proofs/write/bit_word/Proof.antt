@@ -1,0 +1,21 @@
+-- `bit_word` meets its contract.
+use native.Mathlib.Omega.{arith}
+use borrow.Author.Tests.{not-true, not-false}
+use borrow.Author.Needs.{needs}
+use Rattle.convert.proofs.write.bit_word.Statement.{statement}
+use Rattle.convert.proofs.write.bit_word.Tie as tie
+
+returns : tie.Need-returns
+returns c = rw (not-true (c .before .args .measured) (c .if1 .taken))
+
+cast-result : tie.Need-cast-result
+cast-result c = let few = c .before .pre (not-false (c .before .args .measured) (c .if1 .left)) in omega (arith, few)
+
+add-result : tie.Need-add-result
+add-result c = let few = c .before .pre (not-false (c .before .args .measured) (c .if1 .left)) in omega (arith, few)
+
+returns-2 : tie.Need-returns-2
+returns-2 c = rw (not-false (c .before .args .measured) (c .if1 .left))
+
+pub bit-word-spec : {M : Type 1} → statement M
+bit-word-spec = tie.close (tie.spec returns cast-result add-result returns-2)
