@@ -1,23 +1,22 @@
 -- What the conversion and the frame gate return to C, and what they leave in the slices lent.
-use mathlib.Core.Bool.{Bool, true, false, cond}
+use mathlib.Core.Bool.{cond}
 use mathlib.Core.List.{List}
 use Prim.Native.Nat.{ℕ}
 use lib.Dec.{ltb}
-use lib.ListN.{length}
-use Rattle.arena.specs.Builder.{Lent}
+use Rattle.arena.specs.Builder.{Step, Lent}
 use Rattle.convert.specs.Frame.{cliffordStep}
 use Rattle.convert.specs.Conversion.{Input, ConvertStep, convertStep}
 use Rattle.exports.specs.Types.{FramePushed, FramePushedMade, FramePushedRefused, Converted, ConvertedMade, ConvertedRefused, Cap, NoCap, AtMost}
-use Rattle.exports.specs.Words.{headerIn, tooShort, Reply, Accepted, Refused, numberIn, headerLeft, answerLeft}
-use Rattle.exports.specs.Exports.{Call, called}
+use Rattle.exports.specs.Words.{headerIn, Reply, Accepted, Refused, Returned}
+use Rattle.exports.specs.Exports.{Headed, lentWords, exported}
 
 unfoldable pub framePushedReply : FramePushed → Reply
 framePushedReply (FramePushedMade h) = Accepted h 0 0 0
 framePushedReply (FramePushedRefused e) = Refused e
 
-unfoldable pub cliffordCall : (header nodes frame : List ℕ) → (kind a b : ℕ) → (answer : List ℕ) → Call Lent
+unfoldable pub cliffordCall : (header nodes frame : List ℕ) → (kind a b : ℕ) → (answer : List ℕ) → Returned (Headed Lent)
 cliffordCall header nodes frame kind a b answer =
-    called (tooShort (length header) (length answer)) header answer (record { nodes = nodes; frame = frame }) framePushedReply
+    exported header answer (lentWords nodes frame) framePushedReply
     (cliffordStep (headerIn header) nodes frame kind a b)
 
 -- ---- conversion
@@ -30,34 +29,18 @@ unfoldable pub convertedReply : Converted → Reply
 convertedReply (ConvertedMade h) = Accepted h 0 0 0
 convertedReply (ConvertedRefused e) = Refused e
 
-pub record ConvertCall : Type 0 where
-  pub number : ℕ
+-- the words that a conversion may write
+pub record Converting : Type 0 where
   pub nodes : List ℕ
   pub operations : List ℕ
   pub frame : List ℕ
   pub planes : List ℕ
-  pub header : List ℕ
-  pub answer : List ℕ
 
-abbrev pub converted : (short : Bool) → Input → (header answer : List ℕ) → ConvertStep → ConvertCall
-converted true x header answer step = record {
-  number = 255;
-  nodes = x .nodes;
-  operations = x .operations;
-  frame = x .frame;
-  planes = x .planes;
-  header = header;
-  answer = answer;
-}
-converted false x header answer step = record {
-  number = numberIn (convertedReply (step .answer));
-  nodes = step .nodes;
-  operations = step .operations;
-  frame = step .frame;
-  planes = step .planes;
-  header = headerLeft (convertedReply (step .answer)) header;
-  answer = answerLeft (convertedReply (step .answer)) answer;
-}
+abbrev pub convertWords : (nodes operations frame planes : List ℕ) → Converting
+convertWords nodes operations frame planes = record { nodes = nodes; operations = operations; frame = frame; planes = planes }
+
+abbrev pub convertLeft : ConvertStep → Step Converted Converting
+convertLeft s = record { answer = s .answer; words = convertWords (s .nodes) (s .operations) (s .frame) (s .planes) }
 
 abbrev pub inputIn : (qubits cbits owner cap : ℕ) → (gates nodes operations frame planes : List ℕ) → Input
 inputIn qubits cbits owner cap gates nodes operations frame planes = record {
@@ -72,7 +55,7 @@ inputIn qubits cbits owner cap gates nodes operations frame planes = record {
   planes = planes;
 }
 
-unfoldable pub convertCall : (qubits cbits owner cap : ℕ) → (gates nodes operations frame planes header answer : List ℕ) → ConvertCall
+unfoldable pub convertCall : (qubits cbits owner cap : ℕ) → (gates nodes operations frame planes header answer : List ℕ) → Returned (Headed Converting)
 convertCall qubits cbits owner cap gates nodes operations frame planes header answer =
-    converted (tooShort (length header) (length answer)) (inputIn qubits cbits owner cap gates nodes operations frame planes) header answer
-    (convertStep (inputIn qubits cbits owner cap gates nodes operations frame planes))
+    exported header answer (convertWords nodes operations frame planes) convertedReply
+    (convertLeft (convertStep (inputIn qubits cbits owner cap gates nodes operations frame planes)))

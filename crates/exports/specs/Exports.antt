@@ -1,5 +1,4 @@
 -- What each function for C returns, and what it leaves in the slices lent: accepted, refused, or lent too few words.
-use mathlib.Core.Bool.{Bool, true, false}
 use mathlib.Core.List.{List}
 use Prim.Native.Nat.{ℕ, _+_, _*_, _%_}
 use lib.IntN.{ℤ}
@@ -7,8 +6,9 @@ use lib.ListN.{length}
 use Rattle.pauli.specs.Letters.{numberProduct}
 use Rattle.arena.specs.Operations.{measId}
 use Rattle.arena.specs.Builder.{Step, Lent, newStep, singleStep, productStep, rotateStep, measureStep, conditionalStep}
-use Rattle.exports.specs.Types.{Created, CreatedMade, CreatedRefused, Singled, SingledMade, SingledRefused, Multiplied, MultipliedMade, MultipliedRefused, Pushed, PushedMade, PushedRefused, Measured, MeasuredMade, MeasuredRefused}
-use Rattle.exports.specs.Words.{headerIn, refIn, axisIn, letterIn, angleIn, targetIn, tooShort, Reply, Accepted, Refused, numberIn, headerLeft, answerLeft}
+use Rattle.exports.specs.Types.{Created, CreatedMade, CreatedRefused, Singled, SingledMade, SingledRefused, Multiplied, MultipliedMade, MultipliedRefused}
+use Rattle.exports.specs.Types.{Pushed, PushedMade, PushedRefused, Measured, MeasuredMade, MeasuredRefused}
+use Rattle.exports.specs.Words.{headerIn, handleIn, handleAxis, letterIn, angleIn, targetIn, tooShort, Reply, Accepted, Refused, headerLeft, Returned, replied}
 
 -- ---- replies: the header and up to three values, or a refusal
 
@@ -34,50 +34,53 @@ measuredReply (MeasuredRefused e) = Refused e
 
 -- ---- calls that give a header
 
--- the number returned, and the lent words
-pub record Call (B : Type 0) : Type 0 where
-  pub number : ℕ
+-- the header's words, and the other words that a call may write
+pub record Headed (B : Type 0) : Type 0 where
   pub header : List ℕ
-  pub answer : List ℕ
   pub words : B
 
-abbrev pub called : {A B : Type 0} → (short : Bool) → (header answer : List ℕ) → (was : B) → (A → Reply) → Step A B → Call B
-called true header answer was reply step = record { number = 255; header = header; answer = answer; words = was }
-called false header answer was reply step = record {
-  number = numberIn (reply (step .answer));
-  header = headerLeft (reply (step .answer)) header;
-  answer = answerLeft (reply (step .answer)) answer;
-  words = step .words;
-}
+abbrev pub headed : {B : Type 0} → List ℕ → B → Headed B
+headed header words = record { header = header; words = words }
 
-unfoldable pub newCall : (qubits cbits owner : ℕ) → (nodes frame header answer : List ℕ) → Call Lent
+abbrev pub lentWords : (nodes frame : List ℕ) → Lent
+lentWords nodes frame = record { nodes = nodes; frame = frame }
+
+-- what a call's answer and words come to
+abbrev pub exported : {A B : Type 0} → (header answer : List ℕ) → (was : B) → (A → Reply) → Step A B → Returned (Headed B)
+exported header answer was reply step =
+    replied (tooShort (length header) (length answer)) answer (headed header was) (reply (step .answer))
+    (headed (headerLeft (reply (step .answer)) header) (step .words))
+
+unfoldable pub newCall : (qubits cbits owner : ℕ) → (nodes frame header answer : List ℕ) → Returned (Headed Lent)
 newCall qubits cbits owner nodes frame header answer =
-    called (tooShort (length header) (length answer)) header answer (record { nodes = nodes; frame = frame }) createdReply
+    exported header answer (lentWords nodes frame) createdReply
     (newStep qubits cbits owner nodes frame)
 
-unfoldable pub singleCall : (header nodes : List ℕ) → (qubit letter : ℕ) → (answer : List ℕ) → Call (List ℕ)
+unfoldable pub singleCall : (header nodes : List ℕ) → (qubit letter : ℕ) → (answer : List ℕ) → Returned (Headed (List ℕ))
 singleCall header nodes qubit letter answer =
-    called (tooShort (length header) (length answer)) header answer nodes singledReply (singleStep (headerIn header) nodes qubit (letterIn letter))
+    exported header answer nodes singledReply (singleStep (headerIn header) nodes qubit (letterIn letter))
 
-unfoldable pub productCall : (header nodes : List ℕ) → (leftOwner left rightOwner right : ℕ) → (answer : List ℕ) → Call (List ℕ)
+unfoldable pub productCall : (header nodes : List ℕ) → (leftOwner left rightOwner right : ℕ) → (answer : List ℕ) → Returned (Headed (List ℕ))
 productCall header nodes leftOwner left rightOwner right answer =
-    called (tooShort (length header) (length answer)) header answer nodes multipliedReply
-    (productStep (headerIn header) nodes (refIn leftOwner left) (refIn rightOwner right))
+    exported header answer nodes multipliedReply
+    (productStep (headerIn header) nodes (handleIn leftOwner left) (handleIn rightOwner right))
 
-unfoldable pub rotateCall : (header operations : List ℕ) → (owner word : ℕ) → (angle : ℤ) → (answer : List ℕ) → Call (List ℕ)
+unfoldable pub rotateCall : (header operations : List ℕ) → (owner word : ℕ) → (angle : ℤ) → (answer : List ℕ) → Returned (Headed (List ℕ))
 rotateCall header operations owner word angle answer =
-    called (tooShort (length header) (length answer)) header answer operations pushedReply
-    (rotateStep (headerIn header) operations (axisIn owner word) (angleIn angle))
+    exported header answer operations pushedReply
+    (rotateStep (headerIn header) operations (handleAxis owner word) (angleIn angle))
 
-unfoldable pub measureCall : (header operations : List ℕ) → (owner word target : ℕ) → (answer : List ℕ) → Call (List ℕ)
+unfoldable pub measureCall : (header operations : List ℕ) → (owner word target : ℕ) → (answer : List ℕ) → Returned (Headed (List ℕ))
 measureCall header operations owner word target answer =
-    called (tooShort (length header) (length answer)) header answer operations measuredReply
-    (measureStep (headerIn header) operations (axisIn owner word) (targetIn target))
+    exported header answer operations measuredReply
+    (measureStep (headerIn header) operations (handleAxis owner word) (targetIn target))
 
-unfoldable pub conditionalCall : (header operations : List ℕ) → (owner word : ℕ) → (angle : ℤ) → (measurementOwner measurement : ℕ) → (answer : List ℕ) → Call (List ℕ)
+unfoldable pub conditionalCall :
+    (header operations : List ℕ) → (owner word : ℕ) → (angle : ℤ) → (measurementOwner measurement : ℕ) → (answer : List ℕ)
+    → Returned (Headed (List ℕ))
 conditionalCall header operations owner word angle measurementOwner measurement answer =
-    called (tooShort (length header) (length answer)) header answer operations pushedReply
-    (conditionalStep (headerIn header) operations (axisIn owner word) (angleIn angle) (measId measurementOwner measurement))
+    exported header answer operations pushedReply
+    (conditionalStep (headerIn header) operations (handleAxis owner word) (angleIn angle) (measId measurementOwner measurement))
 
 -- ---- letters: the product of two, as 4 × phase + letter
 

@@ -1,12 +1,13 @@
 -- What each function that reads a circuit returns, and what it leaves in the slices lent. The header and the nodes are only read.
-use mathlib.Core.Bool.{Bool, true, false}
+use mathlib.Core.Bool.{Bool}
 use mathlib.Core.List.{List}
 use Prim.Native.Nat.{ℕ}
 use lib.ListN.{length}
 use Rattle.pauli.specs.Letters.{phaseNumber}
+use Rattle.arena.specs.Walk.{Out}
 use Rattle.arena.specs.Expansion.{ExpandStep, WalkStep, expansionOf, hermitianOf, maxWeightsOf, expandStep, hermitianStep, reportStep}
 use Rattle.exports.specs.Types.{Header, Expansion, ExpansionMade, ExpansionRefused, HermitianAxis, HermitianMade, HermitianRefused, MaxAxisWeights, WeightsMade, WeightsRefused}
-use Rattle.exports.specs.Words.{headerIn, refIn, tooShort, Reply, Accepted, Refused, numberIn, answerLeft}
+use Rattle.exports.specs.Words.{headerIn, handleIn, tooShort, Reply, Accepted, Refused, Returned, replied}
 
 -- ---- replies: phase and work, word and work, two weights and work
 
@@ -24,48 +25,44 @@ weightsReply h (WeightsRefused e) = Refused e
 
 -- ---- expand
 
-pub record ExpandCall : Type 0 where
-  pub number : ℕ
+-- the words that it may write
+pub record Expanding : Type 0 where
   pub letters : List ℕ
   pub scratch : List ℕ
   pub pool : List ℕ
-  pub answer : List ℕ
 
-abbrev pub expanded : (short : Bool) → Header → (letters scratch pool answer : List ℕ) → ExpandStep → ExpandCall
-expanded true h letters scratch pool answer step = record { number = 255; letters = letters; scratch = scratch; pool = pool; answer = answer }
-expanded false h letters scratch pool answer step = record {
-  number = numberIn (expandedReply h (expansionOf (step .answer)));
-  letters = step .letters;
-  scratch = step .scratch;
-  pool = step .pool;
-  answer = answerLeft (expandedReply h (expansionOf (step .answer))) answer;
-}
+abbrev pub expandWords : (letters scratch pool : List ℕ) → Expanding
+expandWords letters scratch pool = record { letters = letters; scratch = scratch; pool = pool }
 
-unfoldable pub expandCall : (header nodes letters scratch pool : List ℕ) → (owner word cells : ℕ) → (answer : List ℕ) → ExpandCall
+abbrev pub expandedWith : Header → (letters scratch pool answer : List ℕ) → (short : Bool) → ExpandStep → Returned Expanding
+expandedWith h letters scratch pool answer short step =
+    replied short answer (expandWords letters scratch pool) (expandedReply h (expansionOf (step .answer)))
+    (expandWords (step .letters) (step .scratch) (step .pool))
+
+unfoldable pub expandCall : (header nodes letters scratch pool : List ℕ) → (owner word cells : ℕ) → (answer : List ℕ) → Returned Expanding
 expandCall header nodes letters scratch pool owner word cells answer =
-    expanded (tooShort (length header) (length answer)) (headerIn header) letters scratch pool answer
-    (expandStep (headerIn header) nodes letters scratch pool (refIn owner word) cells)
+    expandedWith (headerIn header) letters scratch pool answer (tooShort (length header) (length answer))
+    (expandStep (headerIn header) nodes letters scratch pool (handleIn owner word) cells)
 
 -- ---- hermitian_axis and max_axis_weights
 
-pub record WalkCall : Type 0 where
-  pub number : ℕ
+pub record Walking : Type 0 where
   pub scratch : List ℕ
   pub pool : List ℕ
-  pub answer : List ℕ
 
-abbrev pub walked : {A : Type 0} → (short : Bool) → (scratch pool answer : List ℕ) → Reply → WalkStep A → WalkCall
-walked true scratch pool answer reply step = record { number = 255; scratch = scratch; pool = pool; answer = answer }
-walked false scratch pool answer reply step = record { number = numberIn reply; scratch = step .scratch; pool = step .pool; answer = answerLeft reply answer }
+abbrev pub walkWords : (scratch pool : List ℕ) → Walking
+walkWords scratch pool = record { scratch = scratch; pool = pool }
 
-unfoldable pub hermitianCall : (header nodes scratch pool : List ℕ) → (owner word limit : ℕ) → (answer : List ℕ) → WalkCall
+abbrev pub walkedWith : {A : Type 0} → (scratch pool answer : List ℕ) → (short : Bool) → (Out A → Reply) → WalkStep A → Returned Walking
+walkedWith scratch pool answer short reply step =
+    replied short answer (walkWords scratch pool) (reply (step .answer)) (walkWords (step .scratch) (step .pool))
+
+unfoldable pub hermitianCall : (header nodes scratch pool : List ℕ) → (owner word limit : ℕ) → (answer : List ℕ) → Returned Walking
 hermitianCall header nodes scratch pool owner word limit answer =
-    walked (tooShort (length header) (length answer)) scratch pool answer
-    (hermitianReply (headerIn header) (hermitianOf (refIn owner word) (hermitianStep (headerIn header) nodes scratch pool (refIn owner word) limit .answer)))
-    (hermitianStep (headerIn header) nodes scratch pool (refIn owner word) limit)
+    walkedWith scratch pool answer (tooShort (length header) (length answer)) (λ o. hermitianReply (headerIn header) (hermitianOf (handleIn owner word) o))
+    (hermitianStep (headerIn header) nodes scratch pool (handleIn owner word) limit)
 
-unfoldable pub weightsCall : (header nodes operations scratch pool : List ℕ) → (limit : ℕ) → (answer : List ℕ) → WalkCall
+unfoldable pub weightsCall : (header nodes operations scratch pool : List ℕ) → (limit : ℕ) → (answer : List ℕ) → Returned Walking
 weightsCall header nodes operations scratch pool limit answer =
-    walked (tooShort (length header) (length answer)) scratch pool answer
-    (weightsReply (headerIn header) (maxWeightsOf (reportStep (headerIn header) nodes operations scratch pool limit .answer)))
+    walkedWith scratch pool answer (tooShort (length header) (length answer)) (λ o. weightsReply (headerIn header) (maxWeightsOf o))
     (reportStep (headerIn header) nodes operations scratch pool limit)

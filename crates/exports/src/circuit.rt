@@ -19,7 +19,8 @@ use arena::Pushed;
 use arena::Singled;
 ghost use mathlib.Core.Path.{_≡_};
 ghost use Rattle.exports.specs.Exports.{createdReply, singledReply, multipliedReply, pushedReply, measuredReply};
-ghost use Rattle.exports.specs.Exports.{newCall, singleCall, productCall, rotateCall, measureCall, conditionalCall};
+ghost use Rattle.exports.specs.Words.{returned};
+ghost use Rattle.exports.specs.Exports.{headed, lentWords, newCall, singleCall, productCall, rotateCall, measureCall, conditionalCall};
 
 fn created(answer: Created) -> Reply
     ensures { λ r. ⌜ r ≡ createdReply answer ⌝ }
@@ -77,11 +78,8 @@ pub extern "C" fn pbc_new(
     header: &mut [u64],
     answer: &mut [u64],
 ) -> u32
-    ensures { λ r. ⌜ r ≡ newCall qubits cbits owner (now (nodes .entry)) (now (frame .entry)) (now (header .entry)) (now (answer .entry)) .number ⌝ }
-    ensures { λ _. ⌜ now (nodes .exit) ≡ newCall qubits cbits owner (now (nodes .entry)) (now (frame .entry)) (now (header .entry)) (now (answer .entry)) .words .nodes ⌝ }
-    ensures { λ _. ⌜ now (frame .exit) ≡ newCall qubits cbits owner (now (nodes .entry)) (now (frame .entry)) (now (header .entry)) (now (answer .entry)) .words .frame ⌝ }
-    ensures { λ _. ⌜ now (header .exit) ≡ newCall qubits cbits owner (now (nodes .entry)) (now (frame .entry)) (now (header .entry)) (now (answer .entry)) .header ⌝ }
-    ensures { λ _. ⌜ now (answer .exit) ≡ newCall qubits cbits owner (now (nodes .entry)) (now (frame .entry)) (now (header .entry)) (now (answer .entry)) .answer ⌝ }
+    ensures { λ r. ⌜ returned r (now (answer .exit)) (headed (now (header .exit)) (lentWords (now (nodes .exit)) (now (frame .exit))))
+        ≡ newCall qubits cbits owner (now (nodes .entry)) (now (frame .entry)) (now (header .entry)) (now (answer .entry)) ⌝ }
 {
     if too_short(header.len(), answer.len()) {
         return 255;
@@ -100,10 +98,8 @@ pub extern "C" fn pbc_single(
     letter: u32,
     answer: &mut [u64],
 ) -> u32
-    ensures { λ r. ⌜ r ≡ singleCall (now (header .entry)) (now (nodes .entry)) qubit letter (now (answer .entry)) .number ⌝ }
-    ensures { λ _. ⌜ now (nodes .exit) ≡ singleCall (now (header .entry)) (now (nodes .entry)) qubit letter (now (answer .entry)) .words ⌝ }
-    ensures { λ _. ⌜ now (header .exit) ≡ singleCall (now (header .entry)) (now (nodes .entry)) qubit letter (now (answer .entry)) .header ⌝ }
-    ensures { λ _. ⌜ now (answer .exit) ≡ singleCall (now (header .entry)) (now (nodes .entry)) qubit letter (now (answer .entry)) .answer ⌝ }
+    ensures { λ r. ⌜ returned r (now (answer .exit)) (headed (now (header .exit)) (now (nodes .exit)))
+        ≡ singleCall (now (header .entry)) (now (nodes .entry)) qubit letter (now (answer .entry)) ⌝ }
 {
     if too_short(header.len(), answer.len()) {
         return 255;
@@ -125,10 +121,8 @@ pub extern "C" fn pbc_product(
     right: u32,
     answer: &mut [u64],
 ) -> u32
-    ensures { λ r. ⌜ r ≡ productCall (now (header .entry)) (now (nodes .entry)) «left_owner» left «right_owner» right (now (answer .entry)) .number ⌝ }
-    ensures { λ _. ⌜ now (nodes .exit) ≡ productCall (now (header .entry)) (now (nodes .entry)) «left_owner» left «right_owner» right (now (answer .entry)) .words ⌝ }
-    ensures { λ _. ⌜ now (header .exit) ≡ productCall (now (header .entry)) (now (nodes .entry)) «left_owner» left «right_owner» right (now (answer .entry)) .header ⌝ }
-    ensures { λ _. ⌜ now (answer .exit) ≡ productCall (now (header .entry)) (now (nodes .entry)) «left_owner» left «right_owner» right (now (answer .entry)) .answer ⌝ }
+    ensures { λ r. ⌜ returned r (now (answer .exit)) (headed (now (header .exit)) (now (nodes .exit)))
+        ≡ productCall (now (header .entry)) (now (nodes .entry)) «left_owner» left «right_owner» right (now (answer .entry)) ⌝ }
 {
     if too_short(header.len(), answer.len()) {
         return 255;
@@ -151,10 +145,8 @@ pub extern "C" fn pbc_rotate(
     angle: i64,
     answer: &mut [u64],
 ) -> u32
-    ensures { λ r. ⌜ r ≡ rotateCall (now (header .entry)) (now (operations .entry)) owner word angle (now (answer .entry)) .number ⌝ }
-    ensures { λ _. ⌜ now (operations .exit) ≡ rotateCall (now (header .entry)) (now (operations .entry)) owner word angle (now (answer .entry)) .words ⌝ }
-    ensures { λ _. ⌜ now (header .exit) ≡ rotateCall (now (header .entry)) (now (operations .entry)) owner word angle (now (answer .entry)) .header ⌝ }
-    ensures { λ _. ⌜ now (answer .exit) ≡ rotateCall (now (header .entry)) (now (operations .entry)) owner word angle (now (answer .entry)) .answer ⌝ }
+    ensures { λ r. ⌜ returned r (now (answer .exit)) (headed (now (header .exit)) (now (operations .exit)))
+        ≡ rotateCall (now (header .entry)) (now (operations .entry)) owner word angle (now (answer .entry)) ⌝ }
 {
     if too_short(header.len(), answer.len()) {
         return 255;
@@ -175,10 +167,8 @@ pub extern "C" fn pbc_measure(
     target: u64,
     answer: &mut [u64],
 ) -> u32
-    ensures { λ r. ⌜ r ≡ measureCall (now (header .entry)) (now (operations .entry)) owner word target (now (answer .entry)) .number ⌝ }
-    ensures { λ _. ⌜ now (operations .exit) ≡ measureCall (now (header .entry)) (now (operations .entry)) owner word target (now (answer .entry)) .words ⌝ }
-    ensures { λ _. ⌜ now (header .exit) ≡ measureCall (now (header .entry)) (now (operations .entry)) owner word target (now (answer .entry)) .header ⌝ }
-    ensures { λ _. ⌜ now (answer .exit) ≡ measureCall (now (header .entry)) (now (operations .entry)) owner word target (now (answer .entry)) .answer ⌝ }
+    ensures { λ r. ⌜ returned r (now (answer .exit)) (headed (now (header .exit)) (now (operations .exit)))
+        ≡ measureCall (now (header .entry)) (now (operations .entry)) owner word target (now (answer .entry)) ⌝ }
 {
     if too_short(header.len(), answer.len()) {
         return 255;
@@ -201,10 +191,8 @@ pub extern "C" fn pbc_conditional_rotate(
     measurement: u32,
     answer: &mut [u64],
 ) -> u32
-    ensures { λ r. ⌜ r ≡ conditionalCall (now (header .entry)) (now (operations .entry)) owner word angle «measurement_owner» measurement (now (answer .entry)) .number ⌝ }
-    ensures { λ _. ⌜ now (operations .exit) ≡ conditionalCall (now (header .entry)) (now (operations .entry)) owner word angle «measurement_owner» measurement (now (answer .entry)) .words ⌝ }
-    ensures { λ _. ⌜ now (header .exit) ≡ conditionalCall (now (header .entry)) (now (operations .entry)) owner word angle «measurement_owner» measurement (now (answer .entry)) .header ⌝ }
-    ensures { λ _. ⌜ now (answer .exit) ≡ conditionalCall (now (header .entry)) (now (operations .entry)) owner word angle «measurement_owner» measurement (now (answer .entry)) .answer ⌝ }
+    ensures { λ r. ⌜ returned r (now (answer .exit)) (headed (now (header .exit)) (now (operations .exit)))
+        ≡ conditionalCall (now (header .entry)) (now (operations .entry)) owner word angle «measurement_owner» measurement (now (answer .entry)) ⌝ }
 {
     if too_short(header.len(), answer.len()) {
         return 255;

@@ -11,7 +11,9 @@ use convert::FramePushed;
 use convert::push_output_clifford;
 use convert::to_pbc;
 ghost use mathlib.Core.Path.{_≡_};
-ghost use Rattle.exports.specs.Conversion.{framePushedReply, convertedReply, capIn, cliffordCall, convertCall};
+ghost use Rattle.exports.specs.Words.{returned};
+ghost use Rattle.exports.specs.Exports.{headed, lentWords};
+ghost use Rattle.exports.specs.Conversion.{framePushedReply, convertedReply, capIn, cliffordCall, convertWords, convertCall};
 
 fn frame_pushed(answer: FramePushed) -> Reply
     ensures { λ r. ⌜ r ≡ framePushedReply answer ⌝ }
@@ -52,11 +54,8 @@ pub extern "C" fn pbc_push_output_clifford(
     b: u32,
     answer: &mut [u64],
 ) -> u32
-    ensures { λ r. ⌜ r ≡ cliffordCall (now (header .entry)) (now (nodes .entry)) (now (frame .entry)) kind a b (now (answer .entry)) .number ⌝ }
-    ensures { λ _. ⌜ now (nodes .exit) ≡ cliffordCall (now (header .entry)) (now (nodes .entry)) (now (frame .entry)) kind a b (now (answer .entry)) .words .nodes ⌝ }
-    ensures { λ _. ⌜ now (frame .exit) ≡ cliffordCall (now (header .entry)) (now (nodes .entry)) (now (frame .entry)) kind a b (now (answer .entry)) .words .frame ⌝ }
-    ensures { λ _. ⌜ now (header .exit) ≡ cliffordCall (now (header .entry)) (now (nodes .entry)) (now (frame .entry)) kind a b (now (answer .entry)) .header ⌝ }
-    ensures { λ _. ⌜ now (answer .exit) ≡ cliffordCall (now (header .entry)) (now (nodes .entry)) (now (frame .entry)) kind a b (now (answer .entry)) .answer ⌝ }
+    ensures { λ r. ⌜ returned r (now (answer .exit)) (headed (now (header .exit)) (lentWords (now (nodes .exit)) (now (frame .exit))))
+        ≡ cliffordCall (now (header .entry)) (now (nodes .entry)) (now (frame .entry)) kind a b (now (answer .entry)) ⌝ }
 {
     if too_short(header.len(), answer.len()) {
         return 255;
@@ -82,13 +81,10 @@ pub extern "C" fn pbc_convert(
     header: &mut [u64],
     answer: &mut [u64],
 ) -> u32
-    ensures { λ r. ⌜ r ≡ convertCall qubits cbits owner cap (now (gates .entry)) (now (nodes .entry)) (now (operations .entry)) (now (frame .entry)) (now (planes .entry)) (now (header .entry)) (now (answer .entry)) .number ⌝ }
-    ensures { λ _. ⌜ now (nodes .exit) ≡ convertCall qubits cbits owner cap (now (gates .entry)) (now (nodes .entry)) (now (operations .entry)) (now (frame .entry)) (now (planes .entry)) (now (header .entry)) (now (answer .entry)) .nodes ⌝ }
-    ensures { λ _. ⌜ now (operations .exit) ≡ convertCall qubits cbits owner cap (now (gates .entry)) (now (nodes .entry)) (now (operations .entry)) (now (frame .entry)) (now (planes .entry)) (now (header .entry)) (now (answer .entry)) .operations ⌝ }
-    ensures { λ _. ⌜ now (frame .exit) ≡ convertCall qubits cbits owner cap (now (gates .entry)) (now (nodes .entry)) (now (operations .entry)) (now (frame .entry)) (now (planes .entry)) (now (header .entry)) (now (answer .entry)) .frame ⌝ }
-    ensures { λ _. ⌜ now (planes .exit) ≡ convertCall qubits cbits owner cap (now (gates .entry)) (now (nodes .entry)) (now (operations .entry)) (now (frame .entry)) (now (planes .entry)) (now (header .entry)) (now (answer .entry)) .planes ⌝ }
-    ensures { λ _. ⌜ now (header .exit) ≡ convertCall qubits cbits owner cap (now (gates .entry)) (now (nodes .entry)) (now (operations .entry)) (now (frame .entry)) (now (planes .entry)) (now (header .entry)) (now (answer .entry)) .header ⌝ }
-    ensures { λ _. ⌜ now (answer .exit) ≡ convertCall qubits cbits owner cap (now (gates .entry)) (now (nodes .entry)) (now (operations .entry)) (now (frame .entry)) (now (planes .entry)) (now (header .entry)) (now (answer .entry)) .answer ⌝ }
+    ensures { λ r. ⌜ returned r (now (answer .exit))
+        (headed (now (header .exit)) (convertWords (now (nodes .exit)) (now (operations .exit)) (now (frame .exit)) (now (planes .exit))))
+        ≡ convertCall qubits cbits owner cap (now (gates .entry)) (now (nodes .entry)) (now (operations .entry)) (now (frame .entry)) (now (planes .entry))
+        (now (header .entry)) (now (answer .entry)) ⌝ }
 {
     if too_short(header.len(), answer.len()) {
         return 255;

@@ -10,7 +10,8 @@ use arena::Header;
 use arena::HermitianAxis;
 use arena::MaxAxisWeights;
 ghost use mathlib.Core.Path.{_≡_};
-ghost use Rattle.exports.specs.Readers.{expandedReply, hermitianReply, weightsReply, expandCall, hermitianCall, weightsCall};
+ghost use Rattle.exports.specs.Words.{returned};
+ghost use Rattle.exports.specs.Readers.{expandedReply, hermitianReply, weightsReply, expandWords, walkWords, expandCall, hermitianCall, weightsCall};
 
 fn expanded(header: Header, answer: Expansion) -> Reply
     ensures { λ r. ⌜ r ≡ expandedReply header answer ⌝ }
@@ -58,11 +59,8 @@ pub extern "C" fn pbc_expand(
     cells: u64,
     answer: &mut [u64],
 ) -> u32
-    ensures { λ r. ⌜ r ≡ expandCall (now (header .entry)) (now (nodes .entry)) (now (letters .entry)) (now (scratch .entry)) (now (pool .entry)) owner word cells (now (answer .entry)) .number ⌝ }
-    ensures { λ _. ⌜ now (letters .exit) ≡ expandCall (now (header .entry)) (now (nodes .entry)) (now (letters .entry)) (now (scratch .entry)) (now (pool .entry)) owner word cells (now (answer .entry)) .letters ⌝ }
-    ensures { λ _. ⌜ now (scratch .exit) ≡ expandCall (now (header .entry)) (now (nodes .entry)) (now (letters .entry)) (now (scratch .entry)) (now (pool .entry)) owner word cells (now (answer .entry)) .scratch ⌝ }
-    ensures { λ _. ⌜ now (pool .exit) ≡ expandCall (now (header .entry)) (now (nodes .entry)) (now (letters .entry)) (now (scratch .entry)) (now (pool .entry)) owner word cells (now (answer .entry)) .pool ⌝ }
-    ensures { λ _. ⌜ now (answer .exit) ≡ expandCall (now (header .entry)) (now (nodes .entry)) (now (letters .entry)) (now (scratch .entry)) (now (pool .entry)) owner word cells (now (answer .entry)) .answer ⌝ }
+    ensures { λ r. ⌜ returned r (now (answer .exit)) (expandWords (now (letters .exit)) (now (scratch .exit)) (now (pool .exit)))
+        ≡ expandCall (now (header .entry)) (now (nodes .entry)) (now (letters .entry)) (now (scratch .entry)) (now (pool .entry)) owner word cells (now (answer .entry)) ⌝ }
 {
     if too_short(header.len(), answer.len()) {
         return 255;
@@ -86,10 +84,8 @@ pub extern "C" fn pbc_hermitian_axis(
     limit: u64,
     answer: &mut [u64],
 ) -> u32
-    ensures { λ r. ⌜ r ≡ hermitianCall (now (header .entry)) (now (nodes .entry)) (now (scratch .entry)) (now (pool .entry)) owner word limit (now (answer .entry)) .number ⌝ }
-    ensures { λ _. ⌜ now (scratch .exit) ≡ hermitianCall (now (header .entry)) (now (nodes .entry)) (now (scratch .entry)) (now (pool .entry)) owner word limit (now (answer .entry)) .scratch ⌝ }
-    ensures { λ _. ⌜ now (pool .exit) ≡ hermitianCall (now (header .entry)) (now (nodes .entry)) (now (scratch .entry)) (now (pool .entry)) owner word limit (now (answer .entry)) .pool ⌝ }
-    ensures { λ _. ⌜ now (answer .exit) ≡ hermitianCall (now (header .entry)) (now (nodes .entry)) (now (scratch .entry)) (now (pool .entry)) owner word limit (now (answer .entry)) .answer ⌝ }
+    ensures { λ r. ⌜ returned r (now (answer .exit)) (walkWords (now (scratch .exit)) (now (pool .exit)))
+        ≡ hermitianCall (now (header .entry)) (now (nodes .entry)) (now (scratch .entry)) (now (pool .entry)) owner word limit (now (answer .entry)) ⌝ }
 {
     if too_short(header.len(), answer.len()) {
         return 255;
@@ -112,10 +108,8 @@ pub extern "C" fn pbc_max_axis_weights(
     limit: u64,
     answer: &mut [u64],
 ) -> u32
-    ensures { λ r. ⌜ r ≡ weightsCall (now (header .entry)) (now (nodes .entry)) (now (operations .entry)) (now (scratch .entry)) (now (pool .entry)) limit (now (answer .entry)) .number ⌝ }
-    ensures { λ _. ⌜ now (scratch .exit) ≡ weightsCall (now (header .entry)) (now (nodes .entry)) (now (operations .entry)) (now (scratch .entry)) (now (pool .entry)) limit (now (answer .entry)) .scratch ⌝ }
-    ensures { λ _. ⌜ now (pool .exit) ≡ weightsCall (now (header .entry)) (now (nodes .entry)) (now (operations .entry)) (now (scratch .entry)) (now (pool .entry)) limit (now (answer .entry)) .pool ⌝ }
-    ensures { λ _. ⌜ now (answer .exit) ≡ weightsCall (now (header .entry)) (now (nodes .entry)) (now (operations .entry)) (now (scratch .entry)) (now (pool .entry)) limit (now (answer .entry)) .answer ⌝ }
+    ensures { λ r. ⌜ returned r (now (answer .exit)) (walkWords (now (scratch .exit)) (now (pool .exit)))
+        ≡ weightsCall (now (header .entry)) (now (nodes .entry)) (now (operations .entry)) (now (scratch .entry)) (now (pool .entry)) limit (now (answer .entry)) ⌝ }
 {
     if too_short(header.len(), answer.len()) {
         return 255;

@@ -12,7 +12,7 @@ ghost use mathlib.Core.List.{[], _∷_};
 ghost use Prim.Native.Nat.{_≤_};
 ghost use lib.ListN.{length};
 ghost use lib.Seq.{sets};
-ghost use Rattle.exports.specs.Words.{field, headerIn, refIn, axisIn, letterIn, angleIn, targetIn, tooShort, numberIn, headerLeft, answerLeft};
+ghost use Rattle.exports.specs.Words.{fieldIn, headerIn, handleIn, handleAxis, letterIn, angleIn, targetIn, tooShort, headerWords, numberIn, headerLeft, answerLeft};
 
 /// What a call has to say: the new header and up to three values, or why it was refused.
 pub(crate) enum Reply {
@@ -29,7 +29,7 @@ pub(crate) fn too_short(header: usize, answer: usize) -> bool
 }
 
 fn field(word: u64) -> u32
-    ensures { λ r. ⌜ r ≡ field word ⌝ }
+    ensures { λ r. ⌜ r ≡ fieldIn word ⌝ }
 {
     if word < 4294967296 {
         return word as u32;
@@ -52,13 +52,13 @@ pub(crate) fn read_header(words: &[u64]) -> Header
 }
 
 pub(crate) fn handle(owner: u64, word: u32) -> PauliRef
-    ensures { λ r. ⌜ r ≡ refIn owner word ⌝ }
+    ensures { λ r. ⌜ r ≡ handleIn owner word ⌝ }
 {
     PauliRef { owner, word }
 }
 
 pub(crate) fn axis_of(owner: u64, word: u32) -> PauliAxis
-    ensures { λ r. ⌜ r ≡ axisIn owner word ⌝ }
+    ensures { λ r. ⌜ r ≡ handleAxis owner word ⌝ }
 {
     PauliAxis::assume_hermitian(handle(owner, word))
 }
@@ -88,7 +88,7 @@ pub(crate) fn target_of(number: u64) -> Target
 
 fn put_header(words: &mut [u64], header: Header)
     requires { ⌜ 6 ≤ length (now words) ⌝ }
-    ensures { λ _. ⌜ now (words .exit) ≡ sets (now (words .entry)) 0 (header .qubits ∷ header .cbits ∷ header .owner ∷ header .nodes ∷ header .operations ∷ header .measurements ∷ []) ⌝ }
+    ensures { λ _. ⌜ now (words .exit) ≡ sets (now (words .entry)) 0 (headerWords header) ⌝ }
 {
     words[0] = header.qubits as u64;
     words[1] = header.cbits as u64;

@@ -1,5 +1,5 @@
 -- Laws that the proofs of the functions cite.
-pub mod NameLaws
-pub mod BufferLaws
-pub mod LineLaws
-pub mod BuilderLaws
+pub mod BufferWords
+pub mod LentCalls
+pub mod LineNumbers
+pub mod NameNumbers

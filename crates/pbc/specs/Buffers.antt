@@ -31,8 +31,8 @@ lendsOf ws = record {
 }
 
 -- more is lent than a buffer has
-unfoldable pub exceeds : Lends → Bool
-exceeds l =
+unfoldable pub lendsExceed : Lends → Bool
+lendsExceed l =
     ltb (allLends .nodes) (l .nodes) || ltb (allLends .operations) (l .operations) || ltb (allLends .frame) (l .frame) || ltb (allLends .planes) (l .planes)
     || ltb (allLends .scratch) (l .scratch) || ltb (allLends .pool) (l .pool) || ltb (allLends .letters) (l .letters)
 

@@ -7,16 +7,16 @@ use lib.ListN.{getD}
 use Rattle.pauli.specs.Angle.{remainder8}
 use Rattle.pauli.specs.Letters.{numberProduct}
 use Rattle.pbc.specs.Names.{numberOf}
-use Rattle.pbc.specs.Buffers.{allLends, lendsOf, exceeds}
-use Rattle.pbc.specs.State.{State, Header, Reply, NoAnswer, Bad, Done, One, Two, Words, ShowCircuit, ShowKinds, saysOf, headedOf, lentOf}
+use Rattle.pbc.specs.Buffers.{allLends, lendsOf, lendsExceed}
+use Rattle.pbc.specs.State.{CommandState, Header, LineReply, NoAnswer, Bad, Done, One, Two, Words, ShowCircuit, ShowKinds, saysOf, headedOf, lentOf}
 use Rattle.pbc.specs.Lines.{Line, hasNumbers, hasSigned, hasBuffer, signedAt}
 pub use Rattle.pbc.specs.declared.state.Buffer.the-variants.{the-data as Buffer, Nodes, Operations, Frame, Planes, Scratch, Pool, Letters, Unknown}
-pub use Rattle.pbc.specs.declared.plain.Plain.the-variants.{the-data as Plain, Unknown as NoCommand, Nothing as EmptyLine, Lend, Peek, Header as SetHeader, Dump, Kinds, Angle, Times}
+pub use Rattle.pbc.specs.declared.plain.PlainCommand.the-variants.{the-data as PlainCommand, Unknown as NoCommand, Nothing as EmptyLine, Lend, Peek, Header as SetHeader, Dump, Kinds, Angle, Times}
 
-unfoldable pub lendReply : State → Line → List ℕ → Reply
+unfoldable pub lendReply : CommandState → Line → List ℕ → LineReply
 lendReply s l ws =
     cond (hasNumbers l 0) (lentOf s allLends)
-    (cond (hasNumbers l 7) (cond (exceeds (lendsOf ws)) (saysOf s Bad) (lentOf s (lendsOf ws))) (saysOf s Bad))
+    (cond (hasNumbers l 7) (cond (lendsExceed (lendsOf ws)) (saysOf s Bad) (lentOf s (lendsOf ws))) (saysOf s Bad))
 
 -- ---- peek
 
@@ -53,18 +53,18 @@ lengthOf Letters = allLends .letters
 lengthOf Unknown = 0
 
 -- so many words from a place on, all within the buffer
-unfoldable pub peekedReply : State → Buffer → ℕ → ℕ → Reply
+unfoldable pub peekedReply : CommandState → Buffer → ℕ → ℕ → LineReply
 peekedReply s b from count =
     cond (isUnknown b) (saysOf s Bad)
     (cond (ltb (lengthOf b) from) (saysOf s Bad) (cond (ltb (lengthOf b - from) count) (saysOf s Bad) (saysOf s (Words b from count))))
 
-unfoldable pub peekReply : State → Line → List ℕ → Reply
+unfoldable pub peekReply : CommandState → Line → List ℕ → LineReply
 peekReply s l ws = cond (hasBuffer l 2) (peekedReply s (bufferNamed (l .buffer)) (getD ws 0 0) (getD ws 1 0)) (saysOf s Bad)
 
 -- ---- the others
 
-abbrev pub headerOf : List ℕ → Header
-headerOf ws = record {
+abbrev pub lineHeader : List ℕ → Header
+lineHeader ws = record {
   qubits = getD ws 0 0;
   cbits = getD ws 1 0;
   owner = 1;
@@ -73,26 +73,26 @@ headerOf ws = record {
   measurements = getD ws 4 0;
 }
 
-unfoldable pub headerReply : State → Line → List ℕ → Reply
-headerReply s l ws = cond (hasNumbers l 5) (headedOf s (headerOf ws) Done) (saysOf s Bad)
+unfoldable pub headerReply : CommandState → Line → List ℕ → LineReply
+headerReply s l ws = cond (hasNumbers l 5) (headedOf s (lineHeader ws) Done) (saysOf s Bad)
 
-unfoldable pub dumpReply : State → Line → Reply
+unfoldable pub dumpReply : CommandState → Line → LineReply
 dumpReply s l = cond (hasNumbers l 0) (saysOf s ShowCircuit) (saysOf s Bad)
 
-unfoldable pub kindsReply : State → Line → Reply
+unfoldable pub kindsReply : CommandState → Line → LineReply
 kindsReply s l = cond (hasNumbers l 0) (saysOf s ShowKinds) (saysOf s Bad)
 
-unfoldable pub angleReply : State → Line → List ℕ → Reply
+unfoldable pub angleReply : CommandState → Line → List ℕ → LineReply
 angleReply s l ws = cond (hasSigned l 1 0) (saysOf s (One (remainder8 (signedAt l ws 0)))) (saysOf s Bad)
 
-unfoldable pub timesReply : State → Line → List ℕ → Reply
+unfoldable pub timesReply : CommandState → Line → List ℕ → LineReply
 timesReply s l ws =
     cond (hasNumbers l 2)
     (cond (ltb 3 (getD ws 0 0) || ltb 3 (getD ws 1 0)) (saysOf s Bad)
     (saysOf s (Two (numberProduct (getD ws 0 0) (getD ws 1 0) .phase) (numberProduct (getD ws 0 0) (getD ws 1 0) .pauli))))
     (saysOf s Bad)
 
-abbrev pub plainReply : Plain → State → Line → List ℕ → Reply
+abbrev pub plainReply : PlainCommand → CommandState → Line → List ℕ → LineReply
 plainReply NoCommand s l ws = saysOf s Bad
 plainReply EmptyLine s l ws = saysOf s NoAnswer
 plainReply Lend s l ws = lendReply s l ws

@@ -6,9 +6,9 @@ use crate::buffers::part;
 use crate::buffers::wide_part;
 use crate::buffers::word;
 use crate::output;
-use crate::state::Answer;
 use crate::state::Buffer;
-use crate::state::Reply;
+use crate::state::LineAnswer;
+use crate::state::LineReply;
 use arena::AxisKind;
 use arena::Header;
 use arena::NODE_WORDS;
@@ -42,10 +42,11 @@ fn three(out: &mut [u8], at: usize, a: u64, b: u64, c: u64) -> usize {
     output::number(out, to, c)
 }
 
-// A list with its count in front.
-fn list(out: &mut [u8], at: usize, words: &[u32]) -> usize {
-    let to = output::number(out, at, words.len() as u64);
-    output::words(out, to, words)
+// The first words, or as many as there are, with their count in front.
+fn list(out: &mut [u8], at: usize, words: &[u32], count: usize) -> usize {
+    let used = first(words, count);
+    let to = output::number(out, at, used.len() as u64);
+    output::words(out, to, used)
 }
 
 // The used words of the buffers, or as many as there are.
@@ -64,10 +65,14 @@ fn dump(
         h.cbits as u64,
         h.measurements as u64,
     );
-    let with_nodes = list(out, to, first(nodes, NODE_WORDS * (h.nodes as usize)));
-    let used = first(operations, OPERATION_WORDS * (h.operations as usize));
-    let with_operations = list(out, with_nodes, used);
-    list(out, with_operations, first(frame, 2 * (h.qubits as usize)))
+    let with_nodes = list(out, to, nodes, NODE_WORDS * (h.nodes as usize));
+    let with_operations = list(
+        out,
+        with_nodes,
+        operations,
+        OPERATION_WORDS * (h.operations as usize),
+    );
+    list(out, with_operations, frame, 2 * (h.qubits as usize))
 }
 
 // The plane words of so many qubits: for each four parts, of one word for every 64 qubits.
@@ -150,6 +155,11 @@ fn expansion(out: &mut [u8], at: usize, phase: u64, work: u64, letters: &[u8]) -
     output::bytes(out, to, letters)
 }
 
+// Words of a buffer from a place on.
+fn words_from(out: &mut [u8], at: usize, words: &[u32], from: usize, count: usize) -> usize {
+    output::words(out, at, part(words, from, count))
+}
+
 // A part of a buffer.
 fn words_of(
     out: &mut [u8],
@@ -167,26 +177,48 @@ fn words_of(
 ) -> usize {
     let to = ok(out, at);
     match buffer {
-        Buffer::Nodes => output::words(out, to, part(nodes, from, count)),
-        Buffer::Operations => output::words(out, to, part(operations, from, count)),
-        Buffer::Frame => output::words(out, to, part(frame, from, count)),
+        Buffer::Nodes => words_from(out, to, nodes, from, count),
+        Buffer::Operations => words_from(out, to, operations, from, count),
+        Buffer::Frame => words_from(out, to, frame, from, count),
         Buffer::Planes => output::wide_words(out, to, wide_part(planes, from, count)),
-        Buffer::Scratch => output::words(out, to, part(scratch, from, count)),
-        Buffer::Pool => output::words(out, to, part(pool, from, count)),
-        Buffer::Letters => output::bytes(out, to, byte_part(letters, from, count)),
-        Buffer::Unknown => to,
+        _ => work_words_of(out, to, buffer, from, count, scratch, pool, letters),
     }
 }
 
-// An answer of numbers alone.
-fn brief(out: &mut [u8], at: usize, answer: Answer) -> usize {
+// A part of a buffer that the readers work in.
+fn work_words_of(
+    out: &mut [u8],
+    at: usize,
+    buffer: Buffer,
+    from: usize,
+    count: usize,
+    scratch: &[u32],
+    pool: &[u32],
+    letters: &[u8],
+) -> usize {
+    match buffer {
+        Buffer::Scratch => words_from(out, at, scratch, from, count),
+        Buffer::Pool => words_from(out, at, pool, from, count),
+        Buffer::Letters => output::bytes(out, at, byte_part(letters, from, count)),
+        _ => at,
+    }
+}
+
+// An answer with no number, or a refusal.
+fn brief(out: &mut [u8], at: usize, answer: LineAnswer) -> usize {
     match answer {
-        Answer::Bad => output::text(out, at, b"bad"),
-        Answer::Refused(r) => refused(out, at, r),
-        Answer::Done => ok(out, at),
-        Answer::One(a) => one(out, at, a),
-        Answer::Two(a, b) => two(out, at, a, b),
-        Answer::Three(a, b, c) => three(out, at, a, b, c),
+        LineAnswer::Bad => output::text(out, at, b"bad"),
+        LineAnswer::Refused(r) => refused(out, at, r),
+        LineAnswer::Done => ok(out, at),
+        _ => numbers(out, at, answer),
+    }
+}
+
+fn numbers(out: &mut [u8], at: usize, answer: LineAnswer) -> usize {
+    match answer {
+        LineAnswer::One(a) => one(out, at, a),
+        LineAnswer::Two(a, b) => two(out, at, a, b),
+        LineAnswer::Three(a, b, c) => three(out, at, a, b, c),
         _ => at,
     }
 }
@@ -194,7 +226,7 @@ fn brief(out: &mut [u8], at: usize, answer: Answer) -> usize {
 fn without_end(
     out: &mut [u8],
     at: usize,
-    answer: Answer,
+    answer: LineAnswer,
     h: Header,
     nodes: &[u32],
     operations: &[u32],
@@ -205,9 +237,11 @@ fn without_end(
     letters: &[u8],
 ) -> usize {
     match answer {
-        Answer::Dump => dump(out, at, h, nodes, operations, frame),
-        Answer::DumpWithPlanes => { dump_with_planes(out, at, h, nodes, operations, frame, planes) }
-        Answer::Letters(phase, work) => {
+        LineAnswer::Dump => dump(out, at, h, nodes, operations, frame),
+        LineAnswer::DumpWithPlanes => {
+            dump_with_planes(out, at, h, nodes, operations, frame, planes)
+        }
+        LineAnswer::Letters(phase, work) => {
             expansion(
                 out,
                 at,
@@ -216,8 +250,8 @@ fn without_end(
                 byte_part(letters, 0, h.qubits as usize),
             )
         }
-        Answer::Kinds => kinds_answer(out, at, h, operations),
-        Answer::Words(buffer, from, count) => words_of(
+        LineAnswer::Kinds => kinds_answer(out, at, h, operations),
+        LineAnswer::Words(buffer, from, count) => words_of(
             out,
             at,
             buffer,
@@ -239,7 +273,7 @@ fn without_end(
 pub(crate) fn print(
     out: &mut [u8],
     at: usize,
-    reply: Reply,
+    reply: LineReply,
     nodes: &[u32],
     operations: &[u32],
     frame: &[u32],
@@ -249,7 +283,7 @@ pub(crate) fn print(
     letters: &[u8],
 ) -> usize {
     let answer = reply.answer;
-    if let Answer::Nothing = answer {
+    if let LineAnswer::Nothing = answer {
         return at;
     }
     let to = without_end(

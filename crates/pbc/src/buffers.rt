@@ -2,8 +2,10 @@
 //! Nodes, operations and pool have room for four entries more than document 01's limit of 65,536.
 
 ghost use mathlib.Core.Path.{_≡_};
+ghost use Prim.Native.Nat.{_+_};
+ghost use lib.Dec.{leb};
 ghost use lib.ListN.{length, getD, set, take, drop, replicate};
-ghost use Rattle.pbc.specs.Buffers.{allLends, lendsOf, exceeds, partOf, copied};
+ghost use Rattle.pbc.specs.Buffers.{allLends, lendsOf, lendsExceed, partOf, copied};
 
 /// u32 words.
 pub const NODES: usize = 131080;
@@ -66,9 +68,9 @@ impl Lends {
         }
     }
 
-    /// More is lent than a buffer has. Promise: `exceeds`.
+    /// More is lent than a buffer has. Promise: `lendsExceed`.
     pub(crate) fn exceed(self) -> bool
-        ensures { λ r. ⌜ r ≡ exceeds self ⌝ }
+        ensures { λ r. ⌜ r ≡ lendsExceed self ⌝ }
     {
         (NODES < self.nodes)
             | (OPERATIONS < self.operations)
@@ -156,43 +158,47 @@ pub(crate) fn first(words: &[u32], count: usize) -> &[u32]
     words
 }
 
+// So many words from a place on are all within a buffer of this size.
+fn inside(size: usize, from: usize, count: usize) -> bool
+    ensures { λ r. ⌜ r ≡ leb (from + count) size ⌝ }
+{
+    if size < from {
+        return false;
+    }
+    if size - from < count {
+        return false;
+    }
+    true
+}
+
 /// So many words from a place on, none if they are not all there. Promise: `partOf`.
 pub(crate) fn part(words: &[u32], from: usize, count: usize) -> &[u32]
     ensures { λ r. ⌜ now r ≡ partOf (now (words .entry)) from count ⌝ }
 {
-    if words.len() < from {
-        return &words[0..0];
+    if inside(words.len(), from, count) {
+        return &words[from..from + count];
     }
-    if words.len() - from < count {
-        return &words[0..0];
-    }
-    &words[from..from + count]
+    &words[0..0]
 }
 
 /// The same of 64-bit words. Promise: `partOf`.
 pub(crate) fn wide_part(words: &[u64], from: usize, count: usize) -> &[u64]
     ensures { λ r. ⌜ now r ≡ partOf (now (words .entry)) from count ⌝ }
 {
-    if words.len() < from {
-        return &words[0..0];
+    if inside(words.len(), from, count) {
+        return &words[from..from + count];
     }
-    if words.len() - from < count {
-        return &words[0..0];
-    }
-    &words[from..from + count]
+    &words[0..0]
 }
 
 /// The same of bytes. Promise: `partOf`.
 pub(crate) fn byte_part(bytes: &[u8], from: usize, count: usize) -> &[u8]
     ensures { λ r. ⌜ now r ≡ partOf (now (bytes .entry)) from count ⌝ }
 {
-    if bytes.len() < from {
-        return &bytes[0..0];
+    if inside(bytes.len(), from, count) {
+        return &bytes[from..from + count];
     }
-    if bytes.len() - from < count {
-        return &bytes[0..0];
-    }
-    &bytes[from..from + count]
+    &bytes[0..0]
 }
 
 /// The words from a place on, none past the end.

@@ -1,11 +1,13 @@
 //! The commands that add to the current circuit.
 
+use crate::buffers::NODES;
+use crate::buffers::OPERATIONS;
 use crate::buffers::wide_at;
 use crate::buffers::word;
 use crate::line::Line;
-use crate::state::Answer;
-use crate::state::Reply;
-use crate::state::State;
+use crate::state::CommandState;
+use crate::state::LineAnswer;
+use crate::state::LineReply;
 use arena::Header;
 use arena::MeasId;
 use arena::Measured;
@@ -18,12 +20,13 @@ use arena::Target;
 use pauli::Pauli;
 use pauli::PauliAngle;
 ghost use mathlib.Core.Path.{_≡_};
+ghost use Rattle.arena.specs.Operations.{targetOf};
 ghost use Rattle.arena.specs.Builder.{singleStep, productStep, rotateStep, measureStep, conditionalStep};
 ghost use Rattle.pbc.specs.Handles.{ownerAt, handleAt};
-ghost use Rattle.pbc.specs.Builder.{lentStep, axisAt, angleAt, targetOf, singledReply, multipliedReply, pushedReply, measuredReply};
+ghost use Rattle.pbc.specs.Builder.{lentStep, lineAxis, angleAt, singledLine, multipliedLine, pushedLine, measuredLine};
 ghost use Rattle.pbc.specs.Builder.{singleCommand, productCommand, rotateCommand, measureCommand, conditionalCommand, built};
 
-pub enum Build {
+pub enum BuildCommand {
     Single,
     Product,
     Rotate,
@@ -51,7 +54,7 @@ pub(crate) fn handle(h: Header, words: &[u32], f: usize, w: usize) -> PauliRef
 }
 
 fn axis(h: Header, words: &[u32]) -> PauliAxis
-    ensures { λ r. ⌜ r ≡ axisAt (h .owner) (now (words .entry)) ⌝ }
+    ensures { λ r. ⌜ r ≡ lineAxis (h .owner) (now (words .entry)) ⌝ }
 {
     PauliAxis::assume_hermitian(handle(h, words, 0, 1))
 }
@@ -151,41 +154,43 @@ fn lent_conditional(
 
 // ---- answers of the calls
 
-fn singled(state: State, answer: Singled) -> Reply
-    ensures { λ r. ⌜ r ≡ singledReply state answer ⌝ }
+fn singled(state: CommandState, answer: Singled) -> LineReply
+    ensures { λ r. ⌜ r ≡ singledLine state answer ⌝ }
 {
     match answer {
-        Singled::Made(made, on) => { state.with_header(made, Answer::One(on.as_ref().word as u64)) }
+        Singled::Made(made, on) => {
+            state.with_header(made, LineAnswer::One(on.as_ref().word as u64))
+        }
         Singled::Refused(error) => state.refused(error),
     }
 }
 
-fn multiplied(state: State, answer: Multiplied) -> Reply
-    ensures { λ r. ⌜ r ≡ multipliedReply state answer ⌝ }
+fn multiplied(state: CommandState, answer: Multiplied) -> LineReply
+    ensures { λ r. ⌜ r ≡ multipliedLine state answer ⌝ }
 {
     match answer {
         Multiplied::Made(made, reference) => {
-            state.with_header(made, Answer::One(reference.word as u64))
+            state.with_header(made, LineAnswer::One(reference.word as u64))
         }
         Multiplied::Refused(error) => state.refused(error),
     }
 }
 
-fn pushed(state: State, answer: Pushed) -> Reply
-    ensures { λ r. ⌜ r ≡ pushedReply state answer ⌝ }
+fn pushed(state: CommandState, answer: Pushed) -> LineReply
+    ensures { λ r. ⌜ r ≡ pushedLine state answer ⌝ }
 {
     match answer {
-        Pushed::Made(made) => state.with_header(made, Answer::Done),
+        Pushed::Made(made) => state.with_header(made, LineAnswer::Done),
         Pushed::Refused(error) => state.refused(error),
     }
 }
 
-fn measured(state: State, answer: Measured) -> Reply
-    ensures { λ r. ⌜ r ≡ measuredReply state answer ⌝ }
+fn measured(state: CommandState, answer: Measured) -> LineReply
+    ensures { λ r. ⌜ r ≡ measuredLine state answer ⌝ }
 {
     match answer {
         Measured::Made(made, outcome) => {
-            state.with_header(made, Answer::One(outcome.index() as u64))
+            state.with_header(made, LineAnswer::One(outcome.index() as u64))
         }
         Measured::Refused(error) => state.refused(error),
     }
@@ -194,7 +199,7 @@ fn measured(state: State, answer: Measured) -> Reply
 // ---- the commands
 
 // `single QUBIT LETTER`
-fn single(state: State, line: Line, words: &[u32], nodes: &mut [u32]) -> Reply
+fn single(state: CommandState, line: Line, words: &[u32], nodes: &mut [u32]) -> LineReply
     ensures { λ r. ⌜ r ≡ singleCommand state line (now (words .entry)) (now (nodes .entry)) .answer ⌝ }
     ensures { λ _. ⌜ now (nodes .exit) ≡ singleCommand state line (now (words .entry)) (now (nodes .entry)) .words ⌝ }
 {
@@ -213,7 +218,7 @@ fn single(state: State, line: Line, words: &[u32], nodes: &mut [u32]) -> Reply
 }
 
 // `product F W F W`
-fn product(state: State, line: Line, words: &[u32], nodes: &mut [u32]) -> Reply
+fn product(state: CommandState, line: Line, words: &[u32], nodes: &mut [u32]) -> LineReply
     ensures { λ r. ⌜ r ≡ productCommand state line (now (words .entry)) (now (nodes .entry)) .answer ⌝ }
     ensures { λ _. ⌜ now (nodes .exit) ≡ productCommand state line (now (words .entry)) (now (nodes .entry)) .words ⌝ }
 {
@@ -228,7 +233,7 @@ fn product(state: State, line: Line, words: &[u32], nodes: &mut [u32]) -> Reply
 }
 
 // `rotate F W ANGLE`
-fn rotate(state: State, line: Line, words: &[u32], operations: &mut [u32]) -> Reply
+fn rotate(state: CommandState, line: Line, words: &[u32], operations: &mut [u32]) -> LineReply
     ensures { λ r. ⌜ r ≡ rotateCommand state line (now (words .entry)) (now (operations .entry)) .answer ⌝ }
     ensures { λ _. ⌜ now (operations .exit) ≡ rotateCommand state line (now (words .entry)) (now (operations .entry)) .words ⌝ }
 {
@@ -243,7 +248,7 @@ fn rotate(state: State, line: Line, words: &[u32], operations: &mut [u32]) -> Re
 }
 
 // `measure F W BIT+1`
-fn measure(state: State, line: Line, words: &[u32], operations: &mut [u32]) -> Reply
+fn measure(state: CommandState, line: Line, words: &[u32], operations: &mut [u32]) -> LineReply
     ensures { λ r. ⌜ r ≡ measureCommand state line (now (words .entry)) (now (operations .entry)) .answer ⌝ }
     ensures { λ _. ⌜ now (operations .exit) ≡ measureCommand state line (now (words .entry)) (now (operations .entry)) .words ⌝ }
 {
@@ -258,7 +263,7 @@ fn measure(state: State, line: Line, words: &[u32], operations: &mut [u32]) -> R
 }
 
 // `cond F W ANGLE F NUMBER`
-fn conditional(state: State, line: Line, words: &[u32], operations: &mut [u32]) -> Reply
+fn conditional(state: CommandState, line: Line, words: &[u32], operations: &mut [u32]) -> LineReply
     ensures { λ r. ⌜ r ≡ conditionalCommand state line (now (words .entry)) (now (operations .entry)) .answer ⌝ }
     ensures { λ _. ⌜ now (operations .exit) ≡ conditionalCommand state line (now (words .entry)) (now (operations .entry)) .words ⌝ }
 {
@@ -275,22 +280,22 @@ fn conditional(state: State, line: Line, words: &[u32], operations: &mut [u32]) 
 
 /// The answer to a command that adds to the current circuit. Promise: `built`.
 pub(crate) fn answer(
-    command: Build,
-    state: State,
+    command: BuildCommand,
+    state: CommandState,
     line: Line,
     words: &[u32],
-    nodes: &mut [u32],
-    operations: &mut [u32],
-) -> Reply
+    nodes: &mut [u32; NODES],
+    operations: &mut [u32; OPERATIONS],
+) -> LineReply
     ensures { λ r. ⌜ r ≡ built command state line (now (words .entry)) (now (nodes .entry)) (now (operations .entry)) .reply ⌝ }
     ensures { λ _. ⌜ now (nodes .exit) ≡ built command state line (now (words .entry)) (now (nodes .entry)) (now (operations .entry)) .nodes ⌝ }
     ensures { λ _. ⌜ now (operations .exit) ≡ built command state line (now (words .entry)) (now (nodes .entry)) (now (operations .entry)) .operations ⌝ }
 {
     match command {
-        Build::Single => single(state, line, words, nodes),
-        Build::Product => product(state, line, words, nodes),
-        Build::Rotate => rotate(state, line, words, operations),
-        Build::Measure => measure(state, line, words, operations),
-        Build::Conditional => conditional(state, line, words, operations),
+        BuildCommand::Single => single(state, line, words, nodes),
+        BuildCommand::Product => product(state, line, words, nodes),
+        BuildCommand::Rotate => rotate(state, line, words, operations),
+        BuildCommand::Measure => measure(state, line, words, operations),
+        BuildCommand::Conditional => conditional(state, line, words, operations),
     }
 }

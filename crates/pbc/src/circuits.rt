@@ -9,32 +9,39 @@ use crate::buffers::lent;
 use crate::buffers::part;
 use crate::buffers::word;
 use crate::line::Line;
-use crate::state::Answer;
+use crate::state::CommandState;
+use crate::state::LineAnswer;
+use crate::state::LineReply;
 use crate::state::OWNER;
-use crate::state::Reply;
-use crate::state::State;
 use arena::Created;
 use arena::Header;
 use arena::NODE_WORDS;
 use arena::OPERATION_WORDS;
 
 /// The commands that make a circuit current, and the gate on its frame.
-pub enum Circuit {
+pub enum CircuitCommand {
     New,
     Store,
-    Convert,
-    Planes,
+    /// With the planes shown too, or without.
+    Convert(bool),
     FrameGate,
+}
+
+fn created(state: CommandState, answer: Created) -> LineReply {
+    match answer {
+        Created::Made(made) => state.with_header(made, LineAnswer::Dump),
+        Created::Refused(error) => state.refused(error),
+    }
 }
 
 // `new N CBITS`
 pub(crate) fn new(
-    state: State,
+    state: CommandState,
     line: Line,
     words: &[u32],
     nodes: &mut [u32],
     frame: &mut [u32],
-) -> Reply {
+) -> LineReply {
     if !line.has(2) {
         return state.bad();
     }
@@ -49,10 +56,7 @@ pub(crate) fn new(
         lent(nodes, lent_nodes),
         lent(frame, lent_frame),
     );
-    match answer {
-        Created::Made(made) => state.with_header(made, Answer::Dump),
-        Created::Refused(error) => state.refused(error),
-    }
+    created(state, answer)
 }
 
 // The three lists of a `store`: where each begins among the numbers of its line, and how many words it has.
@@ -125,13 +129,13 @@ fn store_words(
 
 // `store N CBITS MEASUREMENTS`, then the three lists, each with its count in front
 pub(crate) fn store(
-    state: State,
+    state: CommandState,
     line: Line,
     words: &[u32],
-    nodes: &mut [u32],
-    operations: &mut [u32],
-    frame: &mut [u32],
-) -> Reply {
+    nodes: &mut [u32; NODES],
+    operations: &mut [u32; OPERATIONS],
+    frame: &mut [u32; FRAME],
+) -> LineReply {
     if !line.has_more(6) {
         return state.bad();
     }
@@ -148,5 +152,5 @@ pub(crate) fn store(
         operations: found.used_operations,
         measurements: word(words, 2),
     };
-    state.with_header(header, Answer::Done)
+    state.with_header(header, LineAnswer::Done)
 }

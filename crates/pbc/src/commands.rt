@@ -1,31 +1,38 @@
 //! Which command a line is, and the answer to it.
 
+use crate::buffers::FRAME;
+use crate::buffers::LETTERS;
+use crate::buffers::NODES;
+use crate::buffers::OPERATIONS;
+use crate::buffers::PLANES;
+use crate::buffers::POOL;
+use crate::buffers::SCRATCH;
 use crate::builder;
-use crate::builder::Build;
-use crate::circuits::Circuit;
+use crate::builder::BuildCommand;
+use crate::circuits::CircuitCommand;
 use crate::conversion;
 use crate::fill;
 use crate::line::Line;
 use crate::names;
 use crate::plain;
-use crate::plain::Plain;
+use crate::plain::PlainCommand;
 use crate::readers;
-use crate::readers::Reading;
-use crate::state::Reply;
-use crate::state::State;
+use crate::readers::ReadingCommand;
+use crate::state::CommandState;
+use crate::state::LineReply;
 
 // The commands by the buffers that they see.
 enum Command {
-    Plain(Plain),
+    Plain(PlainCommand),
     Fill,
-    Circuit(Circuit),
-    Build(Build),
-    Reading(Reading),
+    Circuit(CircuitCommand),
+    Build(BuildCommand),
+    Reading(ReadingCommand),
 }
 
 fn command_of(line: Line) -> Command {
     if line.bad {
-        return Command::Plain(Plain::Unknown);
+        return Command::Plain(PlainCommand::Unknown);
     }
     let name = line.name;
     if name == names::FILL {
@@ -36,28 +43,28 @@ fn command_of(line: Line) -> Command {
 
 fn command_named(name: u64) -> Command {
     match name {
-        0 => Command::Plain(Plain::Nothing),
-        names::LEND => Command::Plain(Plain::Lend),
-        names::PEEK => Command::Plain(Plain::Peek),
-        names::HEADER => Command::Plain(Plain::Header),
-        names::DUMP => Command::Plain(Plain::Dump),
-        names::KINDS => Command::Plain(Plain::Kinds),
-        names::ANGLE => Command::Plain(Plain::Angle),
-        names::TIMES => Command::Plain(Plain::Times),
-        names::SINGLE => Command::Build(Build::Single),
-        names::PRODUCT => Command::Build(Build::Product),
-        names::ROTATE => Command::Build(Build::Rotate),
-        names::MEASURE => Command::Build(Build::Measure),
-        names::COND => Command::Build(Build::Conditional),
-        names::NEW => Command::Circuit(Circuit::New),
-        names::STORE => Command::Circuit(Circuit::Store),
-        names::CONVERT => Command::Circuit(Circuit::Convert),
-        names::PLANES => Command::Circuit(Circuit::Planes),
-        names::FGATE => Command::Circuit(Circuit::FrameGate),
-        names::EXPAND => Command::Reading(Reading::Expand),
-        names::HERM => Command::Reading(Reading::Hermitian),
-        names::REPORT => Command::Reading(Reading::Report),
-        _ => Command::Plain(Plain::Unknown),
+        0 => Command::Plain(PlainCommand::Nothing),
+        names::LEND => Command::Plain(PlainCommand::Lend),
+        names::PEEK => Command::Plain(PlainCommand::Peek),
+        names::HEADER => Command::Plain(PlainCommand::Header),
+        names::DUMP => Command::Plain(PlainCommand::Dump),
+        names::KINDS => Command::Plain(PlainCommand::Kinds),
+        names::ANGLE => Command::Plain(PlainCommand::Angle),
+        names::TIMES => Command::Plain(PlainCommand::Times),
+        names::SINGLE => Command::Build(BuildCommand::Single),
+        names::PRODUCT => Command::Build(BuildCommand::Product),
+        names::ROTATE => Command::Build(BuildCommand::Rotate),
+        names::MEASURE => Command::Build(BuildCommand::Measure),
+        names::COND => Command::Build(BuildCommand::Conditional),
+        names::NEW => Command::Circuit(CircuitCommand::New),
+        names::STORE => Command::Circuit(CircuitCommand::Store),
+        names::CONVERT => Command::Circuit(CircuitCommand::Convert(false)),
+        names::PLANES => Command::Circuit(CircuitCommand::Convert(true)),
+        names::FGATE => Command::Circuit(CircuitCommand::FrameGate),
+        names::EXPAND => Command::Reading(ReadingCommand::Expand),
+        names::HERM => Command::Reading(ReadingCommand::Hermitian),
+        names::REPORT => Command::Reading(ReadingCommand::Report),
+        _ => Command::Plain(PlainCommand::Unknown),
     }
 }
 
@@ -65,22 +72,22 @@ fn fill_command(line: Line) -> Command {
     if line.has(1) {
         return Command::Fill;
     }
-    Command::Plain(Plain::Unknown)
+    Command::Plain(PlainCommand::Unknown)
 }
 
 /// The answer to a whole line.
 pub(crate) fn answer(
-    state: State,
+    state: CommandState,
     line: Line,
     words: &[u32],
-    nodes: &mut [u32],
-    operations: &mut [u32],
-    frame: &mut [u32],
-    planes: &mut [u64],
-    scratch: &mut [u32],
-    pool: &mut [u32],
-    letters: &mut [u8],
-) -> Reply {
+    nodes: &mut [u32; NODES],
+    operations: &mut [u32; OPERATIONS],
+    frame: &mut [u32; FRAME],
+    planes: &mut [u64; PLANES],
+    scratch: &mut [u32; SCRATCH],
+    pool: &mut [u32; POOL],
+    letters: &mut [u8; LETTERS],
+) -> LineReply {
     match command_of(line) {
         Command::Plain(plain) => plain::answer(plain, state, line, words),
         Command::Fill => fill::answer(

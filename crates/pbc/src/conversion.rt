@@ -1,18 +1,22 @@
 //! The commands of the conversion, and the answer to every command that makes a circuit current.
 
+use crate::buffers::FRAME;
+use crate::buffers::NODES;
+use crate::buffers::OPERATIONS;
+use crate::buffers::PLANES;
 use crate::buffers::first;
 use crate::buffers::lent;
 use crate::buffers::lent_wide;
 use crate::buffers::rest;
 use crate::buffers::word;
-use crate::circuits::Circuit;
+use crate::circuits::CircuitCommand;
 use crate::circuits::new;
 use crate::circuits::store;
 use crate::line::Line;
-use crate::state::Answer;
+use crate::state::CommandState;
+use crate::state::LineAnswer;
+use crate::state::LineReply;
 use crate::state::OWNER;
-use crate::state::Reply;
-use crate::state::State;
 use convert::Cap;
 use convert::Converted;
 use convert::FramePushed;
@@ -40,10 +44,31 @@ fn read_cap(line: Line, words: &[u32]) -> ReadCap {
     ReadCap::Bad
 }
 
-// The conversion with the cap that the line has, and what it answers where it is accepted.
+fn converted(state: CommandState, planes_shown: bool, answer: Converted) -> LineReply {
+    match answer {
+        Converted::Made(made) => state.with_header(made, shown(planes_shown)),
+        Converted::Refused(error) => state.refused(error),
+    }
+}
+
+fn shown(planes: bool) -> LineAnswer {
+    if planes {
+        return LineAnswer::DumpWithPlanes;
+    }
+    LineAnswer::Dump
+}
+
+fn frame_pushed(state: CommandState, answer: FramePushed) -> LineReply {
+    match answer {
+        FramePushed::Made(made) => state.with_header(made, LineAnswer::Done),
+        FramePushed::Refused(error) => state.refused(error),
+    }
+}
+
+// The conversion with the cap that the line has.
 fn convert_with(
-    state: State,
-    accepted: Answer,
+    state: CommandState,
+    planes_shown: bool,
     cap: Cap,
     words: &[u32],
     count: usize,
@@ -51,7 +76,7 @@ fn convert_with(
     operations: &mut [u32],
     frame: &mut [u32],
     planes: &mut [u64],
-) -> Reply {
+) -> LineReply {
     let lends = state.lends;
     let answer = convert::to_pbc(
         word(words, 0),
@@ -64,10 +89,7 @@ fn convert_with(
         lent(frame, lends.frame),
         lent_wide(planes, lends.planes),
     );
-    match answer {
-        Converted::Made(made) => state.with_header(made, accepted),
-        Converted::Refused(error) => state.refused(error),
-    }
+    converted(state, planes_shown, answer)
 }
 
 // The gate words of a line with so many numbers. More than are kept are too many gates in any case.
@@ -77,15 +99,15 @@ fn gates(words: &[u32], count: usize) -> &[u32] {
 
 // `convert N CBITS CAP w0 w1 ..`, or `planes`, which shows the planes too
 fn convert_line(
-    state: State,
-    accepted: Answer,
+    state: CommandState,
+    planes_shown: bool,
     line: Line,
     words: &[u32],
-    nodes: &mut [u32],
-    operations: &mut [u32],
-    frame: &mut [u32],
-    planes: &mut [u64],
-) -> Reply {
+    nodes: &mut [u32; NODES],
+    operations: &mut [u32; OPERATIONS],
+    frame: &mut [u32; FRAME],
+    planes: &mut [u64; PLANES],
+) -> LineReply {
     if !line.has_more_signed(3, 2) {
         return state.bad();
     }
@@ -94,7 +116,7 @@ fn convert_line(
     };
     convert_with(
         state,
-        accepted,
+        planes_shown,
         cap,
         words,
         line.numbers,
@@ -107,12 +129,12 @@ fn convert_line(
 
 // `fgate KIND A B C`
 fn frame_gate(
-    state: State,
+    state: CommandState,
     line: Line,
     words: &[u32],
     nodes: &mut [u32],
     frame: &mut [u32],
-) -> Reply {
+) -> LineReply {
     if !line.has(4) {
         return state.bad();
     }
@@ -126,29 +148,26 @@ fn frame_gate(
         word(words, 1),
         word(words, 2),
     );
-    match answer {
-        FramePushed::Made(made) => state.with_header(made, Answer::Done),
-        FramePushed::Refused(error) => state.refused(error),
-    }
+    frame_pushed(state, answer)
 }
 
 /// The answer to a command that makes a circuit current, and to a gate on its frame.
 pub(crate) fn answer(
-    command: Circuit,
-    state: State,
+    command: CircuitCommand,
+    state: CommandState,
     line: Line,
     words: &[u32],
-    nodes: &mut [u32],
-    operations: &mut [u32],
-    frame: &mut [u32],
-    planes: &mut [u64],
-) -> Reply {
+    nodes: &mut [u32; NODES],
+    operations: &mut [u32; OPERATIONS],
+    frame: &mut [u32; FRAME],
+    planes: &mut [u64; PLANES],
+) -> LineReply {
     match command {
-        Circuit::New => new(state, line, words, nodes, frame),
-        Circuit::Store => store(state, line, words, nodes, operations, frame),
-        Circuit::Convert => convert_line(
+        CircuitCommand::New => new(state, line, words, nodes, frame),
+        CircuitCommand::Store => store(state, line, words, nodes, operations, frame),
+        CircuitCommand::Convert(planes_shown) => convert_line(
             state,
-            Answer::Dump,
+            planes_shown,
             line,
             words,
             nodes,
@@ -156,16 +175,6 @@ pub(crate) fn answer(
             frame,
             planes,
         ),
-        Circuit::Planes => convert_line(
-            state,
-            Answer::DumpWithPlanes,
-            line,
-            words,
-            nodes,
-            operations,
-            frame,
-            planes,
-        ),
-        Circuit::FrameGate => frame_gate(state, line, words, nodes, frame),
+        CircuitCommand::FrameGate => frame_gate(state, line, words, nodes, frame),
     }
 }

@@ -1,19 +1,31 @@
 //! The command that sets every word of every buffer.
 
+use crate::buffers::FRAME;
+use crate::buffers::LETTERS;
+use crate::buffers::NODES;
+use crate::buffers::OPERATIONS;
+use crate::buffers::PLANES;
+use crate::buffers::POOL;
+use crate::buffers::SCRATCH;
 use crate::buffers::fill;
 use crate::buffers::fill_bytes;
 use crate::buffers::fill_wide;
 use crate::buffers::word;
-use crate::state::Answer;
-use crate::state::Reply;
-use crate::state::State;
+use crate::state::CommandState;
+use crate::state::LineAnswer;
+use crate::state::LineReply;
 use crate::state::empty;
 ghost use mathlib.Core.Path.{_≡_};
 ghost use Prim.Native.Nat.{_%_};
 ghost use lib.ListN.{length, getD, replicate};
 ghost use Rattle.pbc.specs.State.{emptyHeader, headedOf, Done};
 
-fn fill_circuit(nodes: &mut [u32], operations: &mut [u32], frame: &mut [u32], value: u32)
+fn fill_circuit(
+    nodes: &mut [u32; NODES],
+    operations: &mut [u32; OPERATIONS],
+    frame: &mut [u32; FRAME],
+    value: u32,
+)
     ensures { λ _. ⌜ now (nodes .exit) ≡ replicate (length (now (nodes .entry))) value ⌝ }
     ensures { λ _. ⌜ now (operations .exit) ≡ replicate (length (now (operations .entry))) value ⌝ }
     ensures { λ _. ⌜ now (frame .exit) ≡ replicate (length (now (frame .entry))) value ⌝ }
@@ -23,7 +35,12 @@ fn fill_circuit(nodes: &mut [u32], operations: &mut [u32], frame: &mut [u32], va
     fill(frame, value);
 }
 
-fn fill_work(scratch: &mut [u32], pool: &mut [u32], letters: &mut [u8], value: u32)
+fn fill_work(
+    scratch: &mut [u32; SCRATCH],
+    pool: &mut [u32; POOL],
+    letters: &mut [u8; LETTERS],
+    value: u32,
+)
     ensures { λ _. ⌜ now (scratch .exit) ≡ replicate (length (now (scratch .entry))) value ⌝ }
     ensures { λ _. ⌜ now (pool .exit) ≡ replicate (length (now (pool .entry))) value ⌝ }
     ensures { λ _. ⌜ now (letters .exit) ≡ replicate (length (now (letters .entry))) (value % 256) ⌝ }
@@ -35,16 +52,16 @@ fn fill_work(scratch: &mut [u32], pool: &mut [u32], letters: &mut [u8], value: u
 
 /// `fill VALUE`: every word of every buffer becomes the value, and the current circuit one with no qubit.
 pub(crate) fn answer(
-    state: State,
+    state: CommandState,
     words: &[u32],
-    nodes: &mut [u32],
-    operations: &mut [u32],
-    frame: &mut [u32],
-    planes: &mut [u64],
-    scratch: &mut [u32],
-    pool: &mut [u32],
-    letters: &mut [u8],
-) -> Reply
+    nodes: &mut [u32; NODES],
+    operations: &mut [u32; OPERATIONS],
+    frame: &mut [u32; FRAME],
+    planes: &mut [u64; PLANES],
+    scratch: &mut [u32; SCRATCH],
+    pool: &mut [u32; POOL],
+    letters: &mut [u8; LETTERS],
+) -> LineReply
     ensures { λ r. ⌜ r ≡ headedOf state emptyHeader Done ⌝ }
     ensures { λ _. ⌜ now (nodes .exit) ≡ replicate (length (now (nodes .entry))) (getD (now (words .entry)) 0 0) ⌝ }
     ensures { λ _. ⌜ now (operations .exit) ≡ replicate (length (now (operations .entry))) (getD (now (words .entry)) 0 0) ⌝ }
@@ -58,5 +75,5 @@ pub(crate) fn answer(
     fill_circuit(nodes, operations, frame, value);
     fill_work(scratch, pool, letters, value);
     fill_wide(planes, value as u64);
-    state.with_header(empty(), Answer::Done)
+    state.with_header(empty(), LineAnswer::Done)
 }

@@ -9,7 +9,7 @@ pub const NO_NAME: u64 = 18446744073709551615;
 // 27 to the power 11: a name of twelve letters or more is not below it.
 const LONG: u64 = 5559060566555523;
 
-/// The names of the commands and of the buffers; proofs/NameLaws.antt has each number beside its letters.
+/// The names of the commands and of the buffers; proofs/NameNumbers.antt has each number beside its letters.
 pub const LEND: u64 = 240223;
 
 pub const FILL: u64 = 124995;

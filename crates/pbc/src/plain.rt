@@ -12,18 +12,18 @@ use crate::buffers::count_at;
 use crate::buffers::word;
 use crate::line::Line;
 use crate::names;
-use crate::state::Answer;
 use crate::state::Buffer;
+use crate::state::CommandState;
+use crate::state::LineAnswer;
+use crate::state::LineReply;
 use crate::state::OWNER;
-use crate::state::Reply;
-use crate::state::State;
 use arena::Header;
 use pauli::PauliAngle;
 ghost use mathlib.Core.Path.{_≡_};
 ghost use Rattle.pbc.specs.Plain.{lendReply, isUnknown, bufferNamed, lengthOf, peekedReply, peekReply, headerReply};
 ghost use Rattle.pbc.specs.Plain.{dumpReply, kindsReply, angleReply, timesReply, plainReply};
 
-pub enum Plain {
+pub enum PlainCommand {
     /// No command, and a line with nothing on it.
     Unknown,
     Nothing,
@@ -37,7 +37,7 @@ pub enum Plain {
 }
 
 // `lend`, or `lend` with a count for each buffer
-fn lend(state: State, line: Line, words: &[u32]) -> Reply
+fn lend(state: CommandState, line: Line, words: &[u32]) -> LineReply
     ensures { λ r. ⌜ r ≡ lendReply state line (now (words .entry)) ⌝ }
 {
     if line.has(0) {
@@ -110,7 +110,7 @@ fn is_unknown(buffer: Buffer) -> bool
     }
 }
 
-fn peeked(state: State, buffer: Buffer, from: usize, count: usize) -> Reply
+fn peeked(state: CommandState, buffer: Buffer, from: usize, count: usize) -> LineReply
     ensures { λ r. ⌜ r ≡ peekedReply state buffer from count ⌝ }
 {
     if is_unknown(buffer) {
@@ -123,11 +123,11 @@ fn peeked(state: State, buffer: Buffer, from: usize, count: usize) -> Reply
     if length - from < count {
         return state.bad();
     }
-    state.says(Answer::Words(buffer, from, count))
+    state.says(LineAnswer::Words(buffer, from, count))
 }
 
 // `peek BUFFER FROM COUNT`
-fn peek(state: State, line: Line, words: &[u32]) -> Reply
+fn peek(state: CommandState, line: Line, words: &[u32]) -> LineReply
     ensures { λ r. ⌜ r ≡ peekReply state line (now (words .entry)) ⌝ }
 {
     if !line.has_buffer(2) {
@@ -139,7 +139,7 @@ fn peek(state: State, line: Line, words: &[u32]) -> Reply
 }
 
 // `header N CBITS NODES OPERATIONS MEASUREMENTS`
-fn header(state: State, line: Line, words: &[u32]) -> Reply
+fn header(state: CommandState, line: Line, words: &[u32]) -> LineReply
     ensures { λ r. ⌜ r ≡ headerReply state line (now (words .entry)) ⌝ }
 {
     if !line.has(5) {
@@ -153,42 +153,42 @@ fn header(state: State, line: Line, words: &[u32]) -> Reply
         operations: word(words, 3),
         measurements: word(words, 4),
     };
-    state.with_header(header, Answer::Done)
+    state.with_header(header, LineAnswer::Done)
 }
 
 // `dump`
-fn dump(state: State, line: Line) -> Reply
+fn dump(state: CommandState, line: Line) -> LineReply
     ensures { λ r. ⌜ r ≡ dumpReply state line ⌝ }
 {
     if !line.has(0) {
         return state.bad();
     }
-    state.says(Answer::Dump)
+    state.says(LineAnswer::Dump)
 }
 
 // `kinds`
-fn kinds(state: State, line: Line) -> Reply
+fn kinds(state: CommandState, line: Line) -> LineReply
     ensures { λ r. ⌜ r ≡ kindsReply state line ⌝ }
 {
     if !line.has(0) {
         return state.bad();
     }
-    state.says(Answer::Kinds)
+    state.says(LineAnswer::Kinds)
 }
 
 // `angle K`
-fn angle(state: State, line: Line, words: &[u32]) -> Reply
+fn angle(state: CommandState, line: Line, words: &[u32]) -> LineReply
     ensures { λ r. ⌜ r ≡ angleReply state line (now (words .entry)) ⌝ }
 {
     if !line.has_signed(1, 0) {
         return state.bad();
     }
     let kept = PauliAngle::new(line.signed_at(words, 0));
-    state.says(Answer::One(kept.eighths() as u64))
+    state.says(LineAnswer::One(kept.eighths() as u64))
 }
 
 // `times A B`
-fn times(state: State, line: Line, words: &[u32]) -> Reply
+fn times(state: CommandState, line: Line, words: &[u32]) -> LineReply
     ensures { λ r. ⌜ r ≡ timesReply state line (now (words .entry)) ⌝ }
 {
     if !line.has(2) {
@@ -200,22 +200,27 @@ fn times(state: State, line: Line, words: &[u32]) -> Reply
         return state.bad();
     }
     let product = pauli::times_numbers(left, right);
-    state.says(Answer::Two(product.phase as u64, product.pauli as u64))
+    state.says(LineAnswer::Two(product.phase as u64, product.pauli as u64))
 }
 
 /// The answer to a command that touches no buffer. Promise: `plainReply`.
-pub(crate) fn answer(command: Plain, state: State, line: Line, words: &[u32]) -> Reply
+pub(crate) fn answer(
+    command: PlainCommand,
+    state: CommandState,
+    line: Line,
+    words: &[u32],
+) -> LineReply
     ensures { λ r. ⌜ r ≡ plainReply command state line (now (words .entry)) ⌝ }
 {
     match command {
-        Plain::Unknown => state.bad(),
-        Plain::Nothing => state.says(Answer::Nothing),
-        Plain::Lend => lend(state, line, words),
-        Plain::Peek => peek(state, line, words),
-        Plain::Header => header(state, line, words),
-        Plain::Dump => dump(state, line),
-        Plain::Kinds => kinds(state, line),
-        Plain::Angle => angle(state, line, words),
-        Plain::Times => times(state, line, words),
+        PlainCommand::Unknown => state.bad(),
+        PlainCommand::Nothing => state.says(LineAnswer::Nothing),
+        PlainCommand::Lend => lend(state, line, words),
+        PlainCommand::Peek => peek(state, line, words),
+        PlainCommand::Header => header(state, line, words),
+        PlainCommand::Dump => dump(state, line),
+        PlainCommand::Kinds => kinds(state, line),
+        PlainCommand::Angle => angle(state, line, words),
+        PlainCommand::Times => times(state, line, words),
     }
 }

@@ -6,108 +6,42 @@ use crate::buffers::lent;
 use crate::buffers::lent_bytes;
 use crate::builder::handle;
 use crate::line::Line;
-use crate::state::Answer;
-use crate::state::Reply;
-use crate::state::State;
+use crate::state::CommandState;
+use crate::state::LineAnswer;
+use crate::state::LineReply;
 use arena::Expansion;
 use arena::HermitianAxis;
 use arena::MaxAxisWeights;
 
-pub enum Reading {
+pub enum ReadingCommand {
     Expand,
     Hermitian,
     Report,
 }
 
-// `expand F W MAX_CELLS`
-fn expand(
-    state: State,
-    line: Line,
-    words: &[u32],
-    nodes: &[u32],
-    scratch: &mut [u32],
-    pool: &mut [u32],
-    letters: &mut [u8],
-) -> Reply {
-    if !line.has(3) {
-        return state.bad();
-    }
-    let header = state.header;
-    let lends = state.lends;
-    let reference = handle(header, words, 0, 1);
-    let max_cells = count_at(words, 2);
-    let answer = header.expand(
-        first(nodes, lends.nodes),
-        lent_bytes(letters, lends.letters),
-        lent(scratch, lends.scratch),
-        lent(pool, lends.pool),
-        reference,
-        max_cells,
-    );
+// ---- answers of the calls
+
+fn expanded(state: CommandState, answer: Expansion) -> LineReply {
     match answer {
         Expansion::Made(phase, work) => {
-            state.says(Answer::Letters(phase.number() as u64, work as u64))
+            state.says(LineAnswer::Letters(phase.number() as u64, work as u64))
         }
         Expansion::Refused(error) => state.refused(error),
     }
 }
 
-// `herm F W LIMIT`
-fn hermitian(
-    state: State,
-    line: Line,
-    words: &[u32],
-    nodes: &[u32],
-    scratch: &mut [u32],
-    pool: &mut [u32],
-) -> Reply {
-    if !line.has(3) {
-        return state.bad();
-    }
-    let header = state.header;
-    let lends = state.lends;
-    let reference = handle(header, words, 0, 1);
-    let limit = count_at(words, 2);
-    let answer = header.hermitian_axis(
-        first(nodes, lends.nodes),
-        lent(scratch, lends.scratch),
-        lent(pool, lends.pool),
-        reference,
-        limit,
-    );
+fn found(state: CommandState, answer: HermitianAxis) -> LineReply {
     match answer {
         HermitianAxis::Made(axis, work) => {
-            state.says(Answer::Two(axis.as_ref().word as u64, work as u64))
+            state.says(LineAnswer::Two(axis.as_ref().word as u64, work as u64))
         }
         HermitianAxis::Refused(error) => state.refused(error),
     }
 }
 
-// `report LIMIT`
-fn report(
-    state: State,
-    line: Line,
-    words: &[u32],
-    nodes: &[u32],
-    operations: &[u32],
-    scratch: &mut [u32],
-    pool: &mut [u32],
-) -> Reply {
-    if !line.has(1) {
-        return state.bad();
-    }
-    let header = state.header;
-    let lends = state.lends;
-    let limit = count_at(words, 0);
-    let answer = header.max_axis_weights(
-        first(nodes, lends.nodes),
-        first(operations, lends.operations),
-        lent(scratch, lends.scratch),
-        lent(pool, lends.pool),
-        limit,
-    );
+fn weighed(state: CommandState, answer: MaxAxisWeights) -> LineReply {
     match answer {
-        MaxAxisWeights::Made(non_clifford, clifford, work) => state.says(Answer::Three(
+        MaxAxisWeights::Made(non_clifford, clifford, work) => state.says(LineAnswer::Three(
             non_clifford as u64,
             clifford as u64,
             work as u64,
@@ -116,10 +50,69 @@ fn report(
     }
 }
 
-/// The answer to a command that reads the current circuit by a walk.
-pub(crate) fn answer(
-    command: Reading,
-    state: State,
+// ---- the commands, on what is lent of each buffer
+
+// `expand F W MAX_CELLS`
+fn expand(
+    state: CommandState,
+    line: Line,
+    words: &[u32],
+    nodes: &[u32],
+    scratch: &mut [u32],
+    pool: &mut [u32],
+    letters: &mut [u8],
+) -> LineReply {
+    if !line.has(3) {
+        return state.bad();
+    }
+    let header = state.header;
+    let reference = handle(header, words, 0, 1);
+    let max_cells = count_at(words, 2);
+    let answer = header.expand(nodes, letters, scratch, pool, reference, max_cells);
+    expanded(state, answer)
+}
+
+// `herm F W LIMIT`
+fn hermitian(
+    state: CommandState,
+    line: Line,
+    words: &[u32],
+    nodes: &[u32],
+    scratch: &mut [u32],
+    pool: &mut [u32],
+) -> LineReply {
+    if !line.has(3) {
+        return state.bad();
+    }
+    let header = state.header;
+    let reference = handle(header, words, 0, 1);
+    let limit = count_at(words, 2);
+    let answer = header.hermitian_axis(nodes, scratch, pool, reference, limit);
+    found(state, answer)
+}
+
+// `report LIMIT`
+fn report(
+    state: CommandState,
+    line: Line,
+    words: &[u32],
+    nodes: &[u32],
+    operations: &[u32],
+    scratch: &mut [u32],
+    pool: &mut [u32],
+) -> LineReply {
+    if !line.has(1) {
+        return state.bad();
+    }
+    let header = state.header;
+    let limit = count_at(words, 0);
+    let answer = header.max_axis_weights(nodes, operations, scratch, pool, limit);
+    weighed(state, answer)
+}
+
+fn read(
+    command: ReadingCommand,
+    state: CommandState,
     line: Line,
     words: &[u32],
     nodes: &[u32],
@@ -127,10 +120,36 @@ pub(crate) fn answer(
     scratch: &mut [u32],
     pool: &mut [u32],
     letters: &mut [u8],
-) -> Reply {
+) -> LineReply {
     match command {
-        Reading::Expand => expand(state, line, words, nodes, scratch, pool, letters),
-        Reading::Hermitian => hermitian(state, line, words, nodes, scratch, pool),
-        Reading::Report => report(state, line, words, nodes, operations, scratch, pool),
+        ReadingCommand::Expand => expand(state, line, words, nodes, scratch, pool, letters),
+        ReadingCommand::Hermitian => hermitian(state, line, words, nodes, scratch, pool),
+        ReadingCommand::Report => report(state, line, words, nodes, operations, scratch, pool),
     }
+}
+
+/// The answer to a command that reads the current circuit by a walk.
+pub(crate) fn answer(
+    command: ReadingCommand,
+    state: CommandState,
+    line: Line,
+    words: &[u32],
+    nodes: &[u32],
+    operations: &[u32],
+    scratch: &mut [u32],
+    pool: &mut [u32],
+    letters: &mut [u8],
+) -> LineReply {
+    let lends = state.lends;
+    read(
+        command,
+        state,
+        line,
+        words,
+        first(nodes, lends.nodes),
+        first(operations, lends.operations),
+        lent(scratch, lends.scratch),
+        lent(pool, lends.pool),
+        lent_bytes(letters, lends.letters),
+    )
 }

@@ -1,24 +1,33 @@
 //! Lines from standard input, each answered in turn.
 
 use crate::answers::print;
+use crate::buffers::CHUNK;
+use crate::buffers::FRAME;
+use crate::buffers::LETTERS;
+use crate::buffers::LINE_WORDS;
+use crate::buffers::NODES;
+use crate::buffers::OPERATIONS;
+use crate::buffers::PLANES;
+use crate::buffers::POOL;
+use crate::buffers::SCRATCH;
 use crate::commands::answer;
 use crate::input::TURNS;
 use crate::input::new_reader;
 use crate::input::next_line;
 use crate::line::Line;
-use crate::state::State;
+use crate::state::CommandState;
 use libc::STDOUT_FILENO;
 ghost use Prim.Native.Nat.{_<_};
 
 /// The state, and how many bytes of answers are not yet written.
 pub(crate) struct Session {
-    state: State,
+    state: CommandState,
     at: usize,
 }
 
 fn new_session() -> Session {
     Session {
-        state: State::new(),
+        state: CommandState::new(),
         at: 0,
     }
 }
@@ -28,14 +37,14 @@ fn answer_line(
     session: Session,
     line: Line,
     words: &[u32],
-    nodes: &mut [u32],
-    operations: &mut [u32],
-    frame: &mut [u32],
-    planes: &mut [u64],
-    scratch: &mut [u32],
-    pool: &mut [u32],
-    letters: &mut [u8],
-    out: &mut [u8],
+    nodes: &mut [u32; NODES],
+    operations: &mut [u32; OPERATIONS],
+    frame: &mut [u32; FRAME],
+    planes: &mut [u64; PLANES],
+    scratch: &mut [u32; SCRATCH],
+    pool: &mut [u32; POOL],
+    letters: &mut [u8; LETTERS],
+    out: &mut [u8; CHUNK],
 ) -> Session {
     let before = session.state;
     let reply = answer(
@@ -86,16 +95,16 @@ fn flush(out: &[u8], at: usize) {
 
 /// Answers every line of the input.
 pub(crate) fn run(
-    input: &mut [u8],
-    words: &mut [u32],
-    nodes: &mut [u32],
-    operations: &mut [u32],
-    frame: &mut [u32],
-    planes: &mut [u64],
-    scratch: &mut [u32],
-    pool: &mut [u32],
-    letters: &mut [u8],
-    out: &mut [u8],
+    input: &mut [u8; CHUNK],
+    words: &mut [u32; LINE_WORDS],
+    nodes: &mut [u32; NODES],
+    operations: &mut [u32; OPERATIONS],
+    frame: &mut [u32; FRAME],
+    planes: &mut [u64; PLANES],
+    scratch: &mut [u32; SCRATCH],
+    pool: &mut [u32; POOL],
+    letters: &mut [u8; LETTERS],
+    out: &mut [u8; CHUNK],
 ) {
     let mut reader = new_reader();
     let mut session = new_session();

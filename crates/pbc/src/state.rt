@@ -11,7 +11,7 @@ ghost use Rattle.pbc.specs.State.{emptyHeader, newState, saysOf, Bad, re
 pub const OWNER: u64 = 1;
 
 /// The current circuit, and what the calls are lent.
-pub struct State {
+pub struct CommandState {
     pub header: Header,
     pub lends: Lends,
 }
@@ -28,7 +28,7 @@ pub enum Buffer {
 }
 
 /// What is printed.
-pub enum Answer {
+pub enum LineAnswer {
     Nothing,
     Bad,
     Refused(Refusal),
@@ -46,9 +46,9 @@ pub enum Answer {
     Words(Buffer, usize, usize),
 }
 
-pub struct Reply {
-    pub state: State,
-    pub answer: Answer,
+pub struct LineReply {
+    pub state: CommandState,
+    pub answer: LineAnswer,
 }
 
 /// The header of a circuit with no qubit. Promise: `emptyHeader`.
@@ -65,59 +65,59 @@ pub(crate) fn empty() -> Header
     }
 }
 
-impl State {
+impl CommandState {
     /// What a session begins with. Promise: `newState`.
-    pub(crate) fn new() -> State
+    pub(crate) fn new() -> CommandState
         ensures { λ r. ⌜ r ≡ newState ⌝ }
     {
-        State {
+        CommandState {
             header: empty(),
             lends: Lends::all(),
         }
     }
 
     /// The answer, with the state as it was. Promise: `saysOf`.
-    pub(crate) fn says(self, answer: Answer) -> Reply
+    pub(crate) fn says(self, answer: LineAnswer) -> LineReply
         ensures { λ r. ⌜ r ≡ saysOf self answer ⌝ }
     {
-        Reply {
+        LineReply {
             state: self,
             answer,
         }
     }
 
     /// The line is no command. Promise: `saysOf`.
-    pub(crate) fn bad(self) -> Reply
+    pub(crate) fn bad(self) -> LineReply
         ensures { λ r. ⌜ r ≡ saysOf self Bad ⌝ }
     {
-        self.says(Answer::Bad)
+        self.says(LineAnswer::Bad)
     }
 
     /// The refusal, with the state as it was. Promise: `refusedOf`.
-    pub(crate) fn refused(self, error: PbcError) -> Reply
+    pub(crate) fn refused(self, error: PbcError) -> LineReply
         ensures { λ r. ⌜ r ≡ refusedOf self error ⌝ }
     {
-        self.says(Answer::Refused(error.refusal()))
+        self.says(LineAnswer::Refused(error.refusal()))
     }
 
     /// The answer, with another circuit current. Promise: `headedOf`.
-    pub(crate) fn with_header(self, header: Header, answer: Answer) -> Reply
+    pub(crate) fn with_header(self, header: Header, answer: LineAnswer) -> LineReply
         ensures { λ r. ⌜ r ≡ headedOf self header answer ⌝ }
     {
         let lends = self.lends;
-        let state = State { header, lends };
-        Reply { state, answer }
+        let state = CommandState { header, lends };
+        LineReply { state, answer }
     }
 
     /// Other counts are lent from here on. Promise: `lentOf`.
-    pub(crate) fn with_lends(self, lends: Lends) -> Reply
+    pub(crate) fn with_lends(self, lends: Lends) -> LineReply
         ensures { λ r. ⌜ r ≡ lentOf self lends ⌝ }
     {
         let header = self.header;
-        let state = State { header, lends };
-        Reply {
+        let state = CommandState { header, lends };
+        LineReply {
             state,
-            answer: Answer::Done,
+            answer: LineAnswer::Done,
         }
     }
 }

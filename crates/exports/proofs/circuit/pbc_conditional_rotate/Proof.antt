@@ -1,12 +1,13 @@
 -- `pbc_conditional_rotate` meets its contract: accepted, refused, or lent too few words.
 use borrow.Author.Needs.{needs}
-use mathlib.Core.Path.{refl, ap, sym, _∙_}
+use mathlib.Core.Path.{ap, sym, _∙_}
 use native.Mathlib.Omega.{arith}
 use mir.Syntax.{w64}
 use mir.ValLaws.{toZ-ofZ}
-use Rattle.exports.specs.Words.{angleIn, numberIn, headerLeft, answerLeft}
+use Rattle.exports.specs.Words.{angleIn}
 use Rattle.exports.specs.Exports.{pushedReply, conditionalCall}
-use Rattle.exports.proofs.Laws.{header-enough, answer-enough}
+use Rattle.exports.proofs.CallerWords.{header-enough, answer-enough}
+use Rattle.exports.proofs.Returning.{exported-is}
 use Rattle.exports.proofs.circuit.pbc_conditional_rotate.Statement.{statement}
 use Rattle.exports.proofs.circuit.pbc_conditional_rotate.Tie as tie
 
@@ -15,7 +16,7 @@ too-short-requires c κs = search needs
 
 returns : tie.Need-returns
 unfolding conditionalCall
-returns c = rw (sym (c .before .too-short .ensures) ∙ c .if1 .taken) (refl, (refl, (refl, refl)))
+returns c = rw (sym (c .before .too-short .ensures) ∙ c .if1 .taken)
 
 read-header-requires : tie.Need-read-header-requires
 read-header-requires c κs = omega (arith, header-enough _ _ (sym (c .before .before .too-short .ensures) ∙ c .before .if1 .left))
@@ -73,16 +74,8 @@ returns-2 c =
       ← axis-of .ensures,
       ← (angle-of .ensures ∙ ap angleIn (toZ-ofZ w64 (args .angle) (fits .angle))),
     )
-    (let said = pushed .ensures ∙ ap pushedReply (conditional-rotate .ensures .0) in (
-      write-answer .ensures .0 ∙ ap numberIn said,
-      (
-        conditional-rotate .ensures .1,
-        (
-          write-header .ensures ∙ ap (λ k. headerLeft k (args .header .now)) said,
-          write-answer .ensures .1 ∙ ap (λ k. answerLeft k (args .answer .now)) said,
-        ),
-      ),
-    ))
+    (exported-is (args .header .now) (args .answer .now) (pushed .ensures ∙ ap pushedReply (conditional-rotate .ensures .0)) (write-answer .ensures .0)
+    (write-header .ensures) (write-answer .ensures .1) (conditional-rotate .ensures .1))
 
 pub pbc-conditional-rotate-spec : {M : Type 1} → statement M
 pbc-conditional-rotate-spec =

@@ -1,10 +1,10 @@
 -- `pbc_measure` meets its contract: accepted, refused, or lent too few words.
 use borrow.Author.Needs.{needs}
-use mathlib.Core.Path.{refl, ap, sym, _∙_}
+use mathlib.Core.Path.{ap, sym, _∙_}
 use native.Mathlib.Omega.{arith}
-use Rattle.exports.specs.Words.{numberIn, headerLeft, answerLeft}
 use Rattle.exports.specs.Exports.{measuredReply, measureCall}
-use Rattle.exports.proofs.Laws.{header-enough, answer-enough}
+use Rattle.exports.proofs.CallerWords.{header-enough, answer-enough}
+use Rattle.exports.proofs.Returning.{exported-is}
 use Rattle.exports.proofs.circuit.pbc_measure.Statement.{statement}
 use Rattle.exports.proofs.circuit.pbc_measure.Tie as tie
 
@@ -13,7 +13,7 @@ too-short-requires c κs = search needs
 
 returns : tie.Need-returns
 unfolding measureCall
-returns c = rw (sym (c .before .too-short .ensures) ∙ c .if1 .taken) (refl, (refl, (refl, refl)))
+returns c = rw (sym (c .before .too-short .ensures) ∙ c .if1 .taken)
 
 read-header-requires : tie.Need-read-header-requires
 read-header-requires c κs = omega (arith, header-enough _ _ (sym (c .before .before .too-short .ensures) ∙ c .before .if1 .left))
@@ -60,16 +60,8 @@ returns-2 c =
     let too-short = back12 .before .before .before .before .before .before .too-short in
     let args = back12 .before .before .before .before .before .before .before .before .before .before .args in
     rw (sym (too-short .ensures) ∙ if1 .left, ← read-header .ensures, ← axis-of .ensures, ← target-of .ensures)
-    (let said = measured .ensures ∙ ap measuredReply (measure .ensures .0) in (
-      write-answer .ensures .0 ∙ ap numberIn said,
-      (
-        measure .ensures .1,
-        (
-          write-header .ensures ∙ ap (λ k. headerLeft k (args .header .now)) said,
-          write-answer .ensures .1 ∙ ap (λ k. answerLeft k (args .answer .now)) said,
-        ),
-      ),
-    ))
+    (exported-is (args .header .now) (args .answer .now) (measured .ensures ∙ ap measuredReply (measure .ensures .0)) (write-answer .ensures .0)
+    (write-header .ensures) (write-answer .ensures .1) (measure .ensures .1))
 
 pub pbc-measure-spec : {M : Type 1} → statement M
 pbc-measure-spec =

@@ -1,10 +1,10 @@
 -- `pbc_new` meets its contract: accepted, refused, or lent too few words.
 use borrow.Author.Needs.{needs}
-use mathlib.Core.Path.{refl, ap, sym, _∙_}
+use mathlib.Core.Path.{ap, sym, _∙_}
 use native.Mathlib.Omega.{arith}
-use Rattle.exports.specs.Words.{numberIn, headerLeft, answerLeft}
 use Rattle.exports.specs.Exports.{createdReply, newCall}
-use Rattle.exports.proofs.Laws.{header-enough, answer-enough}
+use Rattle.exports.proofs.CallerWords.{header-enough, answer-enough}
+use Rattle.exports.proofs.Returning.{exported-is, same-lent}
 use Rattle.exports.proofs.circuit.pbc_new.Statement.{statement}
 use Rattle.exports.proofs.circuit.pbc_new.Tie as tie
 
@@ -13,7 +13,7 @@ too-short-requires c κs = search needs
 
 returns : tie.Need-returns
 unfolding newCall
-returns c = rw (sym (c .before .too-short .ensures) ∙ c .if1 .taken) (refl, (refl, (refl, (refl, refl))))
+returns c = rw (sym (c .before .too-short .ensures) ∙ c .if1 .taken)
 
 new-requires : tie.Need-new-requires
 new-requires c κs = search needs
@@ -51,19 +51,8 @@ returns-2 c =
     let too-short = back12 .before .before .before .before .before .too-short in
     let args = back12 .before .before .before .before .before .before .before .before .before .before .args in
     rw (sym (too-short .ensures) ∙ if1 .left)
-    (let said = created .ensures ∙ ap createdReply (new .ensures .0) in (
-      write-answer .ensures .0 ∙ ap numberIn said,
-      (
-        new .ensures .1 .0,
-        (
-          new .ensures .1 .1,
-          (
-            write-header .ensures ∙ ap (λ k. headerLeft k (args .header .now)) said,
-            write-answer .ensures .1 ∙ ap (λ k. answerLeft k (args .answer .now)) said,
-          ),
-        ),
-      ),
-    ))
+    (exported-is (args .header .now) (args .answer .now) (created .ensures ∙ ap createdReply (new .ensures .0)) (write-answer .ensures .0)
+    (write-header .ensures) (write-answer .ensures .1) (same-lent (new .ensures .1 .0) (new .ensures .1 .1)))
 
 pub pbc-new-spec : {M : Type 1} → statement M
 pbc-new-spec =

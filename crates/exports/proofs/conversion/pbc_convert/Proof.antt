@@ -1,10 +1,10 @@
 -- `pbc_convert` meets its contract: accepted, refused, or lent too few words.
 use borrow.Author.Needs.{needs}
-use mathlib.Core.Path.{refl, ap, sym, _∙_}
+use mathlib.Core.Path.{ap, sym, _∙_}
 use native.Mathlib.Omega.{arith}
-use Rattle.exports.specs.Words.{numberIn, headerLeft, answerLeft}
 use Rattle.exports.specs.Conversion.{convertedReply, convertCall}
-use Rattle.exports.proofs.Laws.{header-enough, answer-enough}
+use Rattle.exports.proofs.CallerWords.{header-enough, answer-enough}
+use Rattle.exports.proofs.Returning.{exported-is, same-convert}
 use Rattle.exports.proofs.conversion.pbc_convert.Statement.{statement}
 use Rattle.exports.proofs.conversion.pbc_convert.Tie as tie
 
@@ -13,7 +13,7 @@ too-short-requires c κs = search needs
 
 returns : tie.Need-returns
 unfolding convertCall
-returns c = rw (sym (c .before .too-short .ensures) ∙ c .if1 .taken) (refl, (refl, (refl, (refl, (refl, (refl, refl))))))
+returns c = rw (sym (c .before .too-short .ensures) ∙ c .if1 .taken)
 
 cap-of-requires : tie.Need-cap-of-requires
 cap-of-requires c κs = search needs
@@ -66,25 +66,8 @@ returns-2 c =
     let back24 = back12 .before .before .before .before .before .before .before .before .before .before .before .before in
     let args = back24 .before .before .before .before .before .before .before .before .args in
     rw (sym (too-short .ensures) ∙ if1 .left, ← cap-of .ensures)
-    (let said = converted .ensures ∙ ap convertedReply (to-pbc .ensures .0) in (
-      write-answer .ensures .0 ∙ ap numberIn said,
-      (
-        to-pbc .ensures .1 .0,
-        (
-          to-pbc .ensures .1 .1 .0,
-          (
-            to-pbc .ensures .1 .1 .1 .0,
-            (
-              to-pbc .ensures .1 .1 .1 .1,
-              (
-                write-header .ensures ∙ ap (λ k. headerLeft k (args .header .now)) said,
-                write-answer .ensures .1 ∙ ap (λ k. answerLeft k (args .answer .now)) said,
-              ),
-            ),
-          ),
-        ),
-      ),
-    ))
+    (exported-is (args .header .now) (args .answer .now) (converted .ensures ∙ ap convertedReply (to-pbc .ensures .0)) (write-answer .ensures .0)
+    (write-header .ensures) (write-answer .ensures .1) (same-convert (to-pbc .ensures .1 .0) (to-pbc .ensures .1 .1 .0) (to-pbc .ensures .1 .1 .1 .0) (to-pbc .ensures .1 .1 .1 .1)))
 
 pub pbc-convert-spec : {M : Type 1} → statement M
 pbc-convert-spec =

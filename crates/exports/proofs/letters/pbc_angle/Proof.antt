@@ -4,7 +4,7 @@ use mathlib.Core.Path.{ap, _∙_}
 use mir.Syntax.{w64}
 use mir.ValLaws.{toZ-ofZ}
 use Rattle.pauli.specs.Angle.{remainder8}
-use Rattle.exports.proofs.Laws.{eighths-are}
+use Rattle.exports.proofs.CallerWords.{eighths-are}
 use Rattle.exports.proofs.letters.pbc_angle.Statement.{statement}
 use Rattle.exports.proofs.letters.pbc_angle.Tie as tie
 

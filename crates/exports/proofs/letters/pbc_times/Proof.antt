@@ -4,7 +4,7 @@ use mathlib.Core.Path.{ap}
 use Prim.Native.Nat.{_+_, _*_, _%_}
 use native.Mathlib.Omega.{arith}
 use Rattle.exports.specs.Exports.{timesNumber}
-use Rattle.exports.proofs.Laws.{phase-small, letter-small}
+use Rattle.exports.proofs.CallerWords.{phase-small, letter-small}
 use Rattle.exports.proofs.letters.pbc_times.Statement.{statement}
 use Rattle.exports.proofs.letters.pbc_times.Tie as tie
 

@@ -1,10 +1,10 @@
 -- `pbc_hermitian_axis` meets its contract: accepted, refused, or lent too few words.
 use borrow.Author.Needs.{needs}
-use mathlib.Core.Path.{refl, ap, sym, _∙_}
+use mathlib.Core.Path.{ap, sym, _∙_}
 use native.Mathlib.Omega.{arith}
-use Rattle.exports.specs.Words.{numberIn, answerLeft}
 use Rattle.exports.specs.Readers.{hermitianReply, hermitianCall}
-use Rattle.exports.proofs.Laws.{header-enough, answer-enough}
+use Rattle.exports.proofs.CallerWords.{header-enough, answer-enough}
+use Rattle.exports.proofs.Returning.{replied-is, same-walk}
 use Rattle.exports.proofs.readers.pbc_hermitian_axis.Statement.{statement}
 use Rattle.exports.proofs.readers.pbc_hermitian_axis.Tie as tie
 
@@ -13,7 +13,7 @@ too-short-requires c κs = search needs
 
 returns : tie.Need-returns
 unfolding hermitianCall
-returns c = rw (sym (c .before .too-short .ensures) ∙ c .if1 .taken) (refl, (refl, (refl, refl)))
+returns c = rw (sym (c .before .too-short .ensures) ∙ c .if1 .taken)
 
 read-header-requires : tie.Need-read-header-requires
 read-header-requires c κs = omega (arith, header-enough _ _ (sym (c .before .too-short .ensures) ∙ c .if1 .left))
@@ -52,17 +52,8 @@ returns-2 c =
     let too-short = back12 .before .before .before .too-short in
     let args = back12 .before .before .before .before .before .before .before .before .before .args in
     rw (sym (too-short .ensures) ∙ if1 .left, ← read-header .ensures, ← handle .ensures)
-    (let said = hermitian .ensures ∙ ap (hermitianReply (read-header .result)) (hermitian-axis .ensures .0) in (
-      write-answer .ensures .0
-          ∙ ap numberIn said,
-      (
-        hermitian-axis .ensures .1 .0,
-        (
-          hermitian-axis .ensures .1 .1,
-          write-answer .ensures .1 ∙ ap (λ k. answerLeft k (args .answer .now)) said,
-        ),
-      ),
-    ))
+    (replied-is (args .answer .now) (hermitian .ensures ∙ ap (hermitianReply (read-header .result)) (hermitian-axis .ensures .0)) (write-answer .ensures .0) (write-answer .ensures .1)
+    (same-walk (hermitian-axis .ensures .1 .0) (hermitian-axis .ensures .1 .1)))
 
 pub pbc-hermitian-axis-spec : {M : Type 1} → statement M
 pbc-hermitian-axis-spec =

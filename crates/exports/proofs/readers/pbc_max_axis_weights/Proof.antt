@@ -1,10 +1,10 @@
 -- `pbc_max_axis_weights` meets its contract: accepted, refused, or lent too few words.
 use borrow.Author.Needs.{needs}
-use mathlib.Core.Path.{refl, ap, sym, _∙_}
+use mathlib.Core.Path.{ap, sym, _∙_}
 use native.Mathlib.Omega.{arith}
-use Rattle.exports.specs.Words.{numberIn, answerLeft}
 use Rattle.exports.specs.Readers.{weightsReply, weightsCall}
-use Rattle.exports.proofs.Laws.{header-enough, answer-enough}
+use Rattle.exports.proofs.CallerWords.{header-enough, answer-enough}
+use Rattle.exports.proofs.Returning.{replied-is, same-walk}
 use Rattle.exports.proofs.readers.pbc_max_axis_weights.Statement.{statement}
 use Rattle.exports.proofs.readers.pbc_max_axis_weights.Tie as tie
 
@@ -13,7 +13,7 @@ too-short-requires c κs = search needs
 
 returns : tie.Need-returns
 unfolding weightsCall
-returns c = rw (sym (c .before .too-short .ensures) ∙ c .if1 .taken) (refl, (refl, (refl, refl)))
+returns c = rw (sym (c .before .too-short .ensures) ∙ c .if1 .taken)
 
 read-header-requires : tie.Need-read-header-requires
 read-header-requires c κs = omega (arith, header-enough _ _ (sym (c .before .too-short .ensures) ∙ c .if1 .left))
@@ -48,17 +48,8 @@ returns-2 c =
     let back12 = c .before .before .before .before .before .before .before .before .before .before .before .before in
     let args = back12 .before .before .before .before .before .before .before .before .before .args in
     rw (sym (too-short .ensures) ∙ if1 .left, ← read-header .ensures)
-    (let said = weights .ensures ∙ ap (weightsReply (read-header .result)) (max-axis-weights .ensures .0) in (
-      write-answer .ensures .0
-          ∙ ap numberIn said,
-      (
-        max-axis-weights .ensures .1 .0,
-        (
-          max-axis-weights .ensures .1 .1,
-          write-answer .ensures .1 ∙ ap (λ k. answerLeft k (args .answer .now)) said,
-        ),
-      ),
-    ))
+    (replied-is (args .answer .now) (weights .ensures ∙ ap (weightsReply (read-header .result)) (max-axis-weights .ensures .0)) (write-answer .ensures .0) (write-answer .ensures .1)
+    (same-walk (max-axis-weights .ensures .1 .0) (max-axis-weights .ensures .1 .1)))
 
 pub pbc-max-axis-weights-spec : {M : Type 1} → statement M
 pbc-max-axis-weights-spec =

@@ -4,7 +4,7 @@ use mathlib.Core.Path.{ap, _∙_}
 use mir.Syntax.{w64}
 use mir.ValLaws.{toZ-ofZ}
 use Rattle.pauli.specs.Angle.{remainder8}
-use Rattle.exports.proofs.Laws.{angle-is}
+use Rattle.exports.proofs.CallerWords.{angle-is}
 use Rattle.exports.proofs.words.angle_of.Statement.{statement}
 use Rattle.exports.proofs.words.angle_of.Tie as tie
 

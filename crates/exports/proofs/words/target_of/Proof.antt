@@ -3,7 +3,7 @@ use borrow.Author.Needs.{needs}
 use mathlib.Core.Path.{ap, _∙_}
 use Rattle.exports.specs.Types.{Bit}
 use Rattle.exports.specs.Words.{targetIn}
-use Rattle.exports.proofs.Laws.{target-is}
+use Rattle.exports.proofs.CallerWords.{target-is}
 use Rattle.exports.proofs.words.target_of.Statement.{statement}
 use Rattle.exports.proofs.words.target_of.Tie as tie
 

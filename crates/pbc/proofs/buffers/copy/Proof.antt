@@ -5,7 +5,7 @@ use native.Mathlib.Numerals.{add-one}
 use native.Mathlib.Omega.{arith}
 use lib.ListN.{length, getD, set, take}
 use Rattle.pbc.specs.Buffers.{copied}
-use Rattle.pbc.proofs.BufferLaws.{copied-more, copied-whole}
+use Rattle.pbc.proofs.BufferWords.{copied-more, copied-whole}
 use borrow.Author.Needs.{needs}
 use Rattle.pbc.proofs.buffers.copy.Statement.{statement}
 use Rattle.pbc.proofs.buffers.copy.Tie as tie

@@ -1,18 +1,16 @@
 -- `fill_bytes` meets its contract: after i turns the first i are set.
-use mathlib.Core.Path.{_≡_, refl, ap, _∙_}
-use mathlib.Core.List.{_++_}
-use Prim.Native.Nat.{_-_, _≤_, _<_}
+use mathlib.Core.Path.{refl, _∙_}
+use Prim.Native.Nat.{_-_}
 use native.Mathlib.Omega.{arith}
 use borrow.Author.Needs.{needs}
-use native.Mathlib.Numerals.{add-one}
-use lib.ListN.{length, set, drop, replicate, length-set}
-use Rattle.pbc.proofs.BufferLaws.{filled-more, filled-whole}
+use lib.ListN.{length}
+use Rattle.pbc.proofs.BufferWords.{Filling, filling-more, filled-whole}
 use Rattle.pbc.proofs.buffers.fill_bytes.Statement.{statement}
 use Rattle.pbc.proofs.buffers.fill_bytes.Tie as tie
 
 abbrev Inv-loop : tie.InvT-loop
 Inv-loop bytes₀ value i₀ bytes i =
-    (length bytes ≡ length bytes₀) × (i ≤ length bytes₀) × (bytes ≡ replicate i value ++ drop i bytes₀)
+    Filling bytes₀ value bytes i
 
 abbrev μ-loop : tie.MeasureT-loop
 μ-loop bytes₀ value i₀ bytes i = length bytes₀ - i
@@ -31,10 +29,9 @@ loop-less c = omega arith
 
 loop-again : tie.Need-loop-again Inv-loop μ-loop
 loop-again c =
-    let i = c .before .loop .i in
-    let ws = c .before .before .args .bytes .now in
-    let h : i < length ws = omega arith in
-    (simp length-set (omega arith), omega arith, rw (add-one i) (ap (λ l. set l i (c .before .before .args .value)) (c .before .loop .inv .2) ∙ filled-more ws i (c .before .before .args .value) h))
+    let the-loop = c .before .loop in
+    let args = c .before .before .args in
+    filling-more (args .bytes .now) (args .value) _ (the-loop .i) (omega arith) (the-loop .inv)
 
 same-length : tie.Need-same-length Inv-loop μ-loop
 same-length c = omega arith

@@ -1,5 +1,5 @@
 -- `first` meets its contract.
-use Rattle.pbc.proofs.BufferLaws.{first-words, all-words}
+use Rattle.pbc.proofs.BufferWords.{first-words, all-words}
 use borrow.Author.Needs.{needs}
 use Rattle.pbc.proofs.buffers.first.Statement.{statement}
 use Rattle.pbc.proofs.buffers.first.Tie as tie

@@ -1,5 +1,5 @@
 -- `rest` meets its contract.
-use Rattle.pbc.proofs.BufferLaws.{rest-there, rest-missing}
+use Rattle.pbc.proofs.BufferWords.{rest-there, rest-missing}
 use borrow.Author.Needs.{needs}
 use Rattle.pbc.proofs.buffers.rest.Statement.{statement}
 use Rattle.pbc.proofs.buffers.rest.Tie as tie

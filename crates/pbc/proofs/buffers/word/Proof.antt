@@ -1,5 +1,5 @@
 -- `word` meets its contract.
-use Rattle.pbc.proofs.BufferLaws.{past-end}
+use Rattle.pbc.proofs.BufferWords.{past-end}
 use borrow.Author.Needs.{needs}
 use Rattle.pbc.proofs.buffers.word.Statement.{statement}
 use Rattle.pbc.proofs.buffers.word.Tie as tie

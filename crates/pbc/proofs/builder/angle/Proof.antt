@@ -3,7 +3,7 @@ use mathlib.Core.Path.{ap, _∙_}
 use mir.Syntax.{w64}
 use mir.ValLaws.{toZ-ofZ}
 use Rattle.pauli.specs.Angle.{remainder8}
-use Rattle.pbc.proofs.BuilderLaws.{angleWith}
+use Rattle.pbc.proofs.LineNumbers.{angleWith}
 use Rattle.pbc.proofs.builder.angle.Statement.{statement}
 use Rattle.pbc.proofs.builder.angle.Tie as tie
 

@@ -34,35 +34,37 @@ enum-told-5 c = search needs
 conditional-requires : tie.Need-conditional-requires
 conditional-requires c κs = tt
 
-same-length : tie.Need-same-length
-same-length c = search needs
-
 returns : tie.Need-returns
-returns c = rw (c .before .before .before .before .enum-told .given .1) (c .before .before .single .ensures .0, (c .before .before .single .ensures .1, refl))
-
-same-length-2 : tie.Need-same-length-2
-same-length-2 c = search needs
+returns c = rw (c .before .before .enum-told .given .1) (c .single .ensures .0, (c .single .ensures .1, refl))
 
 returns-2 : tie.Need-returns-2
-returns-2 c = rw (c .before .before .before .before .enum-told2 .given .1) (c .before .before .product .ensures .0, (c .before .before .product .ensures .1, refl))
-
-same-length-3 : tie.Need-same-length-3
-same-length-3 c = search needs
+returns-2 c = rw (c .before .before .enum-told2 .given .1) (c .product .ensures .0, (c .product .ensures .1, refl))
 
 returns-3 : tie.Need-returns-3
-returns-3 c = rw (c .before .before .before .before .enum-told3 .given .1) (c .before .before .rotate .ensures .0, (refl, c .before .before .rotate .ensures .1))
-
-same-length-4 : tie.Need-same-length-4
-same-length-4 c = search needs
+returns-3 c = rw (c .before .before .enum-told3 .given .1) (c .rotate .ensures .0, (refl, c .rotate .ensures .1))
 
 returns-4 : tie.Need-returns-4
-returns-4 c = rw (c .before .before .before .before .enum-told4 .given .1) (c .before .before .measure .ensures .0, (refl, c .before .before .measure .ensures .1))
-
-same-length-5 : tie.Need-same-length-5
-same-length-5 c = search needs
+returns-4 c = rw (c .before .before .enum-told4 .given .1) (c .measure .ensures .0, (refl, c .measure .ensures .1))
 
 returns-5 : tie.Need-returns-5
-returns-5 c = rw (c .before .before .before .before .enum-told5 .given .1) (c .before .before .conditional .ensures .0, (refl, c .before .before .conditional .ensures .1))
+returns-5 c = rw (c .before .before .enum-told5 .given .1) (c .conditional .ensures .0, (refl, c .conditional .ensures .1))
 
 pub answer-spec : {M : Type 1} → statement M
-answer-spec = tie.close (tie.spec enum-told single-requires enum-told-2 product-requires enum-told-3 rotate-requires enum-told-4 measure-requires enum-told-5 conditional-requires same-length returns same-length-2 returns-2 same-length-3 returns-3 same-length-4 returns-4 same-length-5 returns-5)
+answer-spec =
+    tie.close
+    (tie.spec
+    enum-told
+    single-requires
+    enum-told-2
+    product-requires
+    enum-told-3
+    rotate-requires
+    enum-told-4
+    measure-requires
+    enum-told-5
+    conditional-requires
+    returns
+    returns-2
+    returns-3
+    returns-4
+    returns-5)

@@ -1,7 +1,7 @@
 -- `conditional` meets its contract.
 use mathlib.Core.Path.{refl, sym, ap, _∙_}
 use borrow.Author.Tests.{not-true, not-false}
-use Rattle.pbc.specs.Builder.{pushedReply, conditionalCommand}
+use Rattle.pbc.specs.Builder.{pushedLine, conditionalCommand}
 use borrow.Author.Needs.{needs}
 use Rattle.pbc.proofs.builder.conditional.Statement.{statement}
 use Rattle.pbc.proofs.builder.conditional.Tie as tie
@@ -61,7 +61,7 @@ returns-2 c =
       word .ensures,
     ) at (lent-conditional .ensures) in rw (sym (has-signed .ensures) ∙ not-false (has-signed .result) (if1 .left)) (
       c .pushed .ensures
-          ∙ ap (pushedReply (args .state)) (e .0),
+          ∙ ap (pushedLine (args .state)) (e .0),
       e .1,
     )
 

@@ -3,7 +3,7 @@ use mathlib.Core.Path.{sym, _∙_}
 use native.Mathlib.Omega.{arith}
 use lib.Seq.{length-take-le}
 use Rattle.arena.specs.Builder.{measureStep}
-use Rattle.pbc.proofs.BuilderLaws.{whole-answer, whole-words, part-words}
+use Rattle.pbc.proofs.LentCalls.{whole-answer, whole-words, part-words}
 use borrow.Author.Needs.{needs}
 use Rattle.pbc.proofs.builder.lent_measure.Statement.{statement}
 use Rattle.pbc.proofs.builder.lent_measure.Tie as tie

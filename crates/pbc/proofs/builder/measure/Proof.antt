@@ -1,7 +1,7 @@
 -- `measure` meets its contract.
 use mathlib.Core.Path.{refl, sym, ap, _∙_}
 use borrow.Author.Tests.{not-true, not-false}
-use Rattle.pbc.specs.Builder.{measuredReply, measureCommand}
+use Rattle.pbc.specs.Builder.{measuredLine, measureCommand}
 use borrow.Author.Needs.{needs}
 use Rattle.pbc.proofs.builder.measure.Statement.{statement}
 use Rattle.pbc.proofs.builder.measure.Tie as tie
@@ -49,7 +49,7 @@ returns-2 c =
       target .ensures,
       word .ensures,
     ) at (lent-measure .ensures) in rw (sym (has .ensures) ∙ not-false (has .result) (if1 .left)) (
-      c .measured .ensures ∙ ap (measuredReply
+      c .measured .ensures ∙ ap (measuredLine
           (args .state)) (e .0),
       e .1,
     )

@@ -1,7 +1,7 @@
 -- `product` meets its contract.
 use mathlib.Core.Path.{refl, sym, ap, _∙_}
 use borrow.Author.Tests.{not-true, not-false}
-use Rattle.pbc.specs.Builder.{multipliedReply, productCommand}
+use Rattle.pbc.specs.Builder.{multipliedLine, productCommand}
 use borrow.Author.Needs.{needs}
 use Rattle.pbc.proofs.builder.product.Statement.{statement}
 use Rattle.pbc.proofs.builder.product.Tie as tie
@@ -41,7 +41,7 @@ returns-2 c =
     let has = c .before .before .before .before .before .before .before .before .before .has in
     let args = c .before .before .before .before .before .before .before .before .before .before .before .before .args in
     let e = rw (handle .ensures, handle2 .ensures) at (lent-product .ensures) in rw (sym (has .ensures) ∙ not-false (has .result) (if1 .left))
-    (c .multiplied .ensures ∙ ap (multipliedReply (args .state)) (e .0), e .1)
+    (c .multiplied .ensures ∙ ap (multipliedLine (args .state)) (e .0), e .1)
 
 pub product-spec : {M : Type 1} → statement M
 product-spec = tie.close (tie.spec has-requires bad-requires returns handle-requires handle-requires-2 lent-product-requires multiplied-requires same-length returns-2)

@@ -1,7 +1,7 @@
 -- `rotate` meets its contract.
 use mathlib.Core.Path.{refl, sym, ap, _∙_}
 use borrow.Author.Tests.{not-true, not-false}
-use Rattle.pbc.specs.Builder.{pushedReply, rotateCommand}
+use Rattle.pbc.specs.Builder.{pushedLine, rotateCommand}
 use borrow.Author.Needs.{needs}
 use Rattle.pbc.proofs.builder.rotate.Statement.{statement}
 use Rattle.pbc.proofs.builder.rotate.Tie as tie
@@ -41,7 +41,7 @@ returns-2 c =
     let has-signed = c .before .before .before .before .before .before .before .before .before .has-signed in
     let args = c .before .before .before .before .before .before .before .before .before .before .before .before .args in
     let e = rw (axis .ensures, angle .ensures) at (lent-rotate .ensures) in rw (sym (has-signed .ensures) ∙ not-false (has-signed .result) (if1 .left))
-    (c .pushed .ensures ∙ ap (pushedReply (args .state)) (e .0), e .1)
+    (c .pushed .ensures ∙ ap (pushedLine (args .state)) (e .0), e .1)
 
 pub rotate-spec : {M : Type 1} → statement M
 rotate-spec = tie.close (tie.spec has-signed-requires bad-requires returns axis-requires angle-requires lent-rotate-requires pushed-requires same-length returns-2)

@@ -2,7 +2,7 @@
 use mathlib.Core.Path.{refl, sym, ap, _∙_}
 use borrow.Author.Tests.{not-true, not-false, lt-ltb, le-ltb}
 use lib.Dec.{ltb}
-use Rattle.pbc.specs.Builder.{singledReply, singleCommand}
+use Rattle.pbc.specs.Builder.{singledLine, singleCommand}
 use borrow.Author.Needs.{needs}
 use Rattle.pbc.proofs.builder.single.Statement.{statement}
 use Rattle.pbc.proofs.builder.single.Tie as tie
@@ -60,7 +60,7 @@ returns-3 c =
     ) at (lent-single .ensures) in rw (
       sym (has .ensures) ∙ not-false (has .result) (if1 .left),
       ap (ltb 3) (sym (word .ensures)) ∙ le-ltb 3 (word .result) (if2 .left),
-    ) (c .singled .ensures ∙ ap (singledReply (args .state)) (e .0), e .1)
+    ) (c .singled .ensures ∙ ap (singledLine (args .state)) (e .0), e .1)
 
 pub single-spec : {M : Type 1} → statement M
 single-spec = tie.close (tie.spec has-requires bad-requires returns word-requires bad-requires-2 returns-2 word-requires-2 or-identity-requires lent-single-requires singled-requires same-length returns-3)

@@ -1,12 +1,10 @@
 -- `target` meets its contract.
-use Rattle.pbc.specs.Builder.{targetOf}
-use Rattle.pbc.proofs.BuilderLaws.{target-is}
+use Rattle.pbc.proofs.LineNumbers.{target-is}
 use borrow.Author.Needs.{needs}
 use Rattle.pbc.proofs.builder.target.Statement.{statement}
 use Rattle.pbc.proofs.builder.target.Tie as tie
 
 returns : tie.Need-returns
-unfolding targetOf
 returns c = rw (c .if1 .taken)
 
 sub-t3 : tie.Need-sub-t3

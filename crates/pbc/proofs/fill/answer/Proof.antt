@@ -28,58 +28,29 @@ empty-requires c κs = tt
 with-header-requires : tie.Need-with-header-requires
 with-header-requires c κs = tt
 
-same-length : tie.Need-same-length
-same-length c = c .before .before .before .before .before .before .before .before .before .before .before .before .before .before .before .before .before .before .before .before .before .before .fill-circuit .kept .0
-
-same-length-2 : tie.Need-same-length-2
-same-length-2 c = c .before .before .before .before .before .before .before .before .before .before .before .before .before .before .before .before .before .before .before .before .before .before .fill-circuit .kept .1 .0
-
-same-length-3 : tie.Need-same-length-3
-same-length-3 c = c .before .before .before .before .before .before .before .before .before .before .before .before .before .before .before .before .before .before .before .before .before .before .fill-circuit .kept .1 .1 .0
-
-same-length-4 : tie.Need-same-length-4
-same-length-4 c = search needs
-
-same-length-5 : tie.Need-same-length-5
-same-length-5 c = search needs
-
-same-length-6 : tie.Need-same-length-6
-same-length-6 c = search needs
-
-same-length-7 : tie.Need-same-length-7
-same-length-7 c = search needs
-
 returns : tie.Need-returns
-returns c =
-    let empty = c .before .empty in
-    let fill-wide = c .before .before .before .before .fill-wide in
-    let fill-work = c .before .before .before .before .before .before .before .before .before .before .before .before .fill-work in
-    let back12 = c .before .before .before .before .before .before .before .before .before .before .before .before in
-    let fill-circuit = back12 .before .before .before .before .before .before .before .before .before .before .fill-circuit in
-    let word = back12 .before .before .before .before .before .before .before .before .before .before .before .before .before .before .word in
-    let back24 = back12 .before .before .before .before .before .before .before .before .before .before .before .before in
-    let args = back24 .before .before .before .before .before .before .before .before .before .before .before .args in (
-      c .with-header .ensures ∙ ap (λ h. headedOf (args .state) h Done) (empty .ensures),
+returns c = (
+  c .with-header .ensures ∙ ap (λ h. headedOf (c .before .before .before .before .before .before .before .before .before .before .before .before .before .before .args .state) h Done) (c .before .empty .ensures),
+  (
+    c .before .before .before .before .before .before .before .before .fill-circuit .ensures .0 ∙ ap (λ v. replicate (length (c .before .before .before .before .before .before .before .before .before .before .before .before .before .before .args .nodes .now)) v) (c .before .before .before .before .before .before .before .before .before .before .before .before .word .ensures),
+    (
+      c .before .before .before .before .before .before .before .before .fill-circuit .ensures .1 .0 ∙ ap (λ v. replicate (length (c .before .before .before .before .before .before .before .before .before .before .before .before .before .before .args .operations .now)) v) (c .before .before .before .before .before .before .before .before .before .before .before .before .word .ensures),
       (
-        fill-circuit .ensures .0 ∙ ap (λ v. replicate (length (args .nodes .now)) v) (word .ensures),
+        c .before .before .before .before .before .before .before .before .fill-circuit .ensures .1 .1 ∙ ap (λ v. replicate (length (c .before .before .before .before .before .before .before .before .before .before .before .before .before .before .args .frame .now)) v) (c .before .before .before .before .before .before .before .before .before .before .before .before .word .ensures),
         (
-          fill-circuit .ensures .1 .0 ∙ ap (λ v. replicate (length (args .operations .now)) v) (word .ensures),
+          c .before .before .fill-wide .ensures ∙ ap (λ v. replicate (length (c .before .before .before .before .before .before .before .before .before .before .before .before .before .before .args .planes .now)) v) (c .before .before .before .before .before .before .before .before .before .before .before .before .word .ensures),
           (
-            fill-circuit .ensures .1 .1 ∙ ap (λ v. replicate (length (args .frame .now)) v) (word .ensures),
+            c .before .before .before .before .fill-work .ensures .0 ∙ ap (λ v. replicate (length (c .before .before .before .before .before .before .before .before .before .before .before .before .before .before .args .scratch .now)) v) (c .before .before .before .before .before .before .before .before .before .before .before .before .word .ensures),
             (
-              fill-wide .ensures ∙ ap (λ v. replicate (length (args .planes .now)) v) (word .ensures),
-              (
-                fill-work .ensures .0 ∙ ap (λ v. replicate (length (args .scratch .now)) v) (word .ensures),
-                (
-                  fill-work .ensures .1 .0 ∙ ap (λ v. replicate (length (args .pool .now)) v) (word .ensures),
-                  fill-work .ensures .1 .1 ∙ ap (λ v. replicate (length (args .letters .now)) (v % 256)) (word .ensures),
-                ),
-              ),
+              c .before .before .before .before .fill-work .ensures .1 .0 ∙ ap (λ v. replicate (length (c .before .before .before .before .before .before .before .before .before .before .before .before .before .before .args .pool .now)) v) (c .before .before .before .before .before .before .before .before .before .before .before .before .word .ensures),
+              c .before .before .before .before .fill-work .ensures .1 .1 ∙ ap (λ v. replicate (length (c .before .before .before .before .before .before .before .before .before .before .before .before .before .before .args .letters .now)) (v % 256)) (c .before .before .before .before .before .before .before .before .before .before .before .before .word .ensures),
             ),
           ),
         ),
       ),
-    )
+    ),
+  ),
+)
 
 pub answer-spec : {M : Type 1} → statement M
 answer-spec =
@@ -92,11 +63,4 @@ answer-spec =
     fill-wide-requires
     empty-requires
     with-header-requires
-    same-length
-    same-length-2
-    same-length-3
-    same-length-4
-    same-length-5
-    same-length-6
-    same-length-7
     returns)

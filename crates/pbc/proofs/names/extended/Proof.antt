@@ -1,6 +1,6 @@
 -- `extended` meets its contract, one case a return.
 use borrow.Author.Needs.{needs}
-use Rattle.pbc.proofs.NameLaws.{before-letters, after-letters, too-long, one-more}
+use Rattle.pbc.proofs.NameNumbers.{before-letters, after-letters, too-long, one-more}
 use Rattle.pbc.proofs.names.extended.Statement.{statement}
 use Rattle.pbc.proofs.names.extended.Tie as tie
 

@@ -7,7 +7,7 @@ use mir.ValLaws.{toZ-ofZ}
 use Rattle.pauli.specs.Angle.{remainder8}
 use Rattle.pbc.specs.State.{saysOf, One}
 use Rattle.pbc.specs.Plain.{angleReply}
-use Rattle.pbc.proofs.LineLaws.{remainder-kept}
+use Rattle.pbc.proofs.LineNumbers.{remainder-kept}
 use borrow.Author.Needs.{needs}
 use Rattle.pbc.proofs.plain.angle.Statement.{statement}
 use Rattle.pbc.proofs.plain.angle.Tie as tie

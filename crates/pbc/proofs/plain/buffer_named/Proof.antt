@@ -1,7 +1,7 @@
 -- `buffer_named` meets its contract, one name a return.
 use Rattle.pbc.specs.Plain.{bufferNamed}
-use Rattle.pbc.proofs.NameLaws.{same-name, other-name}
-use Rattle.pbc.proofs.NameLaws.{nodes-number, operations-number, frame-number, planes-number, scratch-number, pool-number, letters-number}
+use Rattle.pbc.proofs.NameNumbers.{same-name, other-name}
+use Rattle.pbc.proofs.NameNumbers.{nodes-number, operations-number, frame-number, planes-number, scratch-number, pool-number, letters-number}
 use Rattle.pbc.proofs.plain.buffer_named.Statement.{statement}
 use Rattle.pbc.proofs.plain.buffer_named.Tie as tie
 

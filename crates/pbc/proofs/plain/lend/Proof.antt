@@ -1,7 +1,7 @@
 -- `lend` meets its contract, one case a return.
 use mathlib.Core.Path.{sym, ap, _∙_}
 use borrow.Author.Tests.{not-true, not-false}
-use Rattle.pbc.specs.Buffers.{exceeds}
+use Rattle.pbc.specs.Buffers.{lendsExceed}
 use Rattle.pbc.specs.State.{lentOf}
 use Rattle.pbc.specs.Plain.{lendReply}
 use Rattle.pbc.proofs.plain.lend.Statement.{statement}
@@ -52,7 +52,7 @@ returns-3 c =
     rw (
       sym (has .ensures) ∙ if1 .left,
       sym (has2 .ensures) ∙ not-false (has2 .result) (if2 .left),
-      ap exceeds (sym (the-of .ensures)) ∙ sym (exceed .ensures) ∙ if3 .taken,
+      ap lendsExceed (sym (the-of .ensures)) ∙ sym (exceed .ensures) ∙ if3 .taken,
     ) (c .bad2 .ensures)
 
 with-lends-requires-2 : tie.Need-with-lends-requires-2
@@ -72,7 +72,7 @@ returns-4 c =
     rw (
       sym (has .ensures) ∙ if1 .left,
       sym (has2 .ensures) ∙ not-false (has2 .result) (if2 .left),
-      ap exceeds (sym (the-of .ensures)) ∙ sym (exceed .ensures) ∙ if3 .left,
+      ap lendsExceed (sym (the-of .ensures)) ∙ sym (exceed .ensures) ∙ if3 .left,
     ) (c .with-lends2 .ensures ∙ ap (lentOf (args .state)) (the-of .ensures))
 
 pub lend-spec : {M : Type 1} → statement M

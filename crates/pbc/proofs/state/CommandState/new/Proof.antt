@@ -1,8 +1,8 @@
 -- `new` meets its contract.
 use mathlib.Core.Path.{ap₂}
 use Rattle.pbc.specs.State.{stateOf}
-use Rattle.pbc.proofs.state.State.new.Statement.{statement}
-use Rattle.pbc.proofs.state.State.new.Tie as tie
+use Rattle.pbc.proofs.state.CommandState.new.Statement.{statement}
+use Rattle.pbc.proofs.state.CommandState.new.Tie as tie
 
 empty-requires : tie.Need-empty-requires
 empty-requires c κs = tt

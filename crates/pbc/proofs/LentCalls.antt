@@ -1,12 +1,11 @@
--- Calls that are lent the first words of a buffer, and what the numbers of a line say.
-use mathlib.Core.Path.{_≡_, refl, sym, ap, ap₂, _∙_}
+-- Calls that are lent the first words of a buffer.
+use mathlib.Core.Path.{_≡_, sym, ap, ap₂, _∙_}
 use mathlib.Core.List.{List, _++_, append-nil}
-use Prim.Native.Nat.{ℕ, zero, suc, _-_, _≤_}
-use native.Mathlib.Omega.{arith}
+use Prim.Native.Nat.{ℕ, _≤_}
 use lib.ListN.{length, take, drop, drop-of-length-le}
 use lib.Seq.{take-all}
 use Rattle.arena.specs.Builder.{Step}
-use Rattle.pbc.specs.Builder.{PauliAngle, Bit, lentStep, targetOf}
+use Rattle.pbc.specs.Builder.{lentStep}
 
 module _ {A : Type 0} (call : List ℕ → Step A (List ℕ)) (count : ℕ) (ws : List ℕ) where
   pub whole-answer : length ws ≤ count → call ws .answer ≡ lentStep count ws call .answer
@@ -18,11 +17,3 @@ module _ {A : Type 0} (call : List ℕ → Step A (List ℕ)) (count : ℕ) (ws 
 
   pub part-words : (ys : List ℕ) → ys ≡ call (take count ws) .words → ys ++ drop count ws ≡ lentStep count ws call .words
   part-words ys e = ap (λ l. l ++ drop count ws) e
-
-abbrev pub angleWith : ℕ → PauliAngle
-angleWith k = record { 0 = k }
-
-pub target-is : (n : ℕ) → (n ≡ 0 → ⊥) → Bit (n - 1) ≡ targetOf n
-unfolding targetOf
-target-is zero p = absurd (p refl)
-target-is (suc n) p = let e : suc n - 1 ≡ n = omega arith in ap Bit e

@@ -13,7 +13,7 @@ use Rattle.pauli.proofs.Remainder.{below-8}
 use Rattle.pauli.proofs.Numbers.{phaseNumber-small, pauliNumber-small}
 use Rattle.arena.proofs.Accepted.{left-false, right-false}
 use Rattle.exports.specs.Types.{PauliAngle, NumberProduct, Bit}
-use Rattle.exports.specs.Words.{field, angleIn, targetIn, tooShort}
+use Rattle.exports.specs.Words.{fieldIn, angleIn, targetIn, tooShort}
 
 -- ---- enough words
 
@@ -27,10 +27,10 @@ answer-enough header answer e = ltb-false answer 4 (right-false (ltb header 6) (
 
 -- ---- targets
 
-pub target-is : (n : ℕ) → n ≢ 0 → Bit (field (n - 1)) ≡ targetIn n
+pub target-is : (n : ℕ) → n ≢ 0 → Bit (fieldIn (n - 1)) ≡ targetIn n
 unfolding targetIn
 target-is zero p = absurd (p refl)
-target-is (suc n) p = let e : suc n - 1 ≡ n = omega arith in ap (λ k. Bit (field k)) e
+target-is (suc n) p = let e : suc n - 1 ≡ n = omega arith in ap (λ k. Bit (fieldIn k)) e
 
 -- ---- angles
 

@@ -1,10 +1,12 @@
 -- Words of a buffer: past its end, a part of it, and what a loop over it has done so far.
+use mathlib.Core.Bool.{true, false}
 use mathlib.Core.Path.{_≡_, refl, sym, ap, _∙_}
 use mathlib.Core.List.{List, [], _∷_, _++_, append-nil}
 use Prim.Native.Nat.{ℕ, zero, suc, _+_, _-_, _≤_, _<_}
 use native.Mathlib.Omega.{arith}
-use borrow.Author.Tests.{le-leb, lt-leb}
-use lib.ListN.{length, getD, take, drop, set, replicate, length-drop, length-replicate, drop-of-length-le}
+use native.Mathlib.Numerals.{add-one}
+use lib.Dec.{leb}
+use lib.ListN.{length, getD, take, drop, set, replicate, length-set, length-drop, length-replicate, drop-of-length-le}
 use lib.Seq.{drop-cons, set-at, take-all}
 use Rattle.pbc.specs.Buffers.{partOf, copied}
 
@@ -28,13 +30,13 @@ pub rest-missing : (ws : List ℕ) (from : ℕ) → length ws < from → [] ≡ 
 rest-missing ws from h = sym (drop-of-length-le ws {i = from} (omega arith))
 
 module _ (ws : List ℕ) (from count : ℕ) where
-  pub part-there : from ≤ length ws → count ≤ length ws - from → take (from + count - from) (drop from ws) ≡ partOf ws from count
+  pub part-there : leb (from + count) (length ws) ≡ true → take (from + count - from) (drop from ws) ≡ partOf ws from count
   unfolding partOf
-  part-there h k = rw (le-leb (from + count) (length ws) (omega arith)) (let e : from + count - from ≡ count = omega arith in rw e)
+  part-there h = rw h (let e : from + count - from ≡ count = omega arith in rw e)
 
-  pub part-missing : length ws < from + count → [] ≡ partOf ws from count
+  pub part-missing : leb (from + count) (length ws) ≡ false → [] ≡ partOf ws from count
   unfolding partOf
-  part-missing h = rw (lt-leb (from + count) (length ws) h)
+  part-missing h = rw h
 
 -- ---- filling
 
@@ -51,6 +53,14 @@ filled-more ws i a h =
 pub filled-whole : (ws : List ℕ) (i a : ℕ) → i ≡ length ws → replicate i a ++ drop i ws ≡ replicate (length ws) a
 filled-whole ws i a e =
     ap (λ l. replicate i a ++ l) (drop-of-length-le ws {i = i} (omega arith)) ∙ append-nil (replicate i a) ∙ ap (λ n. replicate n a) e
+
+-- after i turns of a loop the first i words are set
+abbrev pub Filling : List ℕ → ℕ → List ℕ → ℕ → Type 0
+Filling ws a filled i = (length filled ≡ length ws) × (i ≤ length ws) × (filled ≡ replicate i a ++ drop i ws)
+
+pub filling-more : (ws : List ℕ) (a : ℕ) (filled : List ℕ) (i : ℕ) → i < length ws → Filling ws a filled i → Filling ws a (set filled i a) (i + 1)
+filling-more ws a filled i h f =
+    (simp length-set (f .0), omega arith, rw (add-one i) (ap (λ l. set l i a) (f .2) ∙ filled-more ws i a h))
 
 -- ---- copying
 

@@ -1,8 +1,8 @@
 -- `refused` meets its contract.
 use mathlib.Core.Path.{ap, _∙_}
 use Rattle.pbc.specs.State.{saysOf, Refused}
-use Rattle.pbc.proofs.state.State.refused.Statement.{statement}
-use Rattle.pbc.proofs.state.State.refused.Tie as tie
+use Rattle.pbc.proofs.state.CommandState.refused.Statement.{statement}
+use Rattle.pbc.proofs.state.CommandState.refused.Tie as tie
 
 refusal-requires : tie.Need-refusal-requires
 refusal-requires c κs = tt
