@@ -5,7 +5,6 @@ use Prim.Native.Nat.{ℕ}
 use Rattle.exports.specs.Words.{Reply, numberIn, headerLeft, answerLeft, returned}
 use Rattle.exports.specs.Exports.{headed, lentWords}
 use Rattle.exports.specs.Readers.{walkWords, expandWords}
-use Rattle.exports.specs.Conversion.{convertWords}
 
 pub replied-is : {B : Type 0} {said reply : Reply} {number : ℕ} {written : List ℕ} {left words : B} (answer : List ℕ)
     → said ≡ reply
@@ -36,6 +35,3 @@ module _ {a b a′ b′ : List ℕ} where
 
   pub same-expand : {c c′ : List ℕ} → a ≡ a′ → b ≡ b′ → c ≡ c′ → expandWords a b c ≡ expandWords a′ b′ c′
   same-expand p q r = rw (p, q, r)
-
-  pub same-convert : {c c′ d d′ : List ℕ} → a ≡ a′ → b ≡ b′ → c ≡ c′ → d ≡ d′ → convertWords a b c d ≡ convertWords a′ b′ c′ d′
-  same-convert p q r s = rw (p, q, r, s)

@@ -3,9 +3,9 @@ use mathlib.Core.Bool.{cond}
 use mathlib.Core.List.{List}
 use Prim.Native.Nat.{ℕ}
 use lib.Dec.{ltb}
-use Rattle.arena.specs.Builder.{Step, Lent}
+use Rattle.arena.specs.Builder.{Step, NodesAndFrame}
 use Rattle.convert.specs.Frame.{cliffordStep}
-use Rattle.convert.specs.Conversion.{Input, ConvertStep, convertStep}
+use Rattle.convert.specs.Conversion.{Input, inputOf, ConvertStep, convertStep}
 use Rattle.exports.specs.Types.{FramePushed, FramePushedMade, FramePushedRefused, Converted, ConvertedMade, ConvertedRefused, Cap, NoCap, AtMost}
 use Rattle.exports.specs.Words.{headerIn, Reply, Accepted, Refused, Returned}
 use Rattle.exports.specs.Exports.{Headed, lentWords, exported}
@@ -14,7 +14,7 @@ unfoldable pub framePushedReply : FramePushed → Reply
 framePushedReply (FramePushedMade h) = Accepted h 0 0 0
 framePushedReply (FramePushedRefused e) = Refused e
 
-unfoldable pub cliffordCall : (header nodes frame : List ℕ) → (kind a b : ℕ) → (answer : List ℕ) → Returned (Headed Lent)
+unfoldable pub cliffordCall : (header nodes frame : List ℕ) → (kind a b : ℕ) → (answer : List ℕ) → Returned (Headed NodesAndFrame)
 cliffordCall header nodes frame kind a b answer =
     exported header answer (lentWords nodes frame) framePushedReply
     (cliffordStep (headerIn header) nodes frame kind a b)
@@ -43,17 +43,7 @@ abbrev pub convertLeft : ConvertStep → Step Converted Converting
 convertLeft s = record { answer = s .answer; words = convertWords (s .nodes) (s .operations) (s .frame) (s .planes) }
 
 abbrev pub inputIn : (qubits cbits owner cap : ℕ) → (gates nodes operations frame planes : List ℕ) → Input
-inputIn qubits cbits owner cap gates nodes operations frame planes = record {
-  qubits = qubits;
-  cbits = cbits;
-  owner = owner;
-  cap = capIn cap;
-  gates = gates;
-  nodes = nodes;
-  operations = operations;
-  frame = frame;
-  planes = planes;
-}
+inputIn qubits cbits owner cap gates nodes operations frame planes = inputOf qubits cbits owner (capIn cap) gates nodes operations frame planes
 
 unfoldable pub convertCall : (qubits cbits owner cap : ℕ) → (gates nodes operations frame planes header answer : List ℕ) → Returned (Headed Converting)
 convertCall qubits cbits owner cap gates nodes operations frame planes header answer =

@@ -5,7 +5,7 @@ use lib.IntN.{ℤ}
 use lib.ListN.{length}
 use Rattle.pauli.specs.Letters.{numberProduct}
 use Rattle.arena.specs.Operations.{measId}
-use Rattle.arena.specs.Builder.{Step, Lent, newStep, singleStep, productStep, rotateStep, measureStep, conditionalStep}
+use Rattle.arena.specs.Builder.{Step, NodesAndFrame, newStep, singleStep, productStep, rotateStep, measureStep, conditionalStep}
 use Rattle.exports.specs.Types.{Created, CreatedMade, CreatedRefused, Singled, SingledMade, SingledRefused, Multiplied, MultipliedMade, MultipliedRefused}
 use Rattle.exports.specs.Types.{Pushed, PushedMade, PushedRefused, Measured, MeasuredMade, MeasuredRefused}
 use Rattle.exports.specs.Words.{headerIn, handleIn, handleAxis, letterIn, angleIn, targetIn, tooShort, Reply, Accepted, Refused, headerLeft, Returned, replied}
@@ -42,7 +42,7 @@ pub record Headed (B : Type 0) : Type 0 where
 abbrev pub headed : {B : Type 0} → List ℕ → B → Headed B
 headed header words = record { header = header; words = words }
 
-abbrev pub lentWords : (nodes frame : List ℕ) → Lent
+abbrev pub lentWords : (nodes frame : List ℕ) → NodesAndFrame
 lentWords nodes frame = record { nodes = nodes; frame = frame }
 
 -- what a call's answer and words come to
@@ -51,7 +51,7 @@ exported header answer was reply step =
     replied (tooShort (length header) (length answer)) answer (headed header was) (reply (step .answer))
     (headed (headerLeft (reply (step .answer)) header) (step .words))
 
-unfoldable pub newCall : (qubits cbits owner : ℕ) → (nodes frame header answer : List ℕ) → Returned (Headed Lent)
+unfoldable pub newCall : (qubits cbits owner : ℕ) → (nodes frame header answer : List ℕ) → Returned (Headed NodesAndFrame)
 newCall qubits cbits owner nodes frame header answer =
     exported header answer (lentWords nodes frame) createdReply
     (newStep qubits cbits owner nodes frame)

@@ -2,9 +2,9 @@
 use borrow.Author.Needs.{needs}
 use mathlib.Core.Path.{ap, sym, _∙_}
 use native.Mathlib.Omega.{arith}
-use Rattle.exports.specs.Conversion.{convertedReply, convertCall}
+use Rattle.exports.specs.Conversion.{convertedReply, convertWords, convertCall}
 use Rattle.exports.proofs.CallerWords.{header-enough, answer-enough}
-use Rattle.exports.proofs.Returning.{exported-is, same-convert}
+use Rattle.exports.proofs.Returning.{exported-is}
 use Rattle.exports.proofs.conversion.pbc_convert.Statement.{statement}
 use Rattle.exports.proofs.conversion.pbc_convert.Tie as tie
 
@@ -66,8 +66,8 @@ returns-2 c =
     let back24 = back12 .before .before .before .before .before .before .before .before .before .before .before .before in
     let args = back24 .before .before .before .before .before .before .before .before .args in
     rw (sym (too-short .ensures) ∙ if1 .left, ← cap-of .ensures)
-    (exported-is (args .header .now) (args .answer .now) (converted .ensures ∙ ap convertedReply (to-pbc .ensures .0)) (write-answer .ensures .0)
-    (write-header .ensures) (write-answer .ensures .1) (same-convert (to-pbc .ensures .1 .0) (to-pbc .ensures .1 .1 .0) (to-pbc .ensures .1 .1 .1 .0) (to-pbc .ensures .1 .1 .1 .1)))
+    (exported-is (args .header .now) (args .answer .now) (converted .ensures ∙ ap (λ s. convertedReply (s .answer)) (to-pbc .ensures)) (write-answer .ensures .0)
+    (write-header .ensures) (write-answer .ensures .1) (ap (λ s. convertWords (s .nodes) (s .operations) (s .frame) (s .planes)) (to-pbc .ensures)))
 
 pub pbc-convert-spec : {M : Type 1} → statement M
 pbc-convert-spec =
