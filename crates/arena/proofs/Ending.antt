@@ -12,7 +12,7 @@ use lib.ListN.{length}
 use Rattle.arena.specs.References.{nodeIn}
 use Rattle.arena.specs.Nodes.{PauliNode, Identity, Single, Product, Malformed, nodeAt}
 use Rattle.arena.specs.Sparse.{empty, one, size}
-use Rattle.arena.specs.Walk.{Out, fine, update, State, rootUses, scan, worked, lent, less, finish, giveBack, release, begin, Walked, combine, evalNode, evalUnless, eval, showRoots, walkNodes, Named}
+use Rattle.arena.specs.Walk.{Out, fine, update, State, rootUses, scan, worked, lent, less, finish, giveBack, release, walkBegin, Walked, combine, evalNode, evalUnless, eval, showRoots, walkNodes, Named}
 use Rattle.arena.specs.Code.WalkWords.{sum, edge, edges, owed, kept, none, Inv}
 use Rattle.arena.proofs.Outcomes.{Order, below, same, above, order, update-other, update-keeps, Post, post-bind, post-map, post-fine, post-and, charge-then, lend-then}
 use Rattle.arena.proofs.Fitting.{Fits, node-fits}
@@ -189,8 +189,8 @@ module _ (limit room n count : ℕ) (node : ℕ → PauliNode) (fits : (i : ℕ)
   pub walk-empty : Named count roots → Post (walkNodes limit room node count roots) (λ r. Empty (r .state))
   walk-empty h =
       let c = scan node count (rootUses roots) in
-      charge-then limit (length roots + c .reached) (begin c) _ (λ r. Empty (r .state)) (λ paid.
-      let s = worked (length roots + c .reached) (begin c) in
+      charge-then limit (length roots + c .reached) (walkBegin c) _ (λ r. Empty (r .state)) (λ paid.
+      let s = worked (length roots + c .reached) (walkBegin c) in
       post-map (showRoots limit room node count roots s) _ (λ r. Empty (r .state))
       (post-and (showRoots limit room node count roots s) _ _
       (show-ends limit room n node fits count roots s h (λ i j d k. let z : _≡_ {A = ℕ} 0 1 = cc in absurd (omega arith)))

@@ -12,7 +12,7 @@ use Rattle.arena.specs.References.{nodeIn, phaseIn}
 use Rattle.arena.specs.Nodes.{PauliNode}
 use Rattle.arena.specs.Sparse.{Sparse, turned, size}
 use Rattle.arena.specs.Walk.{Out, fine, refused, bind, State, childUses, oneMore, scanNode, scan, worked, charge, release, Walked, eval, showRoots}
-use Rattle.arena.specs.Machine.{run}
+use Rattle.arena.specs.Code.Machine.{runPath}
 use Rattle.arena.proofs.Fitting.{Fits}
 use Rattle.arena.proofs.Running.{left, run-eval}
 
@@ -82,7 +82,7 @@ root-step limit room node depth vs w ws s = go (eval limit room node depth (node
 -- nothing to do for a root that is done
 abbrev pub rootRun : ℕ → ℕ → ℕ → (ℕ → PauliNode) → Bool → ℕ → State → Out State
 rootRun limit room count node true i s = fine s
-rootRun limit room count node false i s = run limit room node (left count s (i ∷ [])) (i ∷ []) s
+rootRun limit room count node false i s = runPath limit room node (left count s (i ∷ [])) (i ∷ []) s
 
 pub root-run : (limit room n count : ℕ) (node : ℕ → PauliNode) → ((i : ℕ) → Fits n i (node i)) → (i : ℕ) (s : State) → i < count
     → rootRun limit room count node (s .done i) i s ≡ eval limit room node count i s

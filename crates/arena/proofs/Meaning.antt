@@ -11,7 +11,7 @@ use Rattle.pauli.specs.Rows.{weight}
 use Rattle.arena.specs.References.{nodeIn}
 use Rattle.arena.specs.Nodes.{PauliNode, nodeAt, imageIn, rowsTo, values, image}
 use Rattle.arena.specs.Sparse.{Sparse, size, dense}
-use Rattle.arena.specs.Walk.{fine, State, rootUses, scan, worked, less, giveBack, release, begin, eval, showRoots, walkNodes, Answer, walk, Named}
+use Rattle.arena.specs.Walk.{fine, State, rootUses, scan, worked, less, giveBack, release, walkBegin, eval, showRoots, walkNodes, Answer, walk, Named}
 use Rattle.arena.specs.Code.WalkWords.{none, Inv}
 use Rattle.arena.proofs.Outcomes.{suc-of, Post, post-bind, post-map, post-fine, charge-then}
 use Rattle.arena.proofs.Fitting.{Fits, node-fits}
@@ -100,7 +100,7 @@ module _ (limit room n count : ℕ) (node : ℕ → PauliNode) (fits : (i : ℕ)
   -- it holds when the nodes are counted and nothing is done
   pub begin-inv : (amount : ℕ) → 0 + amount ≤ limit
       → let c = scan node count (rootUses roots) in
-      Inv limit room n count node (c .uses) (rootUses roots) none 0 (worked amount (begin c))
+      Inv limit room n count node (c .uses) (rootUses roots) none 0 (worked amount (walkBegin c))
   begin-inv amount h = record {
     right = λ j l d. let z : _≡_ {A = ℕ} 0 1 = cc in absurd (omega arith);
     counts = λ j. omega (arith, scan-uses n node fits count (rootUses roots) j);
@@ -112,8 +112,8 @@ module _ (limit room n count : ℕ) (node : ℕ → PauliNode) (fits : (i : ℕ)
 
   pub walk-post : Named count roots → Post (walkNodes limit room node count roots) (λ r. AllShow n count node roots (r .shown))
   walk-post h = let c = scan node count (rootUses roots) in
-      charge-then limit (length roots + c .reached) (begin c) _ _ (λ paid.
-      post-map (showRoots limit room node count roots (worked (length roots + c .reached) (begin c))) _ (λ r. AllShow n count node roots (r .shown))
+      charge-then limit (length roots + c .reached) (walkBegin c) _ _ (λ paid.
+      post-map (showRoots limit room node count roots (worked (length roots + c .reached) (walkBegin c))) _ (λ r. AllShow n count node roots (r .shown))
       (show-post limit room n count node fits (c .uses) roots _ h (begin-inv _ paid)) (λ r k. k .0))
 
 -- if the walk accepts, what is shown at each root, made dense, is the root's image

@@ -9,7 +9,7 @@ use lib.Seq.{getD-set-same}
 use Rattle.arena.specs.Nodes.{PauliNode, nodeAt}
 use Rattle.arena.specs.Errors.{PbcError}
 use Rattle.arena.specs.Walk.{Out, fine, refused, State, eval}
-use Rattle.arena.specs.Machine.{Spot, step}
+use Rattle.arena.specs.Code.Machine.{Spot, stepTop}
 use Rattle.arena.specs.Pool.{Who}
 use Rattle.arena.specs.Code.Results.{Ledger, Says}
 use Rattle.arena.specs.Code.WalkWords.{valueAt, Marks, none, Inv, Trail, Wanted, Linked, Rep, Stands, Topped, Landed, Started, Rooted}
@@ -125,8 +125,8 @@ module _ {words l₀ p₀ : List ℕ} {count limit i : ℕ} {left₀ : Ledger} (
       some-left = omega (arith, v .enough, subst (λ q. 1 ≤ stepsLeft count (v .s) q) (sym path-at) (omega arith))
 
       module _ {l′ p′ : List ℕ} {y : Out (ℕ × Ledger)}
-          (o : Says (step limit (g .at .room) (nodeAt (g .at .n) words) (top - 1) (tailOf (v .path)) (v .s)) y (Landed count (g .at .room) l′ p′)) where
-        resumed : resume limit (g .at .room) node count (v .path) (v .s) ≡ onward limit (g .at .room) (g .at .n) node (node-fits (g .at .n) words) count (step limit (g .at .room) node (top - 1) (tailOf (v .path)) (v .s))
+          (o : Says (stepTop limit (g .at .room) (nodeAt (g .at .n) words) (top - 1) (tailOf (v .path)) (v .s)) y (Landed count (g .at .room) l′ p′)) where
+        resumed : resume limit (g .at .room) node count (v .path) (v .s) ≡ onward limit (g .at .room) (g .at .n) node (node-fits (g .at .n) words) count (stepTop limit (g .at .room) node (top - 1) (tailOf (v .path)) (v .s))
         resumed = ap (λ q. resume limit (g .at .room) node count q (v .s)) path-at
             ∙ resume-step limit (g .at .room) (g .at .n) node (node-fits (g .at .n) words) count (top - 1) (tailOf (v .path)) (v .s) (topped .trail .1)
 

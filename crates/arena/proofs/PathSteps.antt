@@ -11,7 +11,7 @@ use Rattle.arena.specs.References.{nodeIn}
 use Rattle.arena.specs.Nodes.{PauliNode, Identity, Single, Product, nodeAt}
 use Rattle.arena.specs.Sparse.{empty, one}
 use Rattle.arena.specs.Walk.{Out, fine, refused, bind, State, lend, combine, finish}
-use Rattle.arena.specs.Machine.{Spot, spot, stepProduct, stepNode, stepUnless, step}
+use Rattle.arena.specs.Code.Machine.{Spot, spot, stepProduct, stepNode, stepUnless, stepTop}
 use Rattle.arena.specs.Pool.{Who}
 use Rattle.arena.specs.Code.Results.{Ledger, Evaluated, EvaluatedDone, EvaluatedRefused, evaluatedOut, steppedOut, upFrom, Agrees, Says}
 use Rattle.arena.specs.Code.WalkWords.{scratchAt, valueAt, valueWord, Marks, LinksKept, Linked, Trail, Rep, Stands, Combining, Making, factorMade, Topped, Branched, Landed}
@@ -68,7 +68,7 @@ module _ {words l p : List ℕ} {limit i : ℕ} {left : Ledger} (g : Topped word
   node = nodeAt (g .at .n) words
 
   abbrev pub doing : Out Spot
-  doing = step limit (g .at .room) node i (g .path) (g .at .s)
+  doing = stepTop limit (g .at .room) node i (g .path) (g .at .s)
 
   pub low : i < g .count
   low = g .trail .1

@@ -18,7 +18,7 @@ use Rattle.arena.specs.Types.{Phase, One}
 use Rattle.arena.specs.Sparse.{Factor, Sparse, factor, merge, withFactor, turned, together}
 use Rattle.arena.proofs.PoolLetters.{of-number, number-power, power-one, power-times, together-none, together-some, third-some}
 use Rattle.arena.specs.Pool.{loose, spare, held, Who, nextAt, qubitAt, letterAt, Lendable, Holds, Chain, Free}
-use Rattle.arena.specs.PoolSteps.{Operands, Multiplied}
+use Rattle.arena.specs.PoolSteps.{Operands, Merged}
 use Rattle.arena.proofs.PoolLaws.{Step, put, upd, upd-same, upd-other, no-mix, one-tag, counted-step, chain-step, free-step, Made, onto}
 use Rattle.arena.proofs.PoolParts.{Job, Parts, swap, of-loose, append, push, detach, close, chain-lower, chain-own, free-own, retag, retag-same, retag-other, retag-spare, made-put, made-own, last-held, last-room, LastHeld, free-low, chain-low, last-low, last-fits}
 use Rattle.arena.specs.Code.Turns.{attached, headOf, Meeting, keptTurn, third, turnBy, metTurn, metPool, mergeTurn, mergePool, Turn}
@@ -343,7 +343,7 @@ module _ {j : Job} {p : List ℕ} {who : Who} {lo a : ℕ} {fa : List Factor} {l
 module _ {p₀ : List ℕ} {free₀ a₀ na b₀ nb : ℕ} (g : Operands p₀ free₀ a₀ na b₀ nb) {p : List ℕ} {free a b tail made left phase : ℕ} where
   of-first : (fa fb : List Factor) → Before g p free a b tail made left phase fa fb
       → b ≡ 0
-      → Multiplied g (attached p tail a) (headOf (attached p tail a) tail a) (made + left) phase free
+      → Merged g (attached p tail a) (headOf (attached p tail a) tail a) (made + left) phase free
   of-first fa [] s z =
       let w = s .parts in
       let who : Who = s .who in
@@ -365,7 +365,7 @@ module _ {p₀ : List ℕ} {free₀ a₀ na b₀ nb : ℕ} (g : Operands p₀ fr
 
   of-second : (fa fb : List Factor) → Before g p free a b tail made left phase fa fb
       → a ≡ 0
-      → Multiplied g (attached p tail b) (headOf (attached p tail b) tail b) (made + left) phase free
+      → Merged g (attached p tail b) (headOf (attached p tail b) tail b) (made + left) phase free
   of-second [] fb s z =
       let w = s .parts in
       let who : Who = s .who in
@@ -384,10 +384,10 @@ module _ {p₀ : List ℕ} {free₀ a₀ na b₀ nb : ℕ} (g : Operands p₀ fr
       }
   of-second (f ∷ fa) fb s z = absurd (let x : 0 < a = s .parts .chain-a .0 .counted .pos in omega arith)
 
-  pub rest-a : Merging g p free a b tail made left phase → b ≡ 0 → Multiplied g (attached p tail a) (headOf (attached p tail a) tail a) (made + left) phase free
+  pub rest-a : Merging g p free a b tail made left phase → b ≡ 0 → Merged g (attached p tail a) (headOf (attached p tail a) tail a) (made + left) phase free
   rest-a s = of-first (s .fa) (s .fb) (s .at)
 
-  pub rest-b : Merging g p free a b tail made left phase → a ≡ 0 → Multiplied g (attached p tail b) (headOf (attached p tail b) tail b) (made + left) phase free
+  pub rest-b : Merging g p free a b tail made left phase → a ≡ 0 → Merged g (attached p tail b) (headOf (attached p tail b) tail b) (made + left) phase free
   rest-b s = of-second (s .fa) (s .fb) (s .at)
 
 -- ---- what the code needs to be safe, as plain facts on numbers
@@ -541,10 +541,10 @@ module _ {p₀ : List ℕ} {free₀ a₀ na b₀ nb : ℕ} (g : Operands p₀ fr
   low-rest (inl w) = omega (arith, low-b g s, w .1)
   low-rest (inr w) = omega (arith, low-a g s, w .1)
 
-  pub finish : {p′ : List ℕ} {head : ℕ} → Rest a b rest → p′ ≡ attached p tail rest → head ≡ headOf p′ tail rest → Multiplied g p′ head (made + left) phase free
+  pub finish : {p′ : List ℕ} {head : ℕ} → Rest a b rest → p′ ≡ attached p tail rest → head ≡ headOf p′ tail rest → Merged g p′ head (made + left) phase free
   finish (inl w) p-is h-is = rw (h-is, p-is, w .1) (rest-b g s (w .0))
   finish (inr w) p-is h-is = rw (h-is, p-is, w .1) (rest-a g s (w .0))
 
 pub multiplied-low : {p : List ℕ} {free a na b nb : ℕ} {g : Operands p free a na b nb} {p′ : List ℕ} {head count phase free′ : ℕ}
-    → Multiplied g p′ head count phase free′ → head < 65536
+    → Merged g p′ head count phase free′ → head < 65536
 multiplied-low {g = g} {p′} {head} m = chain-low p′ (m .who′) (g .tr) 0 head (merge (g .fa) (g .fb) .factors) (m .chain)

@@ -12,7 +12,7 @@ use Rattle.arena.specs.Errors.{PbcError, ExpansionLimit}
 use Rattle.arena.specs.References.{nodeIn, phaseIn}
 use Rattle.arena.specs.Nodes.{PauliNode, nodeAt}
 use Rattle.arena.specs.Sparse.{Sparse, turned, size}
-use Rattle.arena.specs.Walk.{Out, fine, refused, bind, update, State, Walked, rootUses, worked, charge, less, giveBack, release, eval, showRoots, begin, walkNodes}
+use Rattle.arena.specs.Walk.{Out, fine, refused, bind, update, State, Walked, rootUses, worked, charge, less, giveBack, release, eval, showRoots, walkBegin, walkNodes}
 use Rattle.arena.specs.Pool.{spare, Chain, Free}
 use Rattle.arena.specs.PoolSteps.{AllFree, Holding, GivenBack}
 use Rattle.arena.specs.Code.Results.{Ledger, Value, Says}
@@ -67,12 +67,12 @@ module _ {words l : List ℕ} {count roots : ℕ} (g : Rootable words l count ro
 
   module _ {l′ : List ℕ} {reached : ℕ} (cu : CountedUp counting l′ reached) (mk : ValuesKept l l′) (len : length l′ ≡ length l) (limit : ℕ) where
     pub begin-dear : {B : Type 0} {S : State → B → Type 0} → limit < roots + reached → Says (startOf limit (nodeAt (g .n) words) count (g .ws)) (refused ExpansionLimit) S
-    begin-dear h = says-refused (charge-dear limit (length (g .ws) + tallyOf node count (g .ws) .reached) (begin (tallyOf node count (g .ws))) (omega (arith, cu .reached-is, g .many)))
+    begin-dear h = says-refused (charge-dear limit (length (g .ws) + tallyOf node count (g .ws) .reached) (walkBegin (tallyOf node count (g .ws))) (omega (arith, cu .reached-is, g .many)))
 
     pub begun : {p p′ : List ℕ} {free have : ℕ} → AllFree p p′ free → have ≡ capOf (length p) - 1 → roots + reached ≤ limit
         → Says (startOf limit (nodeAt (g .n) words) count (g .ws)) (fine (record { free = free; spare = have; work = roots + reached })) (Begun g limit (capOf (length p) - 1) l′ p′)
     begun {p} {p′} {free} {have} af have-is h =
-        says-fine (charge-paid limit (length (g .ws) + tallyOf node count (g .ws) .reached) (begin (tallyOf node count (g .ws))) (omega (arith, cu .reached-is, g .many))) (record {
+        says-fine (charge-paid limit (length (g .ws) + tallyOf node count (g .ws) .reached) (walkBegin (tallyOf node count (g .ws))) (omega (arith, cu .reached-is, g .many))) (record {
           who = spare;
           rep = record {
             scratch = record { long = omega (arith, g .long, len); uses-are = cu .uses; marks-are = λ j lj. mk .same j ∙ g .blank j };

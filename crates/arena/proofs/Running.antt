@@ -6,12 +6,12 @@ use Prim.Native.Nat.{ℕ, zero, suc, _+_, _*_, _≤_, _<_}
 use native.Mathlib.Nat.{mul-le-mul-right}
 use native.Mathlib.Omega.{arith}
 use Rattle.arena.specs.References.{nodeIn}
-use Rattle.arena.specs.Nodes.{PauliNode, Identity, Single, Product, Malformed}
+use Rattle.arena.specs.Nodes.{PauliNode, Identity, Single, Product, Malformed, nodeAt}
 use Rattle.arena.specs.Walk.{fine, bind, update, State, combine, eval}
-use Rattle.arena.specs.Machine.{Spot, spot, stepProduct, stepNode, stepUnless, step, run}
+use Rattle.arena.specs.Code.Machine.{Spot, spot, stepProduct, stepNode, stepUnless, stepTop, runPath}
 use Rattle.arena.specs.Code.WalkWords.{Trail, Wanted, sum, edge, edges, none, Inv}
 use Rattle.arena.proofs.Outcomes.{update-same, update-other, Post, post-bind, bind-fine, bind-cong, lend-then}
-use Rattle.arena.proofs.Fitting.{Fits}
+use Rattle.arena.proofs.Fitting.{Fits, node-fits}
 use Rattle.arena.proofs.Sums.{sum-change}
 use Rattle.arena.proofs.Uses.{edge-same}
 use Rattle.arena.proofs.Invariant.{owes}
@@ -85,7 +85,7 @@ module _ (limit room n count : ℕ) (node : ℕ → PauliNode) (fits : (i : ℕ)
   pushed i j lo p s r h d = record { trail = (omega arith, omega (arith, r .1), d, (h, r .1, r .2, r .3)); fewer = omega arith }
 
   pub step-trail : (i lo : ℕ) (p : List ℕ) (s : State) → Trail count s lo (i ∷ p)
-      → Post (step limit room node i p s) (Stepped count (left count s (i ∷ p)))
+      → Post (stepTop limit room node i p s) (Stepped count (left count s (i ∷ p)))
   step-trail i lo p s r = unless (s .done i) refl
     where
       Q : Spot → Type 0
@@ -110,18 +110,18 @@ module _ (limit room n count : ℕ) (node : ℕ → PauliNode) (fits : (i : ℕ)
 
   -- enough steps give what resuming gives
   pub run-is : (k : ℕ) (p : List ℕ) (s : State) → Trail count s 0 p → left count s p ≤ k
-      → run limit room node k p s ≡ resume limit room node count p s
+      → runPath limit room node k p s ≡ resume limit room node count p s
   run-is zero [] s r h = refl
   run-is zero (i ∷ p) s r h = absurd (omega arith)
   run-is (suc k) [] s r h = refl
   run-is (suc k) (i ∷ p) s r h =
-      bind-cong (step limit room node i p s) _ _ (Stepped count (left count s (i ∷ p))) (step-trail i 0 p s r)
+      bind-cong (stepTop limit room node i p s) _ _ (Stepped count (left count s (i ∷ p))) (step-trail i 0 p s r)
       (λ q g. run-is k (q .path) (q .state) (g .trail) (omega (arith, g .fewer)))
       ∙ sym (resume-step limit room n node fits count i p s (r .1))
 
   -- a root that is not done, alone on the path
   pub run-eval : (i : ℕ) (s : State) → i < count → s .done i ≡ false
-      → run limit room node (left count s (i ∷ [])) (i ∷ []) s ≡ eval limit room node count i s
+      → runPath limit room node (left count s (i ∷ [])) (i ∷ []) s ≡ eval limit room node count i s
   run-eval i s h d = run-is (left count s (i ∷ [])) (i ∷ []) s (omega arith, h, d, tt) (omega arith) ∙ bind-fine (eval limit room node count i s)
 
 pub undone-few : (count : ℕ) (s : State) → undone count s ≤ count
@@ -134,20 +134,25 @@ undone-few (suc count) s = go (s .done count) (undone-few count s)
 
 -- as many steps as always serve
 pub run-enough : (limit room n count : ℕ) (node : ℕ → PauliNode) → ((i : ℕ) → Fits n i (node i)) → (k i : ℕ) (s : State) → i < count → suc count * suc count ≤ k
-    → run limit room node k (i ∷ []) s ≡ eval limit room node count i s
+    → runPath limit room node k (i ∷ []) s ≡ eval limit room node count i s
 run-enough limit room n count node fits k i s h enough = go (s .done i) refl k enough
   where
-    go : (b : Bool) → s .done i ≡ b → (k : ℕ) → suc count * suc count ≤ k → run limit room node k (i ∷ []) s ≡ eval limit room node count i s
+    go : (b : Bool) → s .done i ≡ b → (k : ℕ) → suc count * suc count ≤ k → runPath limit room node k (i ∷ []) s ≡ eval limit room node count i s
     go true d zero e = absurd (omega arith)
-    go true d (suc k) e = ap (λ b. bind (stepUnless limit room b (node i) i [] s) (λ q. run limit room node k (q .path) (q .state))) d
+    go true d (suc k) e = ap (λ b. bind (stepUnless limit room b (node i) i [] s) (λ q. runPath limit room node k (q .path) (q .state))) d
         ∙ stops k ∙ sym (eval-done limit room node count i s d)
       where
-        stops : (k : ℕ) → run limit room node k [] s ≡ fine s
+        stops : (k : ℕ) → runPath limit room node k [] s ≡ fine s
         stops zero = refl
         stops (suc k) = refl
     go false d k e =
         let few : undone count s * suc count ≤ count * suc count = mul-le-mul-right (suc count) (undone-few count s) in
         run-is limit room n count node fits k (i ∷ []) s (omega arith, h, d, tt) (omega arith) ∙ bind-fine (eval limit room node count i s)
+
+-- the machine does what the recursion does, within (count + 1)² steps
+pub machine-evaluates : (limit room n count : ℕ) (words : List ℕ) (k i : ℕ) (s : State) → i < count → suc count * suc count ≤ k
+    → runPath limit room (nodeAt n words) k (i ∷ []) s ≡ eval limit room (nodeAt n words) count i s
+machine-evaluates limit room n count words = run-enough limit room n count (nodeAt n words) (node-fits n words)
 
 -- ---- the invariant, step by step
 
@@ -163,7 +168,7 @@ module _ (limit room n count : ℕ) (node : ℕ → PauliNode) (fits : (i : ℕ)
 
   -- a step keeps the walk's invariant, also where it computes: the values that it takes stand
   pub step-inv : (i lo : ℕ) (p : List ℕ) (s : State) → Trail count s lo (i ∷ p) → Wanted s (i ∷ p)
-      → Inv limit room n count node total rest none 0 s → Post (step limit room node i p s) Sound
+      → Inv limit room n count node total rest none 0 s → Post (stepTop limit room node i p s) Sound
   step-inv i lo p s r w inv = unless (s .done i) refl
     where
       computed : (t : State) → Good limit room n count node fits total rest i s t → Sound (spot p t)

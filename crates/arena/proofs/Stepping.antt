@@ -10,7 +10,7 @@ use Rattle.arena.specs.References.{nodeIn, phaseIn}
 use Rattle.arena.specs.Nodes.{PauliNode, Identity, Single, Product, Malformed}
 use Rattle.arena.specs.Sparse.{Sparse, one, turned, size}
 use Rattle.arena.specs.Walk.{Out, fine, refused, bind, update, State, worked, lend, less, finish, takeAs, takeUse, combine, evalNode, evalUnless, eval}
-use Rattle.arena.specs.Machine.{Spot, spot, stepProduct, stepNode, stepUnless, step}
+use Rattle.arena.specs.Code.Machine.{Spot, spot, stepProduct, stepNode, stepUnless, stepTop}
 use Rattle.arena.proofs.Outcomes.{update-same, update-other, update-keeps, Post, post-bind, post-map, bind-assoc, bind-cong, charge-then, lend-then}
 use Rattle.arena.proofs.Fitting.{Fits}
 
@@ -116,7 +116,7 @@ module _ (limit room n : ℕ) (node : ℕ → PauliNode) (fits : (i : ℕ) → F
   onward depth x = bind x (λ q. resume limit room node depth (q .path) (q .state))
 
   pub resume-step : (depth i : ℕ) (p : List ℕ) (s : State) → i < depth
-      → resume limit room node depth (i ∷ p) s ≡ onward depth (step limit room node i p s)
+      → resume limit room node depth (i ∷ p) s ≡ onward depth (stepTop limit room node i p s)
   resume-step zero i p s h = absurd (not-suc-le-zero h)
   resume-step (suc f) i p s h = unless (s .done i) refl
     where

@@ -2,7 +2,7 @@
 use mathlib.Core.Path.{_≡_}
 use mathlib.Core.Bool.{true, cond}
 use mathlib.Core.List.{List, [], _∷_, map}
-use Prim.Native.Nat.{ℕ, suc, _+_, _-_, _*_, _≤_, _<_}
+use Prim.Native.Nat.{ℕ, _+_, _-_, _*_, _≤_, _<_}
 use lib.ListN.{length, take}
 use Rattle.pauli.specs.Letters.{real}
 use Rattle.pauli.specs.Rows.{_★_, scaled, single, present, weight}
@@ -14,19 +14,16 @@ use Rattle.arena.specs.Nodes.{nodeAt, image}
 use Rattle.arena.specs.Store.{Header}
 use Rattle.arena.specs.Builder.{CreatedMade, SingledMade, MultipliedMade, newStep, singleStep, productStep}
 use Rattle.arena.specs.Sparse.{size, dense}
-use Rattle.arena.specs.Walk.{Named, fine, refused, State, Walked, charge, eval, walkNodes, Answer, walk}
-use Rattle.arena.specs.Machine.{run}
+use Rattle.arena.specs.Walk.{Named, fine, refused, State, Walked, charge, walkNodes, Answer, walk}
 use Rattle.arena.specs.Readers.{Expanded, expandWalk, hermitianWalk, Weighed, largest, wordsOf, reportWalk}
-use Rattle.arena.specs.Stats.{Within, Refused, workAfter, answerOf}
+use Rattle.arena.specs.Stats.{Within, Refused, workAfter, chargeAnswer}
 use Rattle.arena.specs.Calls.{Call, Slices, checked, after, KeptSlices}
 use Rattle.arena.specs.Pool.{Lendable}
 use Rattle.arena.specs.PoolRuns.{Held, World, factorsHeld, Without, Run, lentIn, backIn, Once, InChain, InFree}
 use Rattle.arena.proofs.Reading
 use Rattle.arena.proofs.Answers
 use Rattle.arena.proofs.Spans
-use Rattle.arena.proofs.Fitting
 use Rattle.arena.proofs.Meaning
-use Rattle.arena.proofs.Running
 use Rattle.arena.proofs.Ending
 use Rattle.arena.proofs.Reports
 use Rattle.arena.proofs.Charging
@@ -131,11 +128,6 @@ pub walk-held : (limit room n count : ℕ) (words roots : List ℕ) (r : Walked)
     → r .state .held ≡ 0
 walk-held limit room n count words roots r h e = Ending.accepted-empty limit room n count words roots r h e .no-record
 
--- the machine does what the recursion does, within (count + 1)² steps
-pub machine-evaluates : (limit room n count : ℕ) (words : List ℕ) (k i : ℕ) (s : State) → i < count → suc count * suc count ≤ k
-    → run limit room (nodeAt n words) k (i ∷ []) s ≡ eval limit room (nodeAt n words) count i s
-machine-evaluates limit room n count words = Running.run-enough limit room n count (nodeAt n words) (Fitting.node-fits n words)
-
 -- ---- what is read from a walk
 
 -- an accepted expansion is the image
@@ -158,15 +150,15 @@ report-means = Reports.report-means
 -- ---- a charge is the walk's charge
 
 -- answered Within, it is fine, with the work that the charge leaves
-pub charge-within : (limit amount : ℕ) (s : State) → answerOf (s .work) limit amount ≡ Within
+pub charge-within : (limit amount : ℕ) (s : State) → chargeAnswer (s .work) limit amount ≡ Within
     → (t : State) × ((charge limit amount s ≡ fine t) × (t .work ≡ workAfter (s .work) limit amount))
 charge-within = Charging.within-fine
 
 -- fine, it is answered Within
 pub charge-fine : (limit amount : ℕ) (s t : State) → charge limit amount s ≡ fine t
-    → (answerOf (s .work) limit amount ≡ Within) × (t .work ≡ workAfter (s .work) limit amount)
+    → (chargeAnswer (s .work) limit amount ≡ Within) × (t .work ≡ workAfter (s .work) limit amount)
 charge-fine = Charging.fine-within
 
 -- a refusal is the same refusal
-pub charge-refused : (limit amount : ℕ) (s : State) (e : PbcError) → answerOf (s .work) limit amount ≡ Refused e → charge limit amount s ≡ refused e
+pub charge-refused : (limit amount : ℕ) (s : State) (e : PbcError) → chargeAnswer (s .work) limit amount ≡ Refused e → charge limit amount s ≡ refused e
 charge-refused = Charging.refused-alike

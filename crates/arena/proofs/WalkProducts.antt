@@ -15,7 +15,7 @@ use Rattle.arena.specs.Nodes.{PauliNode, nodeAt}
 use Rattle.arena.specs.Sparse.{Sparse, factor, size, multiply, merge, one}
 use Rattle.arena.specs.Walk.{Out, fine, refused, bind, State, Taken, takeUse, combine}
 use Rattle.arena.specs.Pool.{Chain, Free}
-use Rattle.arena.specs.PoolSteps.{Operands, Multiplied, Lender, Lent}
+use Rattle.arena.specs.PoolSteps.{Operands, Merged, Lender, Lent}
 use Rattle.arena.specs.Code.Results.{Ledger, Value, Says}
 use Rattle.arena.specs.Code.WalkWords.{edge, edges, none, valueWord, Stands, Takeable, TookRep, Multiplying, multiplied, Walking, Combining, Making, factorMade, Ordered}
 use Rattle.arena.proofs.Outcomes.{post-fine}
@@ -206,7 +206,7 @@ module _ {l p : List ℕ} {limit i : ℕ} {a b : Value} {left : Ledger} (g : Mul
     few = omega (arith, sum-few);
   }
 
-  module _ {p′ : List ℕ} {head many turn free : ℕ} (m : Multiplied operands p′ head many turn free) where
+  module _ {p′ : List ℕ} {head many turn free : ℕ} (m : Merged operands p′ head many turn free) where
     pub head-low : head < 65536
     head-low = chain-low p′ (m .who′) (i + 2) 0 head (merge (g .x .factors) (g .y .factors) .factors) (m .chain)
 

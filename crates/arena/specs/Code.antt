@@ -1,5 +1,6 @@
 -- What the functions that are not public ask of each other, and what their words stand for while they run. No public promise and no theorem cites it.
 pub mod Turns
+pub mod Machine
 pub mod Results
 pub mod WalkWords
 pub mod Roots

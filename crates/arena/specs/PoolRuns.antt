@@ -6,7 +6,7 @@ use Prim.Native.Nat.{ℕ, zero, suc, _+_, _-_, _<_}
 use lib.ListN.{length}
 use Rattle.arena.specs.Sparse.{Factor, merge}
 use Rattle.arena.specs.Pool.{nextAt}
-use Rattle.arena.specs.PoolSteps.{Lender, Lent, Source, Copied, Holding, GivenBack, Operands, Multiplied, AllFree}
+use Rattle.arena.specs.PoolSteps.{Lender, Lent, Source, Copied, Holding, GivenBack, Operands, Merged, AllFree}
 use Rattle.arena.specs.Limits.{capOf}
 
 -- a chain that somebody holds: its tag, its first record, its factors
@@ -81,7 +81,7 @@ pub record Multiplies (w w′ : World) : Type 0 where
   pub left-stands : Without left (w .chains) some
   pub right-stands : Without right some others
   pub few : length (left .factors) + length (right .factors) < 65536
-  pub met : (g : Operands (w .pool) (w .free) (left .head) (length (left .factors)) (right .head) (length (right .factors))) → Multiplied g (w′ .pool) head count phase (w′ .free)
+  pub met : (g : Operands (w .pool) (w .free) (left .head) (length (left .factors)) (right .head) (length (right .factors))) → Merged g (w′ .pool) head count phase (w′ .free)
   pub spares-are : w′ .spares + count ≡ w .spares + (length (left .factors) + length (right .factors))
   pub chains-are : w′ .chains ≡ heldAs tag head (merge (left .factors) (right .factors) .factors) ∷ others
 

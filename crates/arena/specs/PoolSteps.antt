@@ -92,7 +92,7 @@ pub record Operands (p : List ℕ) (free a na b nb : ℕ) : Type 0 where
   pub few : na + nb < 65536
 
 -- the product stands for the chain tr, every chain of another tag stands as it did, and what cancelled is free again
-pub record Multiplied {p : List ℕ} {free a na b nb : ℕ} (g : Operands p free a na b nb) (p′ : List ℕ) (head count phase free′ : ℕ) : Type 0 where
+pub record Merged {p : List ℕ} {free a na b nb : ℕ} (g : Operands p free a na b nb) (p′ : List ℕ) (head count phase free′ : ℕ) : Type 0 where
   pub who′ : Who
   pub n′ : ℕ
   pub chain : Chain p′ who′ (g .tr) 0 head (merge (g .fa) (g .fb) .factors)

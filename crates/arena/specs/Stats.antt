@@ -9,8 +9,8 @@ pub use Rattle.arena.specs.declared.stats.Charged.the-variants.{the-data
 unfoldable pub workAfter : (work limit amount : ℕ) → ℕ
 workAfter work limit amount = cond (leb (work + amount) limit) (work + amount) work
 
-unfoldable pub answerOf : (work limit amount : ℕ) → Charged
-answerOf work limit amount = cond (leb (work + amount) limit) Within (Refused ExpansionLimit)
+unfoldable pub chargeAnswer : (work limit amount : ℕ) → Charged
+chargeAnswer work limit amount = cond (leb (work + amount) limit) Within (Refused ExpansionLimit)
 
 -- the limit stays
 abbrev pub statsAfter : ExpansionStats → ℕ → ExpansionStats

@@ -103,8 +103,8 @@ abbrev pub release : ℕ → State → State
 release j s = cond (eqb (s .uses j) 1) (giveBack (size (s .value j)) (less j s)) (less j s)
 
 -- nothing is done yet
-abbrev pub begin : Counted → State
-begin c = record { uses = c .uses; done = λ j. false; value = λ j. empty; work = 0; held = 0 }
+abbrev pub walkBegin : Counted → State
+walkBegin c = record { uses = c .uses; done = λ j. false; value = λ j. empty; work = 0; held = 0 }
 
 -- a value in hand
 pub record Taken : Type 0 where
@@ -161,7 +161,7 @@ module _ (limit room : ℕ) where
 
   -- all roots, then all reachable nodes are charged before anything is evaluated
   abbrev pub walkFrom : (ℕ → PauliNode) → ℕ → List ℕ → Counted → Out Walked
-  walkFrom node count roots c = bind (charge limit (length roots + c .reached) (begin c)) (λ s. showRoots node count roots s)
+  walkFrom node count roots c = bind (charge limit (length roots + c .reached) (walkBegin c)) (λ s. showRoots node count roots s)
 
   abbrev pub walkNodes : (ℕ → PauliNode) → ℕ → List ℕ → Out Walked
   walkNodes node count roots = walkFrom node count roots (scan node count (rootUses roots))

@@ -22,7 +22,7 @@ ghost use lib.ListN.{length};
 ghost use Rattle.pauli.specs.Letters.{pauliOf};
 ghost use Rattle.arena.specs.Nodes.{nodeAt};
 ghost use Rattle.arena.specs.Walk.{takeUse, combine, eval};
-ghost use Rattle.arena.specs.Machine.{step};
+ghost use Rattle.arena.specs.Code.Machine.{stepTop};
 ghost use Rattle.arena.specs.Code.Results.{Says, tookOut, evaluatedOut, steppedOut, upFrom};
 ghost use Rattle.arena.specs.Code.WalkWords.{scratchAt, LinksKept, Stands, Takeable, TookRep};
 ghost use Rattle.arena.specs.Code.WalkWords.{Combining, Multiplying, multiplied, Making, factorMade, Topped, Branched, Started, Landed, Rooted};
@@ -207,7 +207,7 @@ fn product_step(
 ) -> Stepped
     requires { ⌜ Branched (now s) (now pool) limit i l r left ⌝ }
     ensures { λ o. ⌜ ((g : Branched (now (s .entry)) (now (pool .entry)) limit i l r left)
-        → Says (step limit (g .top .at .room) (nodeAt (g .top .at .n) (g .words)) i (g .top .path) (g .top .at .s)) (steppedOut o)
+        → Says (stepTop limit (g .top .at .room) (nodeAt (g .top .at .n) (g .words)) i (g .top .path) (g .top .at .s)) (steppedOut o)
         (Landed (g .top .count) (g .top .at .room) (now (s .exit)) (now (pool .exit)))) ⌝ }
 {
     let ml = value_of(s, l / 4);
@@ -235,7 +235,7 @@ fn step_at(
 ) -> Stepped
     requires { ⌜ Topped (now nodes) (now s) (now pool) limit i left ⌝ }
     ensures { λ o. ⌜ ((g : Topped (now (nodes .entry)) (now (s .entry)) (now (pool .entry)) limit i left)
-        → Says (step limit (g .at .room) (nodeAt (g .at .n) (now (nodes .entry))) i (g .path) (g .at .s)) (steppedOut o)
+        → Says (stepTop limit (g .at .room) (nodeAt (g .at .n) (now (nodes .entry))) i (g .path) (g .at .s)) (steppedOut o)
         (Landed (g .count) (g .at .room) (now (s .exit)) (now (pool .exit)))) ⌝ }
 {
     let a = first_word(nodes, i);

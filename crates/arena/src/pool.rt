@@ -8,7 +8,7 @@ ghost use lib.ListN.{length, set};
 ghost use Rattle.pauli.specs.Letters.{pauliOf};
 ghost use Rattle.arena.specs.Sparse.{factor};
 ghost use Rattle.arena.specs.Pool.{nextAt, qubitAt, letterAt};
-ghost use Rattle.arena.specs.PoolSteps.{Operands, Multiplied, Lender, Lent, Source, Copied, Holding, GivenBack, AllFree};
+ghost use Rattle.arena.specs.PoolSteps.{Operands, Merged, Lender, Lent, Source, Copied, Holding, GivenBack, AllFree};
 ghost use Rattle.arena.specs.Code.Turns.{attached, headOf, Meeting, keptTurn, metTurn, metPool, mergeTurn, mergePool};
 ghost use Rattle.arena.specs.Limits.{capOf};
 ghost use Rattle.arena.specs.Expansion.{cleared};
@@ -304,7 +304,7 @@ pub(crate) fn multiply(
     nb: usize,
 ) -> Outcome
     requires { ⌜ Operands (now pool) free0 a0 na b0 nb ⌝ }
-    ensures { λ r. ⌜ ((g : Operands (now (pool .entry)) free0 a0 na b0 nb) → Multiplied g (now (pool .exit)) (r .value .head) (r .value .count) (r .value .phase) (r .free)) ⌝ }
+    ensures { λ r. ⌜ ((g : Operands (now (pool .entry)) free0 a0 na b0 nb) → Merged g (now (pool .exit)) (r .value .head) (r .value .count) (r .value .phase) (r .free)) ⌝ }
 {
     let mut free = free0;
     let mut a = a0;

@@ -4,7 +4,7 @@ use crate::error::PbcError;
 ghost use mathlib.Core.Path.{_≡_};
 ghost use Prim.Native.Nat.{_+_};
 ghost use lib.Dec.{leb};
-ghost use Rattle.arena.specs.Stats.{workAfter, answerOf, statsAfter};
+ghost use Rattle.arena.specs.Stats.{workAfter, chargeAnswer, statsAfter};
 
 /// The work so far, and the most that it may come to.
 pub struct ExpansionStats {
@@ -42,7 +42,7 @@ fn work_after(work: u64, limit: u64, amount: u64) -> u64
 
 // What the charge answers.
 fn answer_of(work: u64, limit: u64, amount: u64) -> Charged
-    ensures { λ r. ⌜ r ≡ answerOf work limit amount ⌝ }
+    ensures { λ r. ⌜ r ≡ chargeAnswer work limit amount ⌝ }
 {
     if within(work, limit, amount) {
         return Charged::Within;
@@ -52,7 +52,7 @@ fn answer_of(work: u64, limit: u64, amount: u64) -> Charged
 
 /// Adds the amount to the work; above the limit it refuses and leaves the record as it is. Promise: `answerOf`, `statsAfter`.
 pub fn charge(stats: &mut ExpansionStats, amount: u64) -> Charged
-    ensures { λ r. ⌜ (r ≡ answerOf (now (stats .entry) .work) (now (stats .entry) .limit) amount) × (now (stats .exit) ≡ statsAfter (now (stats .entry)) amount) ⌝ }
+    ensures { λ r. ⌜ (r ≡ chargeAnswer (now (stats .entry) .work) (now (stats .entry) .limit) amount) × (now (stats .exit) ≡ statsAfter (now (stats .entry)) amount) ⌝ }
 {
     let work = stats.work;
     let limit = stats.limit;

@@ -20,10 +20,10 @@ use Rattle.arena.proofs.Overlay.{length-qubitNodes}
 use Rattle.arena.proofs.Accepted.{passed-before, test-passed, left-false, right-false}
 use Rattle.convert.specs.Types.{PbcError, Header, TooManyQubits, BrokenGateList, CapTooSmall, NoPlanes, NoFrame, NoNodes, NoOperations, Checked, Fine, Wrong}
 use Rattle.convert.specs.Records.{GateKind, KindH, KindX, KindZ, KindS, KindSdg, KindT, KindTdg, KindCnot, KindCz, KindCcx, KindCcz, KindMeasure, KindY, KindSx, KindSwap, KindCy, Unsupported, Cap, NoCap, AtMost, Elementary, Placed, placedFrom, bare, records, kindOf, lowerAs, lowerAll, AllProper}
-use Rattle.convert.specs.Plain.{begin, plainRun, tableRun}
+use Rattle.convert.specs.Plain.{plainBegin, plainRun, tableRun}
 use Rattle.convert.specs.Frame.{startArena}
 use Rattle.convert.specs.Words.{flat, startWords}
-use Rattle.convert.specs.Needs.{Needs}
+use Rattle.convert.specs.Code.Needs.{Needs}
 use Rattle.convert.specs.Planes.{partWords, packed}
 use Rattle.convert.specs.Conversion.{Input, recordsChecked, capTooSmall, planesTooFew, maxGateWords, limits, gatesCheck, convertCheck, gatesIn, plainEnd, tableEnd, wordEnd, planesAs, planesAfter, convertWithin, convertStep, convertOf, ConvertedMade, ConvertedRefused, inputOf, gatesChecked, roomChecked}
 use Rattle.convert.specs.Code.Raw.{isCapped, planesFor, Fits, Room, plainLast, wordsLast, needsLast, needsOf}
@@ -151,7 +151,7 @@ gates-fit n cbits cap gs m e₁₂ =
 pub counts-are : (n : ℕ) (cap : Cap) (gs : List ℕ) → (needsLast n cap gs .nodes ≡ wordsLast n cap gs .arena .count) × (needsLast n cap gs .operations ≡ length (wordsLast n cap gs .ops))
 unfolding startWords startArena
 counts-are n cap gs =
-    let e = needed n cap (lowerAll (records gs)) (begin n) (startWords n) in
+    let e = needed n cap (lowerAll (records gs)) (plainBegin n) (startWords n) in
     (ap (λ (k : Needs). k .nodes) e, ap (λ (k : Needs). k .operations) e)
 
 -- new words over new words over old ones
@@ -171,10 +171,10 @@ module _ (q c o : ℕ) (cap : Cap) (gs ns os fs ps : List ℕ) where
   gates-check = refl
 
   planes-as : planesFor cap q (plainLast q cap gs .table) ps ≡ planesAs cap x
-  unfolding tableEnd gatesIn begin
-  planes-as = go cap (table-run flush q cap (lowerAll (records gs)) (begin q))
+  unfolding tableEnd gatesIn plainBegin
+  planes-as = go cap (table-run flush q cap (lowerAll (records gs)) (plainBegin q))
     where
-      go : (k : Cap) → plainRun flush q cap (lowerAll (records gs)) (begin q) .table ≡ tableRun q cap (bare (lowerAll (records gs))) (start q)
+      go : (k : Cap) → plainRun flush q cap (lowerAll (records gs)) (plainBegin q) .table ≡ tableRun q cap (bare (lowerAll (records gs))) (start q)
           → planesFor k q (plainLast q cap gs .table) ps ≡ planesAs k x
       go NoCap e = refl
       go (AtMost most) e = ap (λ (t : List Row). overlay (packed q t) ps) e
@@ -235,7 +235,7 @@ room-from q cap gs ns os fs k m e ek em =
     (record { nodes = omega (arith, a, ek); nodes-lent = omega (arith, b, ek); operations = omega (arith, d, em); operations-lent = omega (arith, g, em) }, ltb-false _ _ (test-passed _ _ _ e₁₃))
 
 pub start-least : (n : ℕ) (cap : Cap) (gs : List ℕ) → 1 + 2 * n ≤ needsLast n cap gs .nodes
-start-least n cap gs = need-grows n cap (lowerAll (records gs)) (begin n) (needsOf (1 + 2 * n) 0) .0
+start-least n cap gs = need-grows n cap (lowerAll (records gs)) (plainBegin n) (needsOf (1 + 2 * n) 0) .0
 
 -- ---- the fresh circuit that is written over
 

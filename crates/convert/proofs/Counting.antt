@@ -2,16 +2,17 @@
 use mathlib.Core.Path.{_≡_, refl, ap, _∙_}
 use mathlib.Core.Bool.{Bool, true, false, cond}
 use mathlib.Core.List.{List, [], _∷_}
-use Prim.Native.Nat.{ℕ, _+_}
+use Prim.Native.Nat.{ℕ, _+_, _*_}
 use native.Mathlib.Omega.{arith}
 use lib.ListN.{length, length-append}
 use Rattle.pauli.specs.Gates.{Gate, gateH, gateX, gateZ, gateS, gateSdg, gateCnot, gateCz}
 use Rattle.pauli.specs.Rotations.{flush}
 use Rattle.convert.specs.Records.{Cap, Elementary, clifford, elT, elTdg, elCcx, elCcz, elMeasure, Placed, bare}
-use Rattle.convert.specs.Plain.{Plain, exceeds, plainStep}
-use Rattle.convert.specs.Frame.{pushed, multiplied, frameStep, total}
-use Rattle.convert.specs.Words.{Words, flushGate, flushGates, flushWords, writeSeven, write, wordStep, wordRun}
-use Rattle.convert.specs.Needs.{elementNodes, elementOps, writtenNodes, writtenOps, Needs, needStep, needRun}
+use Rattle.convert.specs.Plain.{Plain, plainBegin, exceeds, plainStep}
+use Rattle.convert.specs.Frame.{startArena, pushed, multiplied, frameStep, total}
+use Rattle.convert.specs.Words.{Words, startWords, flushGate, flushGates, flushWords, writeSeven, write, wordStep, wordRun}
+use Rattle.convert.specs.Conversion.{Input, gatesIn, wordEnd}
+use Rattle.convert.specs.Code.Needs.{elementNodes, elementOps, writtenNodes, writtenOps, Needs, needStep, needRun}
 
 -- w is k past v
 record Past (v w : Words) (nodes ops : ℕ) : Type 0 where
@@ -82,3 +83,10 @@ pub needed : (n : ℕ) (cap : Cap) (es : List (Placed Elementary)) (p : Plain) (
 unfolding needRun wordRun
 needed n cap [] p w = refl
 needed n cap (e ∷ es) p w = ap (needRun n cap es (plainStep flush n cap e p)) (need-step n cap e p w) ∙ needed n cap es (plainStep flush n cap e p) (wordStep n cap e p w)
+
+-- the counting pass counts what the writing pass writes
+pub needs-counted : (x : Input)
+    → needRun (x .qubits) (x .cap) (gatesIn x) (plainBegin (x .qubits)) (record { nodes = 1 + 2 * x .qubits; operations = 0 })
+    ≡ record { nodes = wordEnd x .arena .count; operations = length (wordEnd x .ops) }
+unfolding wordEnd startWords startArena
+needs-counted x = needed (x .qubits) (x .cap) (gatesIn x) (plainBegin (x .qubits)) (startWords (x .qubits))

@@ -10,7 +10,7 @@ use Rattle.arena.specs.Limits.{operationWords}
 use Rattle.arena.specs.Operations.{rotateWords}
 use Rattle.convert.specs.Records.{kindOf}
 use Rattle.convert.specs.Words.{idX, idZ}
-use Rattle.convert.specs.Needs.{writtenNodes, writtenOps}
+use Rattle.convert.specs.Code.Needs.{writtenNodes, writtenOps}
 use Rattle.convert.specs.Code.Raw.{Writing, writing, putOp, putNode, putJoint, putFlush, putFlushes, FlushReady, Flushed, FlushedIf, recordGates, gatesOver}
 use mathlib.Core.Bool.{Bool, true, false}
 use Rattle.arena.specs.Builder.{overlay, startFrame}

@@ -16,7 +16,7 @@ use Rattle.arena.proofs.Overlay.{sets₂, overlay-sets}
 use Rattle.convert.specs.Types.{Phase, One, PlusI, MinusOne, MinusI}
 use Rattle.convert.specs.Frame.{Arena, pushed, word, multiplied, frameStep, frameRun, gateNodes, total}
 use Rattle.convert.specs.Words.{Words, flat, idX, idZ, flushGate, flushGates}
-use Rattle.convert.specs.Needs.{writtenNodes, writtenOps}
+use Rattle.convert.specs.Code.Needs.{writtenNodes, writtenOps}
 use Rattle.convert.specs.Code.Raw.{arena, putMultiplied, putStep, putRun, Writing, writing, putOp, putNode, putJoint, putFlush, putFlushes}
 
 -- a store among the used words

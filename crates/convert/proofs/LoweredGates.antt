@@ -11,7 +11,6 @@ use Rattle.pauli.proofs.Local.{in-row, then₁, then₂, onSecond, act₁-then,
 use Rattle.pauli.proofs.Conj.{conj-direct, hom-conj}
 use Rattle.convert.specs.Types.{Pauli}
 use Rattle.convert.specs.Records.{KindY, KindSx, KindSwap, KindCy, lowerAs}
-use Rattle.convert.specs.Needs.{cliffords}
 use Rattle.convert.specs.Lowering.{ruleY, ruleSx, ruleSwap, ruleCy, loweredActs}
 
 module _ (n q : ℕ) (P : Row) (hq : q < n) (w : Width n P) where
@@ -19,14 +18,14 @@ module _ (n q : ℕ) (P : Row) (hq : q < n) (w : Width n P) where
   in-q = in-row P w hq
 
   pub y-acts : (b : ℕ) → loweredActs KindY q b P ≡ act₁ ruleY q P
-  unfolding lowerAs cliffords forward
+  unfolding lowerAs forward
   y-acts b =
       conj-direct n (gateX q) (conj (gateZ q) P) hq (hom-conj n (gateZ q) hq .width P w)
       ∙ ap (act₁ ruleX q) (conj-direct n (gateZ q) P hq w)
       ∙ act₁-then ruleZ ruleX q P in-q ∙ act₁-alike (then₁ ruleZ ruleX) ruleY tt q P
 
   pub sx-acts : (b : ℕ) → loweredActs KindSx q b P ≡ act₁ ruleSx q P
-  unfolding lowerAs cliffords forward conj
+  unfolding lowerAs forward conj
   sx-acts b =
       ap (act₁ ruleH q) (act₁-then ruleH ruleS q P in-q)
       ∙ act₁-then (then₁ ruleH ruleS) ruleH q P in-q ∙ act₁-alike (then₁ (then₁ ruleH ruleS) ruleH) ruleSx tt q P
@@ -55,14 +54,14 @@ module _ (n c t : ℕ) (P : Row) (hc : c < n) (ht : t < n) (ne : c ≢ t) (w : W
   in-t = in-row P w ht
 
   pub swap-acts : loweredActs KindSwap c t P ≡ act₂ ruleSwap c t P
-  unfolding lowerAs cliffords forward conj
+  unfolding lowerAs forward conj
   swap-acts =
       ap (act₂ ruleCnot c t) (act₂-turned ruleCnot c t (act₂ ruleCnot c t P) ne ∙ act₂-then ruleCnot (turned ruleCnot) c t P in-c in-t ne)
       ∙ act₂-then (then₂ ruleCnot (turned ruleCnot)) ruleCnot c t P in-c in-t ne
       ∙ act₂-alike (then₂ (then₂ ruleCnot (turned ruleCnot)) ruleCnot) ruleSwap tt c t P
 
   pub cy-acts : loweredActs KindCy c t P ≡ act₂ ruleCy c t P
-  unfolding lowerAs cliffords forward
+  unfolding lowerAs forward
   cy-acts =
       ap (λ Q. conj (gateS t) (conj (gateCnot c t) Q)) (conj-direct n (gateSdg t) P ht w ∙ act₁-second ruleSdg c t P)
       ∙ cy-rules c t P in-c in-t ne

@@ -16,7 +16,7 @@ use Rattle.arena.specs.Nodes.{image}
 use Rattle.arena.specs.Operations.{measureWords, decodeOp}
 use Rattle.convert.specs.Types.{One, X, Z, Bit, PbcOp, Rotate, Measure, ConditionalRotate, Malformed}
 use Rattle.convert.specs.Records.{Cap, Elementary, clifford, elT, elTdg, elCcx, elCcz, elMeasure, Placed, placed, bare, Proper, AllProper}
-use Rattle.convert.specs.Plain.{Operation, rotateBy, measureOf, conditionalBy, Plain, begin, rotateSeven, asRotation, exceeds, flushed, performAs, perform, plainStep, plainRun}
+use Rattle.convert.specs.Plain.{Operation, rotateBy, measureOf, conditionalBy, Plain, plainBegin, rotateSeven, asRotation, exceeds, flushed, performAs, perform, plainStep, plainRun}
 use Rattle.convert.specs.Frame.{Arena, word, pushed}
 use Rattle.convert.specs.Words.{idX, idZ, Words, decoded, meaning, addOps, writeJoint, flushGate, flushGates, restarted, flushWords, writeSeven, write, wordStep, wordRun, startWords}
 use Rattle.convert.proofs.FrameRows.{Keeps, keeps-trans, Shows, shown, word-under, keeps-pushed, shows-pushed, new-image, shows-step, keeps-step}
@@ -268,8 +268,8 @@ valid-append n (g ∷ gs) hs vs v = (vs .0, valid-append n gs hs (vs .1) v)
 pub bare-snoc : {A : Type 0} (gs : List (Placed A)) (i j : ℕ) (g : A) → bare (gs ++ placed i j g ∷ []) ≡ bare gs ++ g ∷ []
 bare-snoc gs i j g = map-append _ gs (placed i j g ∷ [])
 
-meant-begin : (n o c : ℕ) → Meant n o c (begin n) (startWords n)
-unfolding begin startWords table run
+meant-begin : (n o c : ℕ) → Meant n o c (plainBegin n) (startWords n)
+unfolding plainBegin startWords table run
 meant-begin n o c = record {
   core = record { shows = shows-begin n; leaves = leaves-start n; written = record { below = tt; reads = refl } };
   valid = tt;
@@ -355,5 +355,5 @@ meant-run n o c cap [] p w v M = M
 meant-run n o c cap (e ∷ es) p w v M = meant-run n o c cap es (plainStep flush n cap e p) (wordStep n cap e p w) (v .1) (meant-step n o c cap e p w (v .0) M)
 
 pub meant : (n o c : ℕ) (cap : Cap) (es : List (Placed Elementary)) → AllProper n c (bare es)
-    → Meant n o c (plainRun flush n cap es (begin n)) (wordRun n cap es (begin n) (startWords n))
-meant n o c cap es v = meant-run n o c cap es (begin n) (startWords n) v (meant-begin n o c)
+    → Meant n o c (plainRun flush n cap es (plainBegin n)) (wordRun n cap es (plainBegin n) (startWords n))
+meant n o c cap es v = meant-run n o c cap es (plainBegin n) (startWords n) v (meant-begin n o c)

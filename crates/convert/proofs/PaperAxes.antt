@@ -13,8 +13,8 @@ use Rattle.pauli.proofs.Short.{width-single}
 use Rattle.pauli.proofs.Table.{table-rows, table-snoc}
 use Rattle.convert.specs.Types.{Pauli, X, Z, Bit}
 use Rattle.convert.specs.Records.{Cap, NoCap, AtMost, Elementary, clifford, elT, elTdg, elCcx, elCcz, elMeasure, Placed, bare, Proper, AllProper}
-use Rattle.convert.specs.Plain.{Plain, begin, rowsAfter, tableRun, anyAbove, seven, asRotation, tested, exceeds, flushed, performAs, perform, plainStep, plainRun}
-use Rattle.convert.specs.Paper.{Paper, products, axes, tooHeavy, sevenAngles, rotateAll, measureFirst, writes, paperPerform, paperFlushed, paperStep, paperRun, paperBegin}
+use Rattle.convert.specs.Plain.{Plain, plainBegin, rowsAfter, tableRun, anyAbove, seven, asRotation, tested, exceeds, flushed, performAs, perform, plainStep, plainRun}
+use Rattle.convert.specs.Paper.{Paper, gateProducts, axes, tooHeavy, sevenAngles, rotateAll, measureFirst, writes, paperPerform, paperFlushed, paperStep, paperRun, paperBegin}
 use Rattle.convert.proofs.Meaning.{valid-append, bare-snoc}
 
 -- the seven products go through U† P U
@@ -51,7 +51,7 @@ through-seven n gs v a b d l A B D ea eb ed =
 
 -- what the table tests are the papers' axes
 tested-axes : (n : ℕ) (gs : List Gate) → AllValid n gs → (c : ℕ) (e : Elementary) → Proper n c e → tested n (table n gs) e ≡ axes n gs e
-unfolding tested axes products
+unfolding tested axes gateProducts
 tested-axes n gs v c (clifford g) h = refl
 tested-axes n gs v c (elT q) h = ap (λ P. P ∷ []) (table-rows n gs v .atZ q h)
 tested-axes n gs v c (elTdg q) h = ap (λ P. P ∷ []) (table-rows n gs v .atZ q h)
@@ -146,9 +146,9 @@ agrees-run f n c cap (e ∷ es) p r h A = agrees-run f n c cap es (plainStep f n
 
 -- the plain conversion's operations, axes and angles are those of the papers
 pub agrees : (f : ℕ → List Gate → List Rotation) (n c : ℕ) (cap : Cap) (es : List (Placed Elementary)) → AllProper n c (bare es)
-    → Agrees n (plainRun f n cap es (begin n)) (paperRun f n cap (bare es) paperBegin)
-unfolding begin table run
-agrees f n c cap es h = agrees-run f n c cap es (begin n) paperBegin h (record { valid = tt; table-of = refl; pending = refl; operations = refl; given = refl })
+    → Agrees n (plainRun f n cap es (plainBegin n)) (paperRun f n cap (bare es) paperBegin)
+unfolding plainBegin table run
+agrees f n c cap es h = agrees-run f n c cap es (plainBegin n) paperBegin h (record { valid = tt; table-of = refl; pending = refl; operations = refl; given = refl })
 
 -- ---- the plain conversion's table is the plain table
 

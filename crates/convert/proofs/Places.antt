@@ -10,9 +10,10 @@ use lib.Seq.{drop-at, append-snoc}
 use Rattle.pauli.specs.Rows.{Row}
 use Rattle.pauli.specs.Gates.{Gate}
 use Rattle.pauli.specs.Rotations.{flush}
-use Rattle.convert.specs.Records.{GateKind, KindH, KindX, KindZ, KindS, KindSdg, KindT, KindTdg, KindCnot, KindCz, KindCcx, KindCcz, KindMeasure, KindY, KindSx, KindSwap, KindCy, Unsupported, Cap, NoCap, AtMost, Record, kindOf, Elementary, clifford, elT, elTdg, elCcx, elCcz, elMeasure, lowerAs, lower, Placed, placedFrom, lowerFrom, lowerAll}
-use Rattle.convert.specs.Plain.{Plain, begin, tested, exceeds, flushed, performAs, perform, plainStep, plainRun}
-use Rattle.convert.specs.Needs.{Place, placeOf, placeStep, placeRun, gatesFrom, cliffordAs, cliffords}
+use Rattle.convert.specs.Records.{GateKind, KindH, KindX, KindZ, KindS, KindSdg, KindT, KindTdg, KindCnot, KindCz, KindCcx, KindCcz, KindMeasure, KindY, KindSx, KindSwap, KindCy, Unsupported, Cap, NoCap, AtMost, Record, records, kindOf, Elementary, clifford, elT, elTdg, elCcx, elCcz, elMeasure, lowerAs, lower, Placed, placedFrom, lowerFrom, lowerAll}
+use Rattle.convert.specs.Plain.{Plain, plainBegin, tested, exceeds, flushed, performAs, perform, plainStep, plainRun}
+use Rattle.convert.specs.Conversion.{Input, gatesIn, plainEnd}
+use Rattle.convert.specs.Code.Needs.{Place, placeOf, placeStep, placeRun, gatesFrom, cliffordAs, cliffords}
 
 -- ---- each gate stands at its place
 
@@ -100,9 +101,9 @@ abbrev pub firstPlace : Place
 firstPlace = record { index = 0; part = 0 }
 
 pub pending-since : (n : ℕ) (cap : Cap) (rs : List Record)
-    → plainRun flush n cap (lowerAll rs) (begin n) .pending ≡ cliffords (gatesFrom (placeRun n cap (lowerAll rs) (begin n) firstPlace) rs)
-unfolding begin lowerAll gatesFrom cliffords
-pending-since n cap rs = place-run n cap rs (lowerFrom 0 rs) [] firstPlace (begin n) (located-from rs [] rs 0 refl refl) refl refl
+    → plainRun flush n cap (lowerAll rs) (plainBegin n) .pending ≡ cliffords (gatesFrom (placeRun n cap (lowerAll rs) (plainBegin n) firstPlace) rs)
+unfolding plainBegin lowerAll gatesFrom cliffords
+pending-since n cap rs = place-run n cap rs (lowerFrom 0 rs) [] firstPlace (plainBegin n) (located-from rs [] rs 0 refl refl) refl refl
 
 -- ---- a flush comes only before a gate that is the first of its record
 
@@ -161,3 +162,15 @@ whole-run n cap (e ∷ es) p at W h = whole-run n cap es (plainStep flush n cap 
 pub place-whole : (n : ℕ) (cap : Cap) (rs : List Record) (p : Plain) → placeRun n cap (lowerAll rs) p firstPlace .part ≡ 0
 unfolding lowerAll
 place-whole n cap rs p = whole-run n cap (lowerFrom 0 rs) p firstPlace (whole-from 0 rs) refl
+
+-- ---- of a conversion
+
+-- the pending gates are the frame gates from the place of the last flush on, which is a whole record
+pub pending-from-place : (x : Input)
+    → plainEnd x .pending ≡ cliffords (gatesFrom (placeRun (x .qubits) (x .cap) (gatesIn x) (plainBegin (x .qubits)) firstPlace) (records (x .gates)))
+unfolding plainEnd gatesIn
+pending-from-place x = pending-since (x .qubits) (x .cap) (records (x .gates))
+
+pub place-is-whole : (x : Input) → placeRun (x .qubits) (x .cap) (gatesIn x) (plainBegin (x .qubits)) firstPlace .part ≡ 0
+unfolding gatesIn
+place-is-whole x = place-whole (x .qubits) (x .cap) (records (x .gates)) (plainBegin (x .qubits))

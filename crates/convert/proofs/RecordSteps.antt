@@ -12,7 +12,7 @@ use Rattle.convert.specs.Records.{GateKind, KindH, KindX, KindZ, KindS, 
 use Rattle.convert.specs.Plain.{Plain, exceeds, tested, flushed, performAs, plainStep, plainRun}
 use Rattle.convert.specs.Frame.{gateNodes, total, frameRun}
 use Rattle.convert.specs.Words.{Words, flushWords, write, wordStep, wordRun}
-use Rattle.convert.specs.Needs.{Needs, writtenNodes, writtenOps, elementNodes, elementOps, needStep, needRun}
+use Rattle.convert.specs.Code.Needs.{Needs, writtenNodes, writtenOps, elementNodes, elementOps, needStep, needRun}
 use Rattle.convert.specs.Code.Raw.{recordGates, testsOf, anyExceeds, needed, costOf, costs, countFor, needsOf, measuresOf}
 use Rattle.convert.specs.declared.count.Needed.{Needed}
 

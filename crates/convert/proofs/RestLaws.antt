@@ -11,8 +11,8 @@ use Rattle.pauli.specs.Gates.{Gate}
 use Rattle.pauli.specs.Table.{start, step, run}
 use Rattle.pauli.specs.Rotations.{flush}
 use Rattle.convert.specs.Records.{GateKind, KindH, KindX, KindZ, KindS, KindSdg, KindT, KindTdg, KindCnot, KindCz, KindCcx, KindCcz, KindMeasure, KindY, KindSx, KindSwap, KindCy, Unsupported, Cap, Elementary, Placed, placedFrom, Record, records, kindOf, lower, lowerAs, lowerFrom, lowerAll}
-use Rattle.convert.specs.Plain.{Plain, begin, plainRun}
-use Rattle.convert.specs.Needs.{Needs, needRun}
+use Rattle.convert.specs.Plain.{Plain, plainBegin, plainRun}
+use Rattle.convert.specs.Code.Needs.{Needs, needRun}
 use Rattle.convert.specs.Code.RawPlanes.{Wide}
 use Rattle.convert.specs.Code.Raw.{planesFor, Decided, costOf, costs, needed, countFor, needsOf}
 use Rattle.convert.specs.declared.count.Needed.{Needed}
@@ -93,16 +93,16 @@ pub record CountAt (n : ℕ) (cap : Cap) (gs ps₀ ps : List ℕ) (k : Needed) (
   pub done : Needs
   pub wide : Wide n (plain .table)
   pub same : k ≡ countFor plain done
-  pub ends : plainRun flush n cap (restOf gs i) plain ≡ plainRun flush n cap (lowerAll (records gs)) (begin n)
-  pub totals : needRun n cap (restOf gs i) plain done ≡ needRun n cap (lowerAll (records gs)) (begin n) (needsOf (1 + 2 * n) 0)
+  pub ends : plainRun flush n cap (restOf gs i) plain ≡ plainRun flush n cap (lowerAll (records gs)) (plainBegin n)
+  pub totals : needRun n cap (restOf gs i) plain done ≡ needRun n cap (lowerAll (records gs)) (plainBegin n) (needsOf (1 + 2 * n) 0)
   pub planes : ps ≡ planesFor cap n (plain .table) ps₀
   pub few : (k .nodes + k .joints ≤ 513 + 16 * i) × (k .operations + k .rotations ≤ 16 * i)
 
 pub count-start : (n : ℕ) (cap : Cap) (gs ps₀ ps : List ℕ) (k : Needed) → n ≤ 256 → k ≡ needed (1 + 2 * n) 0 0 0 → ps ≡ planesFor cap n (start n) ps₀
     → CountAt n cap gs ps₀ ps k 0
-unfolding begin lowerAll
+unfolding plainBegin lowerAll
 count-start n cap gs ps₀ ps k h e at = record {
-  plain = begin n;
+  plain = plainBegin n;
   done = needsOf (1 + 2 * n) 0;
   wide = wide-start n;
   same = e;
@@ -164,11 +164,11 @@ count-more n cap gs ps₀ ps k i kind a b d f ps′ c r at h dec ec er ek ea eb 
     }
 
 pub count-end : (n : ℕ) (cap : Cap) (gs ps₀ ps : List ℕ) (k : Needed) (i : ℕ) → CountAt n cap gs ps₀ ps k i → length gs / 4 ≤ i
-    → (k ≡ countFor (plainRun flush n cap (lowerAll (records gs)) (begin n)) (needRun n cap (lowerAll (records gs)) (begin n) (needsOf (1 + 2 * n) 0)))
-    × (ps ≡ planesFor cap n (plainRun flush n cap (lowerAll (records gs)) (begin n) .table) ps₀)
+    → (k ≡ countFor (plainRun flush n cap (lowerAll (records gs)) (plainBegin n)) (needRun n cap (lowerAll (records gs)) (plainBegin n) (needsOf (1 + 2 * n) 0)))
+    × (ps ≡ planesFor cap n (plainRun flush n cap (lowerAll (records gs)) (plainBegin n) .table) ps₀)
 unfolding plainRun needRun
 count-end n cap gs ps₀ ps k i at h =
     let e = rest-end gs i h in
-    let p : at .plain ≡ plainRun flush n cap (lowerAll (records gs)) (begin n) = rw e at (at .ends) in
-    let m : at .done ≡ needRun n cap (lowerAll (records gs)) (begin n) (needsOf (1 + 2 * n) 0) = rw e at (at .totals) in
+    let p : at .plain ≡ plainRun flush n cap (lowerAll (records gs)) (plainBegin n) = rw e at (at .ends) in
+    let m : at .done ≡ needRun n cap (lowerAll (records gs)) (plainBegin n) (needsOf (1 + 2 * n) 0) = rw e at (at .totals) in
     (at .same ∙ rw (p, m), at .planes ∙ rw p)

@@ -18,7 +18,7 @@ use Rattle.pauli.proofs.Short.{width-single, pair, pair-of}
 use Rattle.convert.specs.Types.{Pauli, I, X, Z, One, Target, Bit}
 use Rattle.convert.specs.Records.{Cap, Elementary, clifford, elT, elTdg, elCcx, elCcz, elMeasure, Proper, AllProper}
 use Rattle.convert.specs.Plain.{Operation, seven, asRotation}
-use Rattle.convert.specs.Paper.{Paper, products, axes, tooHeavy, sevenAngles, rotateAll, measureFirst, writes, paperPerform, paperFlushed, paperStep, paperRun, paperBegin, AllHermitian}
+use Rattle.convert.specs.Paper.{Paper, gateProducts, axes, tooHeavy, sevenAngles, rotateAll, measureFirst, writes, paperPerform, paperFlushed, paperStep, paperRun, paperBegin, AllHermitian}
 use Rattle.convert.proofs.Meaning.{map-append, valid-append}
 
 phases-blank : (n : ℕ) (u : List Pauli) → phases u (replicate n I) ≡ One
@@ -76,7 +76,7 @@ one-real : (n : ℕ) (gs : List Gate) → AllValid n gs → (q : ℕ) → AllRea
 one-real n gs v q = (back-real n gs (single n q Z) v (width-single n q Z), tt)
 
 axes-real : (n : ℕ) (gs : List Gate) → AllValid n gs → (c : ℕ) (e : Elementary) → Proper n c e → AllReal (axes n gs e)
-unfolding axes products
+unfolding axes gateProducts
 axes-real n gs v c (clifford g) h = tt
 axes-real n gs v c (elT q) h = one-real n gs v q
 axes-real n gs v c (elTdg q) h = one-real n gs v q

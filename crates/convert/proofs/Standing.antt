@@ -15,7 +15,7 @@ use Rattle.convert.specs.Records.{GateKind, KindH, KindX, KindZ, KindS, 
 use Rattle.arena.specs.Limits.{maxCbits}
 use Rattle.convert.specs.Frame.{Arena, word, pushed, frameRun, gateNodes, total}
 use Rattle.convert.specs.Words.{Words, flat, flushGates, flushWords, fourPushed, sevenOps, writeSeven, write}
-use Rattle.convert.specs.Needs.{writtenNodes, writtenOps}
+use Rattle.convert.specs.Code.Needs.{writtenNodes, writtenOps}
 use Rattle.convert.specs.Code.Raw.{arena, putRun, Ran, Writing, writing, putNode, Flushed, putFlushes, FlushedIf, putRows, putFour, putSeven, putRecord, recordGates, costOf, loneNodes}
 use Rattle.convert.proofs.RecordSteps.{framed, writeRecord}
 use Rattle.convert.proofs.Laid.{laid, Even, even-run, put-run, lying, Square, putAll, Fours, put-all, square-all, noded, put-node, square-node, flushes-lying}

@@ -14,8 +14,8 @@ use Rattle.arena.specs.Errors.{_⟫_⇒_}
 use Rattle.arena.proofs.Accepted.{passed-before, test-passed, left-false, right-false}
 use Rattle.convert.specs.Types.{PbcError, NoFrame, NoNodes, NoOperations, Checked, Fine, Wrong}
 use Rattle.convert.specs.Records.{Cap, NoCap, AtMost, placedFrom, Record, records, kindOf, lower, lowerAs, lowerFrom, lowerAll}
-use Rattle.convert.specs.Plain.{Plain, begin, plainRun}
-use Rattle.convert.specs.Needs.{Needs, needRun}
+use Rattle.convert.specs.Plain.{Plain, plainBegin, plainRun}
+use Rattle.convert.specs.Code.Needs.{Needs, needRun}
 use Rattle.convert.specs.Conversion.{roomChecked, limits}
 use Rattle.convert.specs.Code.Raw.{anyExceeds, isCapped, costOf, costs, summed, needed, countFor, needsOf, planesFor, plainLast, needsLast, NeedsChecked}
 use Rattle.convert.specs.declared.count.Needed.{Needed}
@@ -64,15 +64,15 @@ abbrev pub most : ℕ → Cap → List ℕ → Needed
 most n cap gs = costs (isCapped cap) (summed (needed (1 + 2 * n) 0 0 0) (records gs)) (needed 0 0 0 0)
 
 uncapped-needs : (n : ℕ) (gs : List ℕ) → (needsLast n NoCap gs .nodes ≡ most n NoCap gs .nodes) × (needsLast n NoCap gs .operations ≡ most n NoCap gs .operations)
-unfolding lowerAll begin
+unfolding lowerAll plainBegin
 uncapped-needs n gs =
-    let e = same-run n 0 (records gs) (begin n) (needsOf (1 + 2 * n) 0) in
+    let e = same-run n 0 (records gs) (plainBegin n) (needsOf (1 + 2 * n) 0) in
     (omega (arith, ap (λ (c : Needed). c .nodes) e), omega (arith, ap (λ (c : Needed). c .operations) e))
 
 capped-needs : (n m : ℕ) (gs : List ℕ) → (needsLast n (AtMost m) gs .nodes ≤ most n (AtMost m) gs .nodes) × (needsLast n (AtMost m) gs .operations ≤ most n (AtMost m) gs .operations)
-unfolding lowerAll begin
+unfolding lowerAll plainBegin
 capped-needs n m gs =
-    let e = even-run n (AtMost m) 0 (records gs) (begin n) (needsOf (1 + 2 * n) 0) (needed (1 + 2 * n) 0 0 0) (record { nodes = refl; operations = refl }) in
+    let e = even-run n (AtMost m) 0 (records gs) (plainBegin n) (needsOf (1 + 2 * n) 0) (needed (1 + 2 * n) 0 0 0) (record { nodes = refl; operations = refl }) in
     (omega (arith, e .nodes), omega (arith, e .operations))
 
 -- ---- the loop over the records

@@ -23,11 +23,10 @@ use Rattle.arena.proofs.Reading.{image-older}
 use Rattle.arena.proofs.Accepted.{left-false, right-false}
 use Rattle.convert.specs.Types.{PbcError, Fine, Wrong}
 use Rattle.convert.specs.Records.{KindY, KindSx, KindSwap, KindCy, Cap, records, lowerAll, kindOf, Elementary, Placed, bare, AllProper}
-use Rattle.convert.specs.Plain.{begin, plainRun}
+use Rattle.convert.specs.Plain.{plainBegin, plainRun}
 use Rattle.convert.specs.Paper.{AllHermitian}
 use Rattle.convert.specs.Frame.{Arena, frameGates, namesUnused, cliffordCheck, opened, startArena}
 use Rattle.convert.specs.Words.{Words, decoded, meaning, opsFrom, operationsIn, wordRun, startWords}
-use Rattle.convert.specs.Needs.{needRun, placeRun, gatesFrom, cliffords}
 use Rattle.convert.specs.Conversion.{limits, Input, gatesIn, plainEnd, tableEnd, paperEnd, wordEnd, convertCheck, convertedHeader, ConvertedMade, ConvertedRefused, convertWithin, convertStep}
 use Rattle.convert.specs.Later.{Circuit, converted, LaterCall, callFrame, later, laters}
 use Rattle.convert.specs.Statement.{Capped, Frame, Means, frameImages, Converts, endTable, endGates, Demand3}
@@ -38,8 +37,6 @@ use Rattle.convert.proofs.FrameRows.{Under, Keeps, kept-map, Shows, sho
 use Rattle.convert.proofs.Meaning.{Meant, meant, reads-kept}
 use Rattle.convert.proofs.PaperAxes.{Agrees, agrees, table-run}
 use Rattle.convert.proofs.Signs.{hermitian}
-use Rattle.convert.proofs.Counting.{needed}
-use Rattle.convert.proofs.Places.{firstPlace, pending-since, place-whole}
 use Rattle.convert.proofs.Accepting.{accepted, FitsGate, fits-gate}
 use Rattle.convert.proofs.CapKept.{capped}
 use Rattle.convert.proofs.LaterCalls.{framed, shows-framed, later-framed, Good, good-laters, made-step, meant-input, good-converted}
@@ -58,22 +55,22 @@ map-map f g (a ∷ l) = ap (λ r. f (g a) ∷ r) (map-map f g l)
 
 -- at every point of a conversion, es being the elementary gates so far
 pub means : (n owner cbits : ℕ) (cap : Cap) (es : List (Placed Elementary)) → AllProper n cbits (bare es)
-    → Means n owner cbits (plainRun flush n cap es (begin n)) (wordRun n cap es (begin n) (startWords n))
+    → Means n owner cbits (plainRun flush n cap es (plainBegin n)) (wordRun n cap es (plainBegin n) (startWords n))
 means n owner cbits cap es v = record {
   places = λ j hj. shown n _ _ (M .core .shows) j hj;
   operations = map-map (meaning n (w .arena .count) (w .arena .nodes)) (decoded owner cbits) (w .ops) ∙ M .core .written .reads;
-  frame = subst (λ t. Frame n (bare (plainRun flush n cap es (begin n) .pending)) t) (sym (M .table-of)) (frame-table n _ (M .valid));
+  frame = subst (λ t. Frame n (bare (plainRun flush n cap es (plainBegin n) .pending)) t) (sym (M .table-of)) (frame-table n _ (M .valid));
 }
   where
     w : Words
-    w = wordRun n cap es (begin n) (startWords n)
+    w = wordRun n cap es (plainBegin n) (startWords n)
 
-    M : Meant n owner cbits (plainRun flush n cap es (begin n)) w
+    M : Meant n owner cbits (plainRun flush n cap es (plainBegin n)) w
     M = meant n owner cbits cap es v
 
 -- the rotations that a flush would write act by conjugation as the pending gates do
 pub flush-acts : (n cbits : ℕ) (cap : Cap) (es : List (Placed Elementary)) → AllProper n cbits (bare es) → (Q : Row) → Width n Q
-    → rotations (flush n (bare (plainRun flush n cap es (begin n) .pending))) Q ≡ forward (bare (plainRun flush n cap es (begin n) .pending)) Q
+    → rotations (flush n (bare (plainRun flush n cap es (plainBegin n) .pending))) Q ≡ forward (bare (plainRun flush n cap es (plainBegin n) .pending)) Q
 flush-acts n cbits cap es v Q w = flush-as-gates n _ Q (meant n 0 cbits cap es v .valid) w
 
 -- ---- an accepted conversion
@@ -149,7 +146,7 @@ frame-gate s k a b e =
 
 four-words : (x : Input) → AllFour (wordEnd x .ops)
 unfolding wordEnd startWords
-four-words x = four-run (x .qubits) (x .cap) (gatesIn x) (begin (x .qubits)) (startWords (x .qubits)) tt
+four-words x = four-run (x .qubits) (x .cap) (gatesIn x) (plainBegin (x .qubits)) (startWords (x .qubits)) tt
 
 operations-read : (x : Input) → convertCheck limits x ≡ Fine
     → operationsIn (convertedHeader x) (convertStep x .nodes) (convertStep x .operations) ≡ paperEnd x .operations
@@ -186,8 +183,8 @@ converts x e = record {
 -- ---- demand 3
 
 table-input : (x : Input) → plainEnd x .table ≡ tableEnd x
-unfolding plainEnd tableEnd begin
-table-input x = table-run flush (x .qubits) (x .cap) (gatesIn x) (begin (x .qubits))
+unfolding plainEnd tableEnd plainBegin
+table-input x = table-run flush (x .qubits) (x .cap) (gatesIn x) (plainBegin (x .qubits))
 
 pub demand3 : (x : Input) → convertCheck limits x ≡ Fine → (cs : List LaterCall) → Demand3 x cs (laters cs (converted x))
 unfolding endTable endGates
@@ -217,25 +214,6 @@ pub refused : (x : Input) (error : PbcError) → convertCheck limits x ≡ Wrong
     → (convertStep x .answer ≡ ConvertedRefused error) × (convertStep x .nodes ≡ x .nodes) × (convertStep x .operations ≡ x .operations) × (convertStep x .frame ≡ x .frame)
 unfolding convertStep convertWithin
 refused x error e = rw e (refl, refl, refl, refl)
-
--- ---- what is needed, and what is pending
-
--- the counting pass counts what the writing pass writes
-pub needs-counted : (x : Input)
-    → needRun (x .qubits) (x .cap) (gatesIn x) (begin (x .qubits)) (record { nodes = 1 + 2 * x .qubits; operations = 0 })
-    ≡ record { nodes = wordEnd x .arena .count; operations = length (wordEnd x .ops) }
-unfolding wordEnd startWords startArena
-needs-counted x = needed (x .qubits) (x .cap) (gatesIn x) (begin (x .qubits)) (startWords (x .qubits))
-
--- the pending gates are the frame gates from the place of the last flush on, which is a whole record
-pub pending-from-place : (x : Input)
-    → plainEnd x .pending ≡ cliffords (gatesFrom (placeRun (x .qubits) (x .cap) (gatesIn x) (begin (x .qubits)) firstPlace) (records (x .gates)))
-unfolding plainEnd gatesIn
-pending-from-place x = pending-since (x .qubits) (x .cap) (records (x .gates))
-
-pub place-is-whole : (x : Input) → placeRun (x .qubits) (x .cap) (gatesIn x) (begin (x .qubits)) firstPlace .part ≡ 0
-unfolding gatesIn
-place-is-whole x = place-whole (x .qubits) (x .cap) (records (x .gates)) (begin (x .qubits))
 
 -- ---- lowering: the lowered gates act by conjugation as the gate does
 

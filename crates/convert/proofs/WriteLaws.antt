@@ -12,10 +12,10 @@ use Rattle.pauli.specs.Rotations.{flush}
 use Rattle.arena.specs.Builder.{overlay, startNodes, startFrame, imageWords}
 use Rattle.arena.proofs.Overlay.{length-qubitNodes}
 use Rattle.convert.specs.Records.{GateKind, KindH, KindX, KindZ, KindS, KindSdg, KindT, KindTdg, KindCnot, KindCz, KindCcx, KindCcz, KindMeasure, KindY, KindSx, KindSwap, KindCy, Unsupported, Cap, Elementary, Placed, placedFrom, bare, kindOf, lowerAs, lowerAll}
-use Rattle.convert.specs.Plain.{Plain, begin, plainStep, plainRun}
+use Rattle.convert.specs.Plain.{Plain, plainBegin, plainStep, plainRun}
 use Rattle.convert.specs.Frame.{startArena, gateNodes, total}
 use Rattle.convert.specs.Words.{Words, startWords, flushWords, wordRun}
-use Rattle.convert.specs.Needs.{Needs, writtenNodes, writtenOps, needStep, needRun}
+use Rattle.convert.specs.Code.Needs.{Needs, writtenNodes, writtenOps, needStep, needRun}
 use Rattle.convert.specs.Code.RawPlanes.{Wide}
 use Rattle.convert.specs.Code.Raw.{recordGates, planesFor, Decided, Fits, Small, FrameReady, Ran, FlushReady, FlushedIf, RecordReady, gatesOver, anyExceeds, costOf, loneNodes, measuresOf, needsOf, putRecord, putSeven, putFour, putRows, Writing, writing, plainLast, wordsLast, needsLast, Room}
 use Rattle.convert.proofs.CountLaws.{valid-of, wide-start}
@@ -171,9 +171,9 @@ pub record WriteAt (n : ℕ) (cap : Cap) (gs ns₀ fs₀ os₀ ps₀ : List ℕ)
 
 pub write-start : (n : ℕ) (cap : Cap) (gs ns fs os ps : List ℕ) → n ≤ 256 → ns ≡ overlay (startNodes n) ns → fs ≡ overlay (startFrame n) fs → ps ≡ planesFor cap n (start n) ps
     → WriteAt n cap gs ns fs os ps (1 + 2 * n) ns fs 0 os ps 0 0 0
-unfolding begin startWords startArena lowerAll
+unfolding plainBegin startWords startArena lowerAll
 write-start n cap gs ns fs os ps h en ef ep = record {
-  plain = begin n;
+  plain = plainBegin n;
   words = startWords n;
   wide = wide-start n;
   stands = record {

@@ -12,7 +12,7 @@ use Rattle.arena.specs.Errors.{_⟫_⇒_}
 use Rattle.arena.specs.Builder.{overlay, headerOf}
 use Rattle.convert.specs.Types.{Header, TooManyQubits, BrokenGateList, UnsupportedGate, ClassicalBitOutOfRange, CapTooSmall, NoPlanes, NoFrame, NoNodes, NoOperations, Checked, Fine, Wrong}
 use Rattle.convert.specs.Records.{GateKind, NoShape, ThreeQubits, Measured, hasShape, Cap, NoCap, AtMost, Record, records, kindOf, Elementary, Placed, lowerAll, bare}
-use Rattle.convert.specs.Plain.{Plain, begin, plainRun, tableRun}
+use Rattle.convert.specs.Plain.{Plain, plainBegin, plainRun, tableRun}
 use Rattle.convert.specs.Paper.{Paper, paperRun, paperBegin}
 use Rattle.convert.specs.Frame.{qubitsOf, operandsChecked}
 use Rattle.convert.specs.Words.{Words, flat, startWords, wordRun}
@@ -40,7 +40,7 @@ unfoldable pub gatesIn : Input → List (Placed Elementary)
 gatesIn x = lowerAll (records (x .gates))
 
 unfoldable pub plainEnd : Input → Plain
-plainEnd x = plainRun flush (x .qubits) (x .cap) (gatesIn x) (begin (x .qubits))
+plainEnd x = plainRun flush (x .qubits) (x .cap) (gatesIn x) (plainBegin (x .qubits))
 
 unfoldable pub tableEnd : Input → List Row
 tableEnd x = tableRun (x .qubits) (x .cap) (bare (gatesIn x)) (start (x .qubits))
@@ -49,7 +49,7 @@ unfoldable pub paperEnd : Input → Paper
 paperEnd x = paperRun flush (x .qubits) (x .cap) (bare (gatesIn x)) paperBegin
 
 unfoldable pub wordEnd : Input → Words
-wordEnd x = wordRun (x .qubits) (x .cap) (gatesIn x) (begin (x .qubits)) (startWords (x .qubits))
+wordEnd x = wordRun (x .qubits) (x .cap) (gatesIn x) (plainBegin (x .qubits)) (startWords (x .qubits))
 
 -- ---- checks of the gate list
 

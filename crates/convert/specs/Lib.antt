@@ -1,13 +1,14 @@
 -- The conversion of a gate list, and the calls after it.
--- From the reader's end: gate records (Records); the conversion in letters and phases, by a table (Plain) and by the two papers alone (Paper); in words (Frame, Words);
--- what it needs, counted (Needs); what lowered gates do (Lowering); bit planes (Planes); its checks, answer and buffers (Conversion); the later calls (Later), and as words (LaterCalls); what is claimed (Statement); circuits followed by hand (Circuits). Code is what functions that are not public ask of each other.
+-- From the reader's end: gate records (Records); the conversion in letters and phases, by a table (Plain) and by the two papers alone (Paper);
+-- in words (Frame, Words); what lowered gates do (Lowering); bit planes (Planes); its checks, answer and buffers (Conversion);
+-- the later calls (Later), and as words (LaterWords); what is claimed (Statement); circuits followed by hand (Circuits).
+-- Code is what functions that are not public ask of each other.
 pub mod Types
 pub mod Records
 pub mod Plain
 pub mod Paper
 pub mod Frame
 pub mod Words
-pub mod Needs
 pub mod Lowering
 pub mod Planes
 pub mod Conversion

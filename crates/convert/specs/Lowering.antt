@@ -4,8 +4,8 @@ use Prim.Native.Nat.{ℕ}
 use Rattle.pauli.specs.Rows.{Row}
 use Rattle.pauli.specs.Gates.{Image₁, Image₂, plus, minus, plus₂, rule₁, rule₂, Gate, forward}
 use Rattle.convert.specs.Types.{Pauli, I, X, Y, Z}
-use Rattle.convert.specs.Records.{GateKind, lowerAs, placedFrom, bare}
-use Rattle.convert.specs.Needs.{cliffords}
+use Rattle.convert.specs.Records.{GateKind, lowerAs}
+use Rattle.convert.specs.Frame.{cliffordsOf}
 
 -- Y commutes with Y, and anticommutes with X and Z
 abbrev pub ruleY : Pauli → Image₁
@@ -25,7 +25,7 @@ ruleCy = rule₂ (plus₂ X Y) (plus₂ Z I) (plus₂ Z X) (plus₂ Z Z)
 
 -- the frame gates that a kind is lowered to
 abbrev pub loweredGates : GateKind → ℕ → ℕ → List Gate
-loweredGates k a b = bare (cliffords (placedFrom 0 0 (lowerAs k a b 0)))
+loweredGates k a b = cliffordsOf (lowerAs k a b 0)
 
 -- U P U† for these gates U
 abbrev pub loweredActs : GateKind → ℕ → ℕ → Row → Row

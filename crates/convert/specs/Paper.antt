@@ -18,17 +18,17 @@ pub record Paper : Type 0 where
   pub given : ℕ
 
 -- the Pauli products that a gate turns about or measures
-unfoldable pub products : ℕ → Elementary → List Row
-products n (clifford g) = []
-products n (elT q) = single n q Z ∷ []
-products n (elTdg q) = single n q Z ∷ []
-products n (elCcx a b d) = seven (single n a Z) (single n b Z) (single n d X)
-products n (elCcz a b d) = seven (single n a Z) (single n b Z) (single n d Z)
-products n (elMeasure q k) = single n q Z ∷ []
+unfoldable pub gateProducts : ℕ → Elementary → List Row
+gateProducts n (clifford g) = []
+gateProducts n (elT q) = single n q Z ∷ []
+gateProducts n (elTdg q) = single n q Z ∷ []
+gateProducts n (elCcx a b d) = seven (single n a Z) (single n b Z) (single n d X)
+gateProducts n (elCcz a b d) = seven (single n a Z) (single n b Z) (single n d Z)
+gateProducts n (elMeasure q k) = single n q Z ∷ []
 
 -- those products, seen through the gates gs before it
 unfoldable pub axes : ℕ → List Gate → Elementary → List Row
-axes n gs e = map (back gs) (products n e)
+axes n gs e = map (back gs) (gateProducts n e)
 
 unfoldable pub tooHeavy : ℕ → Cap → List Gate → Elementary → Bool
 tooHeavy n NoCap gs e = false

@@ -27,8 +27,8 @@ pub record Plain : Type 0 where
 abbrev pub plainOf : List Row → List (Placed Gate) → List Operation → ℕ → Plain
 plainOf t gs os m = record { table = t; pending = gs; operations = os; given = m }
 
-unfoldable pub begin : ℕ → Plain
-begin n = plainOf (start n) [] [] 0
+unfoldable pub plainBegin : ℕ → Plain
+plainBegin n = plainOf (start n) [] [] 0
 
 -- ---- the seven rows of ccx and ccz
 

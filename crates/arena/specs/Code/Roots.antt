@@ -11,7 +11,7 @@ use Rattle.arena.specs.Nodes.{PauliNode, Malformed, nodeAt}
 use Rattle.arena.specs.Operations.{AxisKind, NoKind, Pi8, Clifford, Measurement}
 use Rattle.arena.specs.Store.{Header}
 use Rattle.arena.specs.Sparse.{turned, size}
-use Rattle.arena.specs.Walk.{Out, fine, bind, State, Counted, rootUses, scan, charge, begin, eval, release}
+use Rattle.arena.specs.Walk.{Out, fine, bind, State, Counted, rootUses, scan, charge, walkBegin, eval, release}
 use Rattle.arena.specs.Pool.{Who, Chain}
 use Rattle.arena.specs.Code.Results.{Ledger, Value}
 use Rattle.arena.specs.Code.WalkWords.{Inv, none, valueAt, Uses, Rep, ValueIs, Rooted}
@@ -47,7 +47,7 @@ tallyOf node count ws = scan node count (rootUses ws)
 
 -- roots and reachable nodes are charged, before anything is evaluated
 abbrev pub startOf : ℕ → (ℕ → PauliNode) → ℕ → List ℕ → Out State
-startOf limit node count ws = charge limit (length ws + tallyOf node count ws .reached) (begin (tallyOf node count ws))
+startOf limit node count ws = charge limit (length ws + tallyOf node count ws .reached) (walkBegin (tallyOf node count ws))
 
 -- the words stand for t, where nothing is shown yet
 pub record Begun {words l : List ℕ} {count roots : ℕ} (g : Rootable words l count roots) (limit room : ℕ) (l′ p′ : List ℕ) (t : State) (left : Ledger) : Type 0 where

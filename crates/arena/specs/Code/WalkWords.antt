@@ -14,7 +14,7 @@ use Rattle.arena.specs.References.{nodeIn}
 use Rattle.arena.specs.Nodes.{PauliNode, Identity, Single, Product, Malformed, nodeAt, rowsTo}
 use Rattle.arena.specs.Sparse.{Factor, Sparse, size, dense, spread, one, multiply}
 use Rattle.arena.specs.Walk.{Out, fine, bind, State, Taken, childUses, scan, Walked, charge, lend, finish}
-use Rattle.arena.specs.Machine.{Spot}
+use Rattle.arena.specs.Code.Machine.{Spot}
 use Rattle.arena.specs.Pool.{Who, Chain, Free}
 use Rattle.arena.specs.Code.Results.{Ledger, Value}
 

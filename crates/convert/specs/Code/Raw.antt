@@ -21,8 +21,8 @@ use Rattle.pauli.specs.Rows.{Row, tally}
 use Rattle.pauli.specs.Doubly.{Term, term, sevenRows}
 use Rattle.pauli.specs.Table.{start, run}
 use Rattle.pauli.specs.Rotations.{flush}
-use Rattle.convert.specs.Plain.{Plain, begin, exceeds, plainRun}
-use Rattle.convert.specs.Needs.{Needs, elementNodes, elementOps, writtenNodes, writtenOps, needRun}
+use Rattle.convert.specs.Plain.{Plain, plainBegin, exceeds, plainRun}
+use Rattle.convert.specs.Code.Needs.{Needs, elementNodes, elementOps, writtenNodes, writtenOps, needRun}
 use Rattle.convert.specs.Planes.{packed}
 use Rattle.convert.specs.Code.RawPlanes.{Wide, planeReset}
 use Rattle.convert.specs.declared.count.Needed.{Needed}
@@ -334,13 +334,13 @@ pub record FlushedIf (f : Bool) (n : ℕ) (gs : List Gate) (c : ℕ) (ns fs : Li
 -- ---- the ends of a conversion
 
 abbrev pub plainLast : ℕ → Cap → List ℕ → Plain
-plainLast n cap gs = plainRun flush n cap (lowerAll (records gs)) (begin n)
+plainLast n cap gs = plainRun flush n cap (lowerAll (records gs)) (plainBegin n)
 
 abbrev pub wordsLast : ℕ → Cap → List ℕ → Words
-wordsLast n cap gs = wordRun n cap (lowerAll (records gs)) (begin n) (startWords n)
+wordsLast n cap gs = wordRun n cap (lowerAll (records gs)) (plainBegin n) (startWords n)
 
 abbrev pub needsLast : ℕ → Cap → List ℕ → Needs
-needsLast n cap gs = needRun n cap (lowerAll (records gs)) (begin n) (needsOf (1 + 2 * n) 0)
+needsLast n cap gs = needRun n cap (lowerAll (records gs)) (plainBegin n) (needsOf (1 + 2 * n) 0)
 
 -- the needs fit
 pub record Room (n : ℕ) (cap : Cap) (gs ns os : List ℕ) : Type 0 where

@@ -1,6 +1,6 @@
 use mathlib.Core.Path.{sym, _∙_}
 use borrow.Author.Needs.{needs}
-use Rattle.arena.specs.Stats.{answerOf}
+use Rattle.arena.specs.Stats.{chargeAnswer}
 use Rattle.arena.proofs.stats.answer_of.Statement.{statement}
 use Rattle.arena.proofs.stats.answer_of.Tie as tie
 
@@ -8,11 +8,11 @@ within-requires : tie.Need-within-requires
 within-requires c κs = search needs
 
 returns : tie.Need-returns
-unfolding answerOf
+unfolding chargeAnswer
 returns c = rw (sym (c .before .within .ensures) ∙ c .if1 .taken)
 
 returns-2 : tie.Need-returns-2
-unfolding answerOf
+unfolding chargeAnswer
 returns-2 c = rw (sym (c .before .within .ensures) ∙ c .if1 .left)
 
 pub answer-of-spec : {M : Type 1} → statement M

@@ -39,7 +39,7 @@ use denote.Triple.Clauses.{ensured, lasts}
 use denote.Triple.Table.{entered, cited}
 use denote.Triple.Walked.{says, Stays, stay-ref, stay-none, walkOf, goes-none, goes-ref, Walks, ends-at, walked, walk-meets}
 use denote.Exit.{yes}
-use Rattle.arena.specs.Stats.{workAfter, answerOf}
+use Rattle.arena.specs.Stats.{workAfter, chargeAnswer}
 use Rattle.arena.specs.declared.stats.ExpansionStats.{ExpansionStats}
 use Rattle.arena.specs.declared.stats.Charged.{Charged}
 use Rattle.arena.proofs.stats.ExpansionStats as T
@@ -86,8 +86,8 @@ module _ {M : Type 1} (𝓤 : URA M) (H : Heap 𝓤) (A : Atoms 𝓤) (mem : Mem
   after-says w l n r = exE 𝓤 _ (λ ws. snd∗ 𝓤 (sem 𝓤 H A (lasts after.ended tt (w, (l, (n, tt))) ws)) (fact 𝓤 (r ≡ workAfter w l n)))
 
   answer-says : (w l n : ℕ) (c : Charged)
-      → ent 𝓤 (ensured 𝓤 H A answer.ended (answer.clauses 𝓤 H A mem run) tt (w, (l, (n, tt))) tt c) (fact 𝓤 (c ≡ answerOf w l n))
-  answer-says w l n c = exE 𝓤 _ (λ ws. snd∗ 𝓤 (sem 𝓤 H A (lasts answer.ended tt (w, (l, (n, tt))) ws)) (fact 𝓤 (c ≡ answerOf w l n)))
+      → ent 𝓤 (ensured 𝓤 H A answer.ended (answer.clauses 𝓤 H A mem run) tt (w, (l, (n, tt))) tt c) (fact 𝓤 (c ≡ chargeAnswer w l n))
+  answer-says w l n c = exE 𝓤 _ (λ ws. snd∗ 𝓤 (sem 𝓤 H A (lasts answer.ended tt (w, (l, (n, tt))) ws)) (fact 𝓤 (c ≡ chargeAnswer w l n)))
 
 -- ---- the walk: the record s at (b, o), a charge of n
 
@@ -145,7 +145,7 @@ module _ {M : Type 1} (𝓤 : URA M) (H : Heap 𝓤) (A : Atoms 𝓤) (W : Given
   abbrev Held : ℕ → Charged → Val → SProp 𝓤
   Held r c u = ⋆ 𝓤 H A (‵ (S.the-row .own c (u ∷ [])) ∷ ‵ (fobs γ (T.the-row .coded .code (next r))) ∷ ‵ (fbor κ (Body (mem T.the-row) b o γ)) ∷ ‵ (flft κ q) ∷ [])
 
-  exits : (r : ℕ) (c : Charged) (u : Val) → r ≡ workAfter (s .work) (s .limit) n → c ≡ answerOf (s .work) (s .limit) n → ent 𝓤 (Held r c u) (Post u)
+  exits : (r : ℕ) (c : Charged) (u : Val) → r ≡ workAfter (s .work) (s .limit) n → c ≡ chargeAnswer (s .work) (s .limit) n → ent 𝓤 (Held r c u) (Post u)
   exits r c u r-is c-is =
       qed W (‵ (S.the-row .own c (u ∷ [])) ∷ ‵ (fobs γ (T.the-row .coded .code (next r))) ∷ ‵ (fbor κ (Body (mem T.the-row) b o γ)) ∷ ‵ (flft κ q) ∷ []) ∵
       suffices ! _ (ends-at 𝓤 H A charge.ended stayed (charge.clauses 𝓤 H A at-mem run) W (((κ, tt), (q, tt), tt, arg, at), tt) u c (next r, (tt, tt)) (tt, (tt, tt))) $
@@ -197,8 +197,8 @@ module _ {M : Type 1} (𝓤 : URA M) (H : Heap 𝓤) (A : Atoms 𝓤) (W : Given
         (and-then ! (load ! (from ! (stop !)) (look ! 10 refl)) (and-then ! (load ! (from ! (stop !)) (look ! 8 refl)) (and-then ! (load ! (from ! (stop !)) (look ! 12 refl)) (no-more !)))) (λ u.
         use1 W (later (some (λ (c : Charged). (‵ ftrue ⊛ ‵ (S.the-row .own c (u ∷ []))) ⊛ raw (ensured 𝓤 H A answer.ended (answer.clauses 𝓤 H A at-mem run) tt three tt c)))) (id⊢ 𝓤 _) $
         await ! tt $ pick ! (λ c. split ! $ move ! (1 ∷ []) $
-        use1 W (raw (fact 𝓤 (c ≡ answerOf (s .work) (s .limit) n))) (answer-says 𝓤 H A at-mem run (s .work) (s .limit) n c) $
-        heard ! (c ≡ answerOf (s .work) (s .limit) n) (λ c-is. split ! $ drop ! $
+        use1 W (raw (fact 𝓤 (c ≡ chargeAnswer (s .work) (s .limit) n))) (answer-says 𝓤 H A at-mem run (s .work) (s .limit) n c) $
+        heard ! (c ≡ chargeAnswer (s .work) (s .limit) n) (λ c-is. split ! $ drop ! $
         peeks ! S.the-row (Is S.the-row) (shows 𝓤 H A S.the-row) c (u ∷ []) (λ is.
         -- its result is returned, and the locals are given back
         land ! (from ! (stop !)) (init ! 16 refl (EL.lawful S.the-type S′.the-laws 𝓤 H A W tt .typed c _ is .0)) $

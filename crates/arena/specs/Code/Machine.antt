@@ -32,11 +32,11 @@ module _ (limit room : ℕ) where
   stepUnless false nd i p s = stepNode nd i p s
 
   -- one look at node i, the top of the path
-  abbrev pub step : (ℕ → PauliNode) → ℕ → List ℕ → State → Out Spot
-  step node i p s = stepUnless (s .done i) (node i) i p s
+  abbrev pub stepTop : (ℕ → PauliNode) → ℕ → List ℕ → State → Out Spot
+  stepTop node i p s = stepUnless (s .done i) (node i) i p s
 
   -- at most so many steps
-  abbrev pub run : (ℕ → PauliNode) → ℕ → List ℕ → State → Out State
-  run node zero p s = fine s
-  run node (suc k) [] s = fine s
-  run node (suc k) (i ∷ p) s = bind (step node i p s) (λ q. run node k (q .path) (q .state))
+  abbrev pub runPath : (ℕ → PauliNode) → ℕ → List ℕ → State → Out State
+  runPath node zero p s = fine s
+  runPath node (suc k) [] s = fine s
+  runPath node (suc k) (i ∷ p) s = bind (stepTop node i p s) (λ q. runPath node k (q .path) (q .state))
