@@ -30,22 +30,22 @@ convertedReply (ConvertedMade h) = Accepted h 0 0 0
 convertedReply (ConvertedRefused e) = Refused e
 
 -- the words that a conversion may write
-pub record Converting : Type 0 where
+pub record ConvertLent : Type 0 where
   pub nodes : List ℕ
   pub operations : List ℕ
   pub frame : List ℕ
   pub planes : List ℕ
 
-abbrev pub convertWords : (nodes operations frame planes : List ℕ) → Converting
+abbrev pub convertWords : (nodes operations frame planes : List ℕ) → ConvertLent
 convertWords nodes operations frame planes = record { nodes = nodes; operations = operations; frame = frame; planes = planes }
 
-abbrev pub convertLeft : ConvertStep → Step Converted Converting
+abbrev pub convertLeft : ConvertStep → Step Converted ConvertLent
 convertLeft s = record { answer = s .answer; words = convertWords (s .nodes) (s .operations) (s .frame) (s .planes) }
 
 abbrev pub inputIn : (qubits cbits owner cap : ℕ) → (gates nodes operations frame planes : List ℕ) → Input
 inputIn qubits cbits owner cap gates nodes operations frame planes = inputOf qubits cbits owner (capIn cap) gates nodes operations frame planes
 
-unfoldable pub convertCall : (qubits cbits owner cap : ℕ) → (gates nodes operations frame planes header answer : List ℕ) → Returned (Headed Converting)
+unfoldable pub convertCall : (qubits cbits owner cap : ℕ) → (gates nodes operations frame planes header answer : List ℕ) → Returned (Headed ConvertLent)
 convertCall qubits cbits owner cap gates nodes operations frame planes header answer =
     exported header answer (convertWords nodes operations frame planes) convertedReply
     (convertLeft (convertStep (inputIn qubits cbits owner cap gates nodes operations frame planes)))

@@ -26,43 +26,43 @@ weightsReply h (WeightsRefused e) = Refused e
 -- ---- expand
 
 -- the words that it may write
-pub record Expanding : Type 0 where
+pub record ExpandLent : Type 0 where
   pub letters : List ℕ
   pub scratch : List ℕ
   pub pool : List ℕ
 
-abbrev pub expandWords : (letters scratch pool : List ℕ) → Expanding
+abbrev pub expandWords : (letters scratch pool : List ℕ) → ExpandLent
 expandWords letters scratch pool = record { letters = letters; scratch = scratch; pool = pool }
 
-abbrev pub expandedWith : Header → (letters scratch pool answer : List ℕ) → (short : Bool) → ExpandStep → Returned Expanding
+abbrev pub expandedWith : Header → (letters scratch pool answer : List ℕ) → (short : Bool) → ExpandStep → Returned ExpandLent
 expandedWith h letters scratch pool answer short step =
     replied short answer (expandWords letters scratch pool) (expandedReply h (expansionOf (step .answer)))
     (expandWords (step .letters) (step .scratch) (step .pool))
 
-unfoldable pub expandCall : (header nodes letters scratch pool : List ℕ) → (owner word cells : ℕ) → (answer : List ℕ) → Returned Expanding
+unfoldable pub expandCall : (header nodes letters scratch pool : List ℕ) → (owner word cells : ℕ) → (answer : List ℕ) → Returned ExpandLent
 expandCall header nodes letters scratch pool owner word cells answer =
     expandedWith (headerIn header) letters scratch pool answer (tooShort (length header) (length answer))
     (expandStep (headerIn header) nodes letters scratch pool (handleIn owner word) cells)
 
 -- ---- hermitian_axis and max_axis_weights
 
-pub record Walking : Type 0 where
+pub record WalkLent : Type 0 where
   pub scratch : List ℕ
   pub pool : List ℕ
 
-abbrev pub walkWords : (scratch pool : List ℕ) → Walking
+abbrev pub walkWords : (scratch pool : List ℕ) → WalkLent
 walkWords scratch pool = record { scratch = scratch; pool = pool }
 
-abbrev pub walkedWith : {A : Type 0} → (scratch pool answer : List ℕ) → (short : Bool) → (Out A → Reply) → WalkStep A → Returned Walking
+abbrev pub walkedWith : {A : Type 0} → (scratch pool answer : List ℕ) → (short : Bool) → (Out A → Reply) → WalkStep A → Returned WalkLent
 walkedWith scratch pool answer short reply step =
     replied short answer (walkWords scratch pool) (reply (step .answer)) (walkWords (step .scratch) (step .pool))
 
-unfoldable pub hermitianCall : (header nodes scratch pool : List ℕ) → (owner word limit : ℕ) → (answer : List ℕ) → Returned Walking
+unfoldable pub hermitianCall : (header nodes scratch pool : List ℕ) → (owner word limit : ℕ) → (answer : List ℕ) → Returned WalkLent
 hermitianCall header nodes scratch pool owner word limit answer =
     walkedWith scratch pool answer (tooShort (length header) (length answer)) (λ o. hermitianReply (headerIn header) (hermitianOf (handleIn owner word) o))
     (hermitianStep (headerIn header) nodes scratch pool (handleIn owner word) limit)
 
-unfoldable pub weightsCall : (header nodes operations scratch pool : List ℕ) → (limit : ℕ) → (answer : List ℕ) → Returned Walking
+unfoldable pub weightsCall : (header nodes operations scratch pool : List ℕ) → (limit : ℕ) → (answer : List ℕ) → Returned WalkLent
 weightsCall header nodes operations scratch pool limit answer =
     walkedWith scratch pool answer (tooShort (length header) (length answer)) (λ o. weightsReply (headerIn header) (maxWeightsOf o))
     (reportStep (headerIn header) nodes operations scratch pool limit)

@@ -11,7 +11,8 @@ use Rattle.pbc.specs.Buffers.{allLends, lendsOf, lendsExceed}
 use Rattle.pbc.specs.State.{CommandState, Header, LineReply, NoAnswer, Bad, Done, One, Two, Words, ShowCircuit, ShowKinds, saysOf, headedOf, lentOf}
 use Rattle.pbc.specs.Lines.{Line, hasNumbers, hasSigned, hasBuffer, signedAt}
 pub use Rattle.pbc.specs.declared.state.Buffer.the-variants.{the-data as Buffer, Nodes, Operations, Frame, Planes, Scratch, Pool, Letters, Unknown}
-pub use Rattle.pbc.specs.declared.plain.PlainCommand.the-variants.{the-data as PlainCommand, Unknown as NoCommand, Nothing as EmptyLine, Lend, Peek, Header as SetHeader, Dump, Kinds, Angle, Times}
+pub use Rattle.pbc.specs.declared.plain.PlainCommand.the-variants.{the-data as PlainCommand, Unknown as NoCommand, Nothing as EmptyLine}
+pub use Rattle.pbc.specs.declared.plain.PlainCommand.the-variants.{Lend, Peek, Header as SetHeader, Dump, Kinds, Angle, Times}
 
 unfoldable pub lendReply : CommandState → Line → List ℕ → LineReply
 lendReply s l ws =

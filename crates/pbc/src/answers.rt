@@ -127,11 +127,6 @@ fn kind_of(h: Header, words: &[u32]) -> u64 {
     kind_number(AxisKind::of(op))
 }
 
-fn kinds(out: &mut [u8], at: usize, h: Header, operations: &[u32]) -> usize {
-    let used = first(operations, OPERATION_WORDS * (h.operations as usize));
-    kinds_of(out, at, h, used)
-}
-
 fn kinds_of(out: &mut [u8], at: usize, h: Header, operations: &[u32]) -> usize {
     let count = operations.len() / OPERATION_WORDS;
     let mut to = at;
@@ -144,9 +139,10 @@ fn kinds_of(out: &mut [u8], at: usize, h: Header, operations: &[u32]) -> usize {
     to
 }
 
-fn kinds_answer(out: &mut [u8], at: usize, h: Header, operations: &[u32]) -> usize {
+fn kinds(out: &mut [u8], at: usize, h: Header, operations: &[u32]) -> usize {
     let to = ok(out, at);
-    kinds(out, to, h, operations)
+    let used = first(operations, OPERATION_WORDS * (h.operations as usize));
+    kinds_of(out, to, h, used)
 }
 
 // An expansion: the phase, the work, and a letter for each qubit.
@@ -250,7 +246,7 @@ fn without_end(
                 byte_part(letters, 0, h.qubits as usize),
             )
         }
-        LineAnswer::Kinds => kinds_answer(out, at, h, operations),
+        LineAnswer::Kinds => kinds(out, at, h, operations),
         LineAnswer::Words(buffer, from, count) => words_of(
             out,
             at,
