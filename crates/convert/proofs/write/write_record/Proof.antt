@@ -4,24 +4,39 @@ use mathlib.Core.Path.{refl, ap, _∙_}
 use Prim.Native.Nat.{ℕ, _+_}
 use lib.ListN.{getD}
 use Rattle.convert.specs.Code.Raw.{writing, putSeven, loneWords}
-use Rattle.convert.proofs.SevenLaws.{op-put}
+use Rattle.convert.proofs.SevenLaws.{op-put, lone-put}
 use Rattle.convert.proofs.ReadyLaws.{read-lone, read-doubly}
 use Rattle.convert.proofs.Arms.{no-record, lone-record, seven-record}
 use borrow.Author.Needs.{needs}
 use Rattle.convert.proofs.write.write_record.Statement.{statement}
 use Rattle.convert.proofs.write.write_record.Tie as tie
 
-add-put-lone : tie.Need-add-put-lone
-add-put-lone c = let q = read-lone (c .before .before .before .before .before .args .kind) (c .before .match .keys1) (c .before .before .before .before .before .pre) in omega (arith, q)
+first-word-requires : tie.Need-first-word-requires
+first-word-requires c κs = search needs
 
-mul-put-lone : tie.Need-mul-put-lone
-mul-put-lone c = let q = read-lone (c .before .before .before .before .before .args .kind) (c .before .match .keys1) (c .before .before .before .before .before .pre) in omega (arith, q)
+add-put-operation : tie.Need-add-put-operation
+add-put-operation c = let q = read-lone (c .before .before .before .before .before .before .args .kind) (c .before .before .match .keys1) (c .before .before .before .before .before .before .pre) in omega (arith, q)
 
-shared-slice-read-put-lone : tie.Need-shared-slice-read-put-lone
-shared-slice-read-put-lone c = let q = read-lone (c .before .before .before .before .before .before .args .kind) (c .before .before .match .keys1) (c .before .before .before .before .before .before .pre) in omega (arith, q)
+mul-put-operation : tie.Need-mul-put-operation
+mul-put-operation c = let q = read-lone (c .before .before .before .before .before .before .args .kind) (c .before .before .match .keys1) (c .before .before .before .before .before .before .pre) in omega (arith, q)
 
-put-lone-requires : tie.Need-put-lone-requires
-put-lone-requires c κs = let q = read-lone (c .before .before .before .before .before .before .args .kind) (c .before .before .match .keys1) (c .before .before .before .before .before .before .pre) in (q .fewer, q .place, q .bit)
+shared-slice-read-put-operation : tie.Need-shared-slice-read-put-operation
+shared-slice-read-put-operation c = let q = read-lone (c .before .before .before .before .before .before .before .args .kind) (c .before .before .before .match .keys1) (c .before .before .before .before .before .before .before .pre) in omega (arith, q)
+
+given-word-requires : tie.Need-given-word-requires
+given-word-requires c κs = search needs
+
+bit-word-requires : tie.Need-bit-word-requires
+bit-word-requires c κs = let q = read-lone (c .before .before .before .before .before .before .before .before .args .kind) (c .before .before .before .before .match .keys1) (c .before .before .before .before .before .before .before .before .pre) in q .bit
+
+put-operation-requires : tie.Need-put-operation-requires
+put-operation-requires c κs = search needs
+
+add-made : tie.Need-add-made
+add-made c = let q = read-lone (c .before .before .before .before .before .before .before .before .before .before .before .before .before .args .kind) (c .before .before .before .before .before .before .before .before .before .match .keys1) (c .before .before .before .before .before .before .before .before .before .before .before .before .before .pre) in omega (arith, q)
+
+made-requires : tie.Need-made-requires
+made-requires c κs = search needs
 
 add-put-seven : tie.Need-add-put-seven
 add-put-seven c = let q = read-doubly (c .before .before .before .before .before .before .args .kind) (c .before .before .match .keys2) (c .before .before .before .before .before .before .pre) in omega (arith, q)
@@ -58,12 +73,15 @@ same-length c = search needs
 
 returns : tie.Need-returns
 returns c =
-    let a = c .before .before .before .before .before .before .before .before .before .args in
-    let e = c .before .before .put-lone .ensures in
-    op-put (a .w .nodes) (a .nodes .now) (a .w .operations) (a .operations .now) (loneWords (a .kind) (getD (a .frame .now) (a .n + a .a) 0) (a .given) (a .b))
-    (a .w .operations + 1) _ _ _ (refl, e .2) (e .0, e .1)
+    let a = c .before .before .before .before .before .before .before .before .before .before .before .before .before .before .args in
+    let axis = getD (a .frame .now) (a .n + a .a) 0 in
+    let q = read-lone (a .kind) (c .before .before .before .before .before .before .before .before .before .before .match .keys1) (c .before .before .before .before .before .before .before .before .before .before .before .before .before .before .pre) in
+    let put = lone-put (a .kind) axis (a .given) (a .b) (a .w .operations) (a .operations .now) _ _ _ _ (c .before .before .before .before .before .before .before .before .first-word .ensures) (c .before .before .before .before .before .before .given-word .ensures)
+    (c .before .before .before .before .before .bit-word .ensures) (q .place) (c .before .before .before .before .put-operation .ensures) in
+    op-put (a .w .nodes) (a .nodes .now) (a .w .operations) (a .operations .now) (loneWords (a .kind) axis (a .given) (a .b)) (a .w .operations + 1) _ _ _ (refl, put)
+    (c .made .ensures)
     ∙ lone-record (a .n) (a .given) (a .kind) (a .a) (a .b) (a .d) (a .frame .now) (writing (a .w .nodes) (a .nodes .now) (a .w .operations) (a .operations .now))
-    (c .before .before .before .before .before .match .keys1)
+    (c .before .before .before .before .before .before .before .before .before .before .match .keys1)
 
 same-length-2 : tie.Need-same-length-2
 same-length-2 c = search needs
@@ -86,10 +104,15 @@ pub write-record-spec : {M : Type 1} → statement M
 write-record-spec =
     tie.close
     (tie.spec
-    add-put-lone
-    mul-put-lone
-    shared-slice-read-put-lone
-    put-lone-requires
+    first-word-requires
+    add-put-operation
+    mul-put-operation
+    shared-slice-read-put-operation
+    given-word-requires
+    bit-word-requires
+    put-operation-requires
+    add-made
+    made-requires
     add-put-seven
     mul-put-seven
     shared-slice-read-put-seven
