@@ -1,6 +1,6 @@
 -- The table of the seven rows, and what ccx and ccz write in the buffers.
 use mathlib.Core.Path.{_≡_, refl, sym, ap, _∙_}
-use mathlib.Core.Bool.{Bool, cond}
+use mathlib.Core.Bool.{cond}
 use mathlib.Core.List.{List, [], _∷_}
 use Prim.Native.Nat.{ℕ, zero, suc, _+_, _*_, _<_, _≤_}
 use native.Mathlib.Omega.{arith}
@@ -93,6 +93,6 @@ pub op-put : (c : ℕ) (ns : List ℕ) (u : ℕ) (os vs : List ℕ) (u₁ r s : 
 op-put c ns u os vs u₁ r s os₁ t m = rw (m .0, m .1, t .0, t .1)
 
 -- t, tdg or measure, by the words of its one operation
-pub lone-put : (kind : GateKind) (axis given bit u : ℕ) (os os₁ : List ℕ) (m : Bool) (f g b : ℕ) → m ≡ isMeasure kind → f ≡ firstWord kind → g ≡ cond m given 0 → b ≡ cond m (bit + 1) 0
+pub lone-put : (kind : GateKind) (axis given bit u : ℕ) (os os₁ : List ℕ) (f g b : ℕ) → f ≡ firstWord kind → g ≡ cond (isMeasure kind) given 0 → b ≡ cond (isMeasure kind) (bit + 1) 0
     → operationWords * u + operationWords ≤ length os → os₁ ≡ operationWritten u (f ∷ axis ∷ g ∷ b ∷ []) os → os₁ ≡ sets os (operationWords * u) (loneWords kind axis given bit)
-lone-put kind axis given bit u os os₁ m f g b em ef eg eb room e = e ∙ operation-written u (f ∷ axis ∷ g ∷ b ∷ []) os (omega arith) ∙ rw (ef, eg, eb, em)
+lone-put kind axis given bit u os os₁ f g b ef eg eb room e = e ∙ operation-written u (f ∷ axis ∷ g ∷ b ∷ []) os (omega arith) ∙ rw (ef, eg, eb)

@@ -17,6 +17,13 @@ ghost use Rattle.convert.specs.Types.{MinusOne};
 ghost use Rattle.convert.specs.Frame.{frameGates, cliffordStep};
 ghost use Rattle.convert.specs.Code.Raw.{maxWord, ProductPut, FrameReady, Ran, recordGates};
 
+// Phases by number, as a reference's word has them.
+const ONE: u32 = 0;
+
+const PLUS_I: u32 = 1;
+
+const MINUS_I: u32 = 3;
+
 /// What `push_output_clifford` answers.
 pub enum FramePushed {
     Made(Header),
@@ -124,30 +131,30 @@ fn gate_s(count: u32, nodes: &mut [u32], frame: &mut [u32], n: usize, q: usize) 
     requires { ⌜ FrameReady n (gateS q ∷ []) count (now nodes) (now frame) ⌝ }
     ensures { λ r. ⌜ Ran n (gateS q ∷ []) count (now (nodes .entry)) (now (frame .entry)) r (now (nodes .exit)) (now (frame .exit)) ⌝ }
 {
-    multiply(count, nodes, frame, q, q, n + q, 3)
+    multiply(count, nodes, frame, q, q, n + q, MINUS_I)
 }
 
 fn gate_sdg(count: u32, nodes: &mut [u32], frame: &mut [u32], n: usize, q: usize) -> u32
     requires { ⌜ FrameReady n (gateSdg q ∷ []) count (now nodes) (now frame) ⌝ }
     ensures { λ r. ⌜ Ran n (gateSdg q ∷ []) count (now (nodes .entry)) (now (frame .entry)) r (now (nodes .exit)) (now (frame .exit)) ⌝ }
 {
-    multiply(count, nodes, frame, q, q, n + q, 1)
+    multiply(count, nodes, frame, q, q, n + q, PLUS_I)
 }
 
 fn gate_cnot(count: u32, nodes: &mut [u32], frame: &mut [u32], n: usize, c: usize, t: usize) -> u32
     requires { ⌜ FrameReady n (gateCnot c t ∷ []) count (now nodes) (now frame) ⌝ }
     ensures { λ r. ⌜ Ran n (gateCnot c t ∷ []) count (now (nodes .entry)) (now (frame .entry)) r (now (nodes .exit)) (now (frame .exit)) ⌝ }
 {
-    let next = multiply(count, nodes, frame, c, c, t, 0);
-    multiply(next, nodes, frame, n + t, n + c, n + t, 0)
+    let next = multiply(count, nodes, frame, c, c, t, ONE);
+    multiply(next, nodes, frame, n + t, n + c, n + t, ONE)
 }
 
 fn gate_cz(count: u32, nodes: &mut [u32], frame: &mut [u32], n: usize, c: usize, t: usize) -> u32
     requires { ⌜ FrameReady n (gateCz c t ∷ []) count (now nodes) (now frame) ⌝ }
     ensures { λ r. ⌜ Ran n (gateCz c t ∷ []) count (now (nodes .entry)) (now (frame .entry)) r (now (nodes .exit)) (now (frame .exit)) ⌝ }
 {
-    let next = multiply(count, nodes, frame, c, c, n + t, 0);
-    multiply(next, nodes, frame, t, n + c, t, 0)
+    let next = multiply(count, nodes, frame, c, c, n + t, ONE);
+    multiply(next, nodes, frame, t, n + c, t, ONE)
 }
 
 // The frame gate of a kind, as `CliffordFrame::append` of the Rust; a kind that is none changes nothing.

@@ -20,8 +20,7 @@ ghost use mathlib.Core.Bool.{true, cond};
 ghost use mathlib.Core.List.{[]};
 ghost use Prim.Native.Nat.{_+_, _*_, _/_, _<_, _≤_};
 ghost use lib.ListN.{length};
-ghost use lib.Seq.{sets};
-ghost use Rattle.convert.specs.Code.Raw.{maxWord, writing, rowAt, subsetOf, subsetWord, putRows, putFour, putSeven, firstWord, loneWords, lastPlace, putRecord, RecordReady};
+ghost use Rattle.convert.specs.Code.Raw.{maxWord, writing, rowAt, subsetOf, subsetWord, putRows, putFour, putSeven, firstWord, lastPlace, putRecord, RecordReady};
 ghost use Rattle.convert.specs.Code.Raw.{FlushReady, FlushedIf, gatesOver, planesFor, isCapped, measuresOf, Fits, Room, wordsLast, plainLast};
 ghost use Rattle.arena.specs.Limits.{maxQubits, maxCbits, maxNodes, maxOperations, nodeWords, operationWords};
 ghost use Rattle.arena.specs.Builder.{overlay, startNodes, startFrame};
@@ -114,49 +113,25 @@ fn first_word(kind: GateKind) -> u32
     }
 }
 
-// A word that only a measurement has.
-fn only_if(measured: bool, word: u32) -> u32
-    ensures { λ r. ⌜ r ≡ cond measured word 0 ⌝ }
+// The measurement's number, and 0 for a rotation.
+fn given_word(kind: GateKind, given: u32) -> u32
+    ensures { λ r. ⌜ r ≡ cond (isMeasure kind) given 0 ⌝ }
 {
-    if measured {
-        return word;
+    match kind {
+        GateKind::Measure => given,
+        _ => 0,
     }
-    0
 }
 
-// The classical bit, of a measurement.
-fn bit_word(measured: bool, bit: usize) -> u32
-    requires { ⌜ (measured ≡ true → bit < maxCbits) ⌝ }
-    ensures { λ r. ⌜ r ≡ cond measured (bit + 1) 0 ⌝ }
+// The classical bit and 1, and 0 for a rotation.
+fn bit_word(kind: GateKind, bit: usize) -> u32
+    requires { ⌜ (isMeasure kind ≡ true → bit < maxCbits) ⌝ }
+    ensures { λ r. ⌜ r ≡ cond (isMeasure kind) (bit + 1) 0 ⌝ }
 {
-    if !measured {
-        return 0;
+    match kind {
+        GateKind::Measure => (bit as u32) + 1,
+        _ => 0,
     }
-    (bit as u32) + 1
-}
-
-fn put_lone(
-    w: Used,
-    operations: &mut [u32],
-    kind: GateKind,
-    axis: u32,
-    given: u32,
-    bit: usize,
-) -> Used
-    requires { ⌜ (w .operations < maxOperations) × (operationWords * w .operations + operationWords ≤ length (now operations)) × (isMeasure kind ≡ true → bit < maxCbits) ⌝ }
-    ensures { λ r. ⌜ (r .nodes ≡ w .nodes) × (r .operations ≡ w .operations + 1)
-        × (now (operations .exit) ≡ sets (now (operations .entry)) (operationWords * w .operations) (loneWords kind axis given bit)) ⌝ }
-{
-    let measured = kind.has_shape(Shape::Measured);
-    put_operation(
-        operations,
-        w.operations,
-        first_word(kind),
-        axis,
-        only_if(measured, given),
-        bit_word(measured, bit),
-    );
-    made(w.nodes, w.operations + 1)
 }
 
 // Where the frame has the third operand: ccz its z, ccx its x.
@@ -188,14 +163,17 @@ fn write_record(
         ≡ putRecord n given kind a b d (now (frame .entry)) (writing (w .nodes) (now (nodes .entry)) (w .operations) (now (operations .entry))) ⌝ }
 {
     match kind {
-        GateKind::T | GateKind::Tdg | GateKind::Measure => put_lone(
-            w,
-            operations,
-            kind,
-            frame[n + a],
-            given,
-            b,
-        ),
+        GateKind::T | GateKind::Tdg | GateKind::Measure => {
+            put_operation(
+                operations,
+                w.operations,
+                first_word(kind),
+                frame[n + a],
+                given_word(kind, given),
+                bit_word(kind, b),
+            );
+            made(w.nodes, w.operations + 1)
+        }
         GateKind::Ccx | GateKind::Ccz => put_seven(
             w,
             nodes,

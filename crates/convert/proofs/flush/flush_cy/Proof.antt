@@ -10,15 +10,19 @@ flush-sdg-requires c κs = flush-head (c .before .before .before .before .pre)
 
 flush-cnot-requires : tie.Need-flush-cnot-requires
 flush-cnot-requires c κs =
-    let r0 = c .before .before .before .before .before .before .before .before .before .before .before .pre in
-    let r1 = flush-tail r0 (c .before .before .before .before .before .before .flush-sdg .ensures) (omega (arith, c .before .before .before .before .before .before .flush-sdg .kept)) (omega (arith, c .before .before .before .before .before .before .flush-sdg .kept)) in
+    let flush-sdg = c .before .before .before .before .before .before .flush-sdg in
+    let pre = c .before .before .before .before .before .before .before .before .before .before .before .pre in
+    let r1 = flush-tail pre (flush-sdg .ensures) (omega (arith, flush-sdg .kept)) (omega (arith, flush-sdg .kept)) in
     flush-head r1
 
 flush-s-requires : tie.Need-flush-s-requires
 flush-s-requires c κs =
-    let r0 = c .before .before .before .before .before .before .before .before .before .before .before .before .before .before .before .before .before .before .pre in
-    let r1 = flush-tail r0 (c .before .before .before .before .before .before .before .before .before .before .before .before .before .flush-sdg .ensures) (omega (arith, c .before .before .before .before .before .before .before .before .before .before .before .before .before .flush-sdg .kept)) (omega (arith, c .before .before .before .before .before .before .before .before .before .before .before .before .before .flush-sdg .kept)) in
-    let r2 = flush-tail r1 (c .before .before .before .before .before .before .flush-cnot .ensures) (omega (arith, c .before .before .before .before .before .before .flush-cnot .kept)) (omega (arith, c .before .before .before .before .before .before .flush-cnot .kept)) in
+    let flush-cnot = c .before .before .before .before .before .before .flush-cnot in
+    let flush-sdg = c .before .before .before .before .before .before .before .before .before .before .before .before .before .flush-sdg in
+    let back12 = c .before .before .before .before .before .before .before .before .before .before .before .before in
+    let pre = back12 .before .before .before .before .before .before .pre in
+    let r1 = flush-tail pre (flush-sdg .ensures) (omega (arith, flush-sdg .kept)) (omega (arith, flush-sdg .kept)) in
+    let r2 = flush-tail r1 (flush-cnot .ensures) (omega (arith, flush-cnot .kept)) (omega (arith, flush-cnot .kept)) in
     flush-head r2
 
 same-length : tie.Need-same-length
@@ -28,7 +32,12 @@ same-length-2 : tie.Need-same-length-2
 same-length-2 c = search needs
 
 returns : tie.Need-returns
-returns c = more-flushed (c .before .before .before .before .before .before .before .before .before .before .before .before .before .before .before .before .before .before .flush-sdg .ensures) (more-flushed (c .before .before .before .before .before .before .before .before .before .before .before .flush-cnot .ensures) (c .before .before .before .before .flush-s .ensures))
+returns c =
+    let flush-s = c .before .before .before .before .flush-s in
+    let flush-cnot = c .before .before .before .before .before .before .before .before .before .before .before .flush-cnot in
+    let back12 = c .before .before .before .before .before .before .before .before .before .before .before .before in
+    let flush-sdg = back12 .before .before .before .before .before .before .flush-sdg in
+    more-flushed (flush-sdg .ensures) (more-flushed (flush-cnot .ensures) (flush-s .ensures))
 
 pub flush-cy-spec : {M : Type 1} → statement M
 flush-cy-spec =

@@ -10,15 +10,19 @@ flush-cnot-requires c κs = flush-head (c .before .before .before .before .pre)
 
 flush-cnot-requires-2 : tie.Need-flush-cnot-requires-2
 flush-cnot-requires-2 c κs =
-    let r0 = c .before .before .before .before .before .before .before .before .before .before .before .pre in
-    let r1 = flush-tail r0 (c .before .before .before .before .before .before .flush-cnot .ensures) (omega (arith, c .before .before .before .before .before .before .flush-cnot .kept)) (omega (arith, c .before .before .before .before .before .before .flush-cnot .kept)) in
+    let flush-cnot = c .before .before .before .before .before .before .flush-cnot in
+    let pre = c .before .before .before .before .before .before .before .before .before .before .before .pre in
+    let r1 = flush-tail pre (flush-cnot .ensures) (omega (arith, flush-cnot .kept)) (omega (arith, flush-cnot .kept)) in
     flush-head r1
 
 flush-cnot-requires-3 : tie.Need-flush-cnot-requires-3
 flush-cnot-requires-3 c κs =
-    let r0 = c .before .before .before .before .before .before .before .before .before .before .before .before .before .before .before .before .before .before .pre in
-    let r1 = flush-tail r0 (c .before .before .before .before .before .before .before .before .before .before .before .before .before .flush-cnot .ensures) (omega (arith, c .before .before .before .before .before .before .before .before .before .before .before .before .before .flush-cnot .kept)) (omega (arith, c .before .before .before .before .before .before .before .before .before .before .before .before .before .flush-cnot .kept)) in
-    let r2 = flush-tail r1 (c .before .before .before .before .before .before .flush-cnot2 .ensures) (omega (arith, c .before .before .before .before .before .before .flush-cnot2 .kept)) (omega (arith, c .before .before .before .before .before .before .flush-cnot2 .kept)) in
+    let flush-cnot2 = c .before .before .before .before .before .before .flush-cnot2 in
+    let flush-cnot = c .before .before .before .before .before .before .before .before .before .before .before .before .before .flush-cnot in
+    let back12 = c .before .before .before .before .before .before .before .before .before .before .before .before in
+    let pre = back12 .before .before .before .before .before .before .pre in
+    let r1 = flush-tail pre (flush-cnot .ensures) (omega (arith, flush-cnot .kept)) (omega (arith, flush-cnot .kept)) in
+    let r2 = flush-tail r1 (flush-cnot2 .ensures) (omega (arith, flush-cnot2 .kept)) (omega (arith, flush-cnot2 .kept)) in
     flush-head r2
 
 same-length : tie.Need-same-length
@@ -28,7 +32,12 @@ same-length-2 : tie.Need-same-length-2
 same-length-2 c = search needs
 
 returns : tie.Need-returns
-returns c = more-flushed (c .before .before .before .before .before .before .before .before .before .before .before .before .before .before .before .before .before .before .flush-cnot .ensures) (more-flushed (c .before .before .before .before .before .before .before .before .before .before .before .flush-cnot2 .ensures) (c .before .before .before .before .flush-cnot3 .ensures))
+returns c =
+    let flush-cnot3 = c .before .before .before .before .flush-cnot3 in
+    let flush-cnot2 = c .before .before .before .before .before .before .before .before .before .before .before .flush-cnot2 in
+    let back12 = c .before .before .before .before .before .before .before .before .before .before .before .before in
+    let flush-cnot = back12 .before .before .before .before .before .before .flush-cnot in
+    more-flushed (flush-cnot .ensures) (more-flushed (flush-cnot2 .ensures) (flush-cnot3 .ensures))
 
 pub flush-swap-spec : {M : Type 1} → statement M
 flush-swap-spec =

@@ -10,15 +10,19 @@ flush-h-requires c κs = flush-head (c .before .before .before .before .pre)
 
 flush-s-requires : tie.Need-flush-s-requires
 flush-s-requires c κs =
-    let r0 = c .before .before .before .before .before .before .before .before .before .before .before .pre in
-    let r1 = flush-tail r0 (c .before .before .before .before .before .before .flush-h .ensures) (omega (arith, c .before .before .before .before .before .before .flush-h .kept)) (omega (arith, c .before .before .before .before .before .before .flush-h .kept)) in
+    let flush-h = c .before .before .before .before .before .before .flush-h in
+    let pre = c .before .before .before .before .before .before .before .before .before .before .before .pre in
+    let r1 = flush-tail pre (flush-h .ensures) (omega (arith, flush-h .kept)) (omega (arith, flush-h .kept)) in
     flush-head r1
 
 flush-h-requires-2 : tie.Need-flush-h-requires-2
 flush-h-requires-2 c κs =
-    let r0 = c .before .before .before .before .before .before .before .before .before .before .before .before .before .before .before .before .before .before .pre in
-    let r1 = flush-tail r0 (c .before .before .before .before .before .before .before .before .before .before .before .before .before .flush-h .ensures) (omega (arith, c .before .before .before .before .before .before .before .before .before .before .before .before .before .flush-h .kept)) (omega (arith, c .before .before .before .before .before .before .before .before .before .before .before .before .before .flush-h .kept)) in
-    let r2 = flush-tail r1 (c .before .before .before .before .before .before .flush-s .ensures) (omega (arith, c .before .before .before .before .before .before .flush-s .kept)) (omega (arith, c .before .before .before .before .before .before .flush-s .kept)) in
+    let flush-s = c .before .before .before .before .before .before .flush-s in
+    let flush-h = c .before .before .before .before .before .before .before .before .before .before .before .before .before .flush-h in
+    let back12 = c .before .before .before .before .before .before .before .before .before .before .before .before in
+    let pre = back12 .before .before .before .before .before .before .pre in
+    let r1 = flush-tail pre (flush-h .ensures) (omega (arith, flush-h .kept)) (omega (arith, flush-h .kept)) in
+    let r2 = flush-tail r1 (flush-s .ensures) (omega (arith, flush-s .kept)) (omega (arith, flush-s .kept)) in
     flush-head r2
 
 same-length : tie.Need-same-length
@@ -28,7 +32,12 @@ same-length-2 : tie.Need-same-length-2
 same-length-2 c = search needs
 
 returns : tie.Need-returns
-returns c = more-flushed (c .before .before .before .before .before .before .before .before .before .before .before .before .before .before .before .before .before .before .flush-h .ensures) (more-flushed (c .before .before .before .before .before .before .before .before .before .before .before .flush-s .ensures) (c .before .before .before .before .flush-h2 .ensures))
+returns c =
+    let flush-h2 = c .before .before .before .before .flush-h2 in
+    let flush-s = c .before .before .before .before .before .before .before .before .before .before .before .flush-s in
+    let back12 = c .before .before .before .before .before .before .before .before .before .before .before .before in
+    let flush-h = back12 .before .before .before .before .before .before .flush-h in
+    more-flushed (flush-h .ensures) (more-flushed (flush-s .ensures) (flush-h2 .ensures))
 
 pub flush-sx-spec : {M : Type 1} → statement M
 flush-sx-spec =

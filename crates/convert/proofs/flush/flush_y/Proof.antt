@@ -10,8 +10,9 @@ flush-z-requires c κs = flush-head (c .before .before .before .before .pre)
 
 flush-x-requires : tie.Need-flush-x-requires
 flush-x-requires c κs =
-    let r0 = c .before .before .before .before .before .before .before .before .before .before .before .pre in
-    let r1 = flush-tail r0 (c .before .before .before .before .before .before .flush-z .ensures) (omega (arith, c .before .before .before .before .before .before .flush-z .kept)) (omega (arith, c .before .before .before .before .before .before .flush-z .kept)) in
+    let flush-z = c .before .before .before .before .before .before .flush-z in
+    let pre = c .before .before .before .before .before .before .before .before .before .before .before .pre in
+    let r1 = flush-tail pre (flush-z .ensures) (omega (arith, flush-z .kept)) (omega (arith, flush-z .kept)) in
     flush-head r1
 
 same-length : tie.Need-same-length

@@ -10,15 +10,19 @@ gate-cnot-requires c κs = head-ready (c .before .before .before .before .pre)
 
 gate-cnot-requires-2 : tie.Need-gate-cnot-requires-2
 gate-cnot-requires-2 c κs =
-    let r0 = c .before .before .before .before .before .before .before .before .before .before .before .pre in
-    let r1 = tail-ready r0 (c .before .before .before .before .before .before .gate-cnot .ensures) (omega (arith, c .before .before .before .before .before .before .gate-cnot .kept)) (omega (arith, c .before .before .before .before .before .before .gate-cnot .kept)) in
+    let gate-cnot = c .before .before .before .before .before .before .gate-cnot in
+    let pre = c .before .before .before .before .before .before .before .before .before .before .before .pre in
+    let r1 = tail-ready pre (gate-cnot .ensures) (omega (arith, gate-cnot .kept)) (omega (arith, gate-cnot .kept)) in
     head-ready r1
 
 gate-cnot-requires-3 : tie.Need-gate-cnot-requires-3
 gate-cnot-requires-3 c κs =
-    let r0 = c .before .before .before .before .before .before .before .before .before .before .before .before .before .before .before .before .before .before .pre in
-    let r1 = tail-ready r0 (c .before .before .before .before .before .before .before .before .before .before .before .before .before .gate-cnot .ensures) (omega (arith, c .before .before .before .before .before .before .before .before .before .before .before .before .before .gate-cnot .kept)) (omega (arith, c .before .before .before .before .before .before .before .before .before .before .before .before .before .gate-cnot .kept)) in
-    let r2 = tail-ready r1 (c .before .before .before .before .before .before .gate-cnot2 .ensures) (omega (arith, c .before .before .before .before .before .before .gate-cnot2 .kept)) (omega (arith, c .before .before .before .before .before .before .gate-cnot2 .kept)) in
+    let gate-cnot2 = c .before .before .before .before .before .before .gate-cnot2 in
+    let gate-cnot = c .before .before .before .before .before .before .before .before .before .before .before .before .before .gate-cnot in
+    let back12 = c .before .before .before .before .before .before .before .before .before .before .before .before in
+    let pre = back12 .before .before .before .before .before .before .pre in
+    let r1 = tail-ready pre (gate-cnot .ensures) (omega (arith, gate-cnot .kept)) (omega (arith, gate-cnot .kept)) in
+    let r2 = tail-ready r1 (gate-cnot2 .ensures) (omega (arith, gate-cnot2 .kept)) (omega (arith, gate-cnot2 .kept)) in
     head-ready r2
 
 same-length : tie.Need-same-length
@@ -28,7 +32,12 @@ same-length-2 : tie.Need-same-length-2
 same-length-2 c = search needs
 
 returns : tie.Need-returns
-returns c = more-ran (c .before .before .before .before .before .before .before .before .before .before .before .before .before .before .before .before .before .before .gate-cnot .ensures) (more-ran (c .before .before .before .before .before .before .before .before .before .before .before .gate-cnot2 .ensures) (c .before .before .before .before .gate-cnot3 .ensures))
+returns c =
+    let gate-cnot3 = c .before .before .before .before .gate-cnot3 in
+    let gate-cnot2 = c .before .before .before .before .before .before .before .before .before .before .before .gate-cnot2 in
+    let back12 = c .before .before .before .before .before .before .before .before .before .before .before .before in
+    let gate-cnot = back12 .before .before .before .before .before .before .gate-cnot in
+    more-ran (gate-cnot .ensures) (more-ran (gate-cnot2 .ensures) (gate-cnot3 .ensures))
 
 pub gate-swap-spec : {M : Type 1} → statement M
 gate-swap-spec =

@@ -10,8 +10,9 @@ gate-z-requires c κs = head-ready (c .before .before .before .before .pre)
 
 gate-x-requires : tie.Need-gate-x-requires
 gate-x-requires c κs =
-    let r0 = c .before .before .before .before .before .before .before .before .before .before .before .pre in
-    let r1 = tail-ready r0 (c .before .before .before .before .before .before .gate-z .ensures) (omega (arith, c .before .before .before .before .before .before .gate-z .kept)) (omega (arith, c .before .before .before .before .before .before .gate-z .kept)) in
+    let gate-z = c .before .before .before .before .before .before .gate-z in
+    let pre = c .before .before .before .before .before .before .before .before .before .before .before .pre in
+    let r1 = tail-ready pre (gate-z .ensures) (omega (arith, gate-z .kept)) (omega (arith, gate-z .kept)) in
     head-ready r1
 
 same-length : tie.Need-same-length

@@ -4,24 +4,51 @@ use mathlib.Core.Path.{refl, ap, _∙_}
 use Prim.Native.Nat.{ℕ, _+_}
 use lib.ListN.{getD}
 use Rattle.convert.specs.Code.Raw.{writing, putSeven, loneWords}
-use Rattle.convert.proofs.SevenLaws.{op-put}
+use Rattle.convert.proofs.SevenLaws.{op-put, lone-put}
 use Rattle.convert.proofs.ReadyLaws.{read-lone, read-doubly}
 use Rattle.convert.proofs.Arms.{no-record, lone-record, seven-record}
 use borrow.Author.Needs.{needs}
 use Rattle.convert.proofs.write.write_record.Statement.{statement}
 use Rattle.convert.proofs.write.write_record.Tie as tie
 
-add-put-lone : tie.Need-add-put-lone
-add-put-lone c = let q = read-lone (c .before .before .before .before .before .args .kind) (c .before .match .keys1) (c .before .before .before .before .before .pre) in omega (arith, q)
+first-word-requires : tie.Need-first-word-requires
+first-word-requires c κs = search needs
 
-mul-put-lone : tie.Need-mul-put-lone
-mul-put-lone c = let q = read-lone (c .before .before .before .before .before .args .kind) (c .before .match .keys1) (c .before .before .before .before .before .pre) in omega (arith, q)
+add-put-operation : tie.Need-add-put-operation
+add-put-operation c = let q = read-lone (c .before .before .before .before .before .before .args .kind) (c .before .before .match .keys1) (c .before .before .before .before .before .before .pre) in omega (arith, q)
 
-shared-slice-read-put-lone : tie.Need-shared-slice-read-put-lone
-shared-slice-read-put-lone c = let q = read-lone (c .before .before .before .before .before .before .args .kind) (c .before .before .match .keys1) (c .before .before .before .before .before .before .pre) in omega (arith, q)
+mul-put-operation : tie.Need-mul-put-operation
+mul-put-operation c = let q = read-lone (c .before .before .before .before .before .before .args .kind) (c .before .before .match .keys1) (c .before .before .before .before .before .before .pre) in omega (arith, q)
 
-put-lone-requires : tie.Need-put-lone-requires
-put-lone-requires c κs = let q = read-lone (c .before .before .before .before .before .before .args .kind) (c .before .before .match .keys1) (c .before .before .before .before .before .before .pre) in (q .fewer, q .place, q .bit)
+shared-slice-read-put-operation : tie.Need-shared-slice-read-put-operation
+shared-slice-read-put-operation c =
+    let the-match = c .before .before .before .match in
+    let args = c .before .before .before .before .before .before .before .args in
+    let pre = c .before .before .before .before .before .before .before .pre in
+    let q = read-lone (args .kind) (the-match .keys1) pre in omega (arith, q)
+
+given-word-requires : tie.Need-given-word-requires
+given-word-requires c κs = search needs
+
+bit-word-requires : tie.Need-bit-word-requires
+bit-word-requires c κs =
+    let the-match = c .before .before .before .before .match in
+    let args = c .before .before .before .before .before .before .before .before .args in
+    let pre = c .before .before .before .before .before .before .before .before .pre in
+    let q = read-lone (args .kind) (the-match .keys1) pre in q .bit
+
+put-operation-requires : tie.Need-put-operation-requires
+put-operation-requires c κs = search needs
+
+add-made : tie.Need-add-made
+add-made c =
+    let the-match = c .before .before .before .before .before .before .before .before .before .match in
+    let args = c .before .before .before .before .before .before .before .before .before .before .before .before .before .args in
+    let pre = c .before .before .before .before .before .before .before .before .before .before .before .before .before .pre in
+    let q = read-lone (args .kind) (the-match .keys1) pre in omega (arith, q)
+
+made-requires : tie.Need-made-requires
+made-requires c κs = search needs
 
 add-put-seven : tie.Need-add-put-seven
 add-put-seven c = let q = read-doubly (c .before .before .before .before .before .before .args .kind) (c .before .before .match .keys2) (c .before .before .before .before .before .before .pre) in omega (arith, q)
@@ -39,31 +66,64 @@ mul-put-seven-2 : tie.Need-mul-put-seven-2
 mul-put-seven-2 c = let q = read-doubly (c .before .before .before .before .before .before .before .args .kind) (c .before .before .before .match .keys2) (c .before .before .before .before .before .before .before .pre) in omega (arith, q)
 
 shared-slice-read-put-seven-2 : tie.Need-shared-slice-read-put-seven-2
-shared-slice-read-put-seven-2 c = let q = read-doubly (c .before .before .before .before .before .before .before .before .args .kind) (c .before .before .before .before .match .keys2) (c .before .before .before .before .before .before .before .before .pre) in omega (arith, q)
+shared-slice-read-put-seven-2 c =
+    let the-match = c .before .before .before .before .match in
+    let args = c .before .before .before .before .before .before .before .before .args in
+    let pre = c .before .before .before .before .before .before .before .before .pre in
+    let q = read-doubly (args .kind) (the-match .keys2) pre in omega (arith, q)
 
 last-place-requires : tie.Need-last-place-requires
-last-place-requires c κs = let q = read-doubly (c .before .before .before .before .before .before .before .before .args .kind) (c .before .before .before .before .match .keys2) (c .before .before .before .before .before .before .before .before .pre) in (q .operand, q .qubits)
+last-place-requires c κs =
+    let the-match = c .before .before .before .before .match in
+    let args = c .before .before .before .before .before .before .before .before .args in
+    let pre = c .before .before .before .before .before .before .before .before .pre in
+    let q = read-doubly (args .kind) (the-match .keys2) pre in (q .operand, q .qubits)
 
 mul-put-seven-3 : tie.Need-mul-put-seven-3
-mul-put-seven-3 c = let q = read-doubly (c .before .before .before .before .before .before .before .before .before .args .kind) (c .before .before .before .before .before .match .keys2) (c .before .before .before .before .before .before .before .before .before .pre) in omega (arith, q .third, q .first, q .qubits, c .last-place .ensures)
+mul-put-seven-3 c =
+    let the-match = c .before .before .before .before .before .match in
+    let args = c .before .before .before .before .before .before .before .before .before .args in
+    let pre = c .before .before .before .before .before .before .before .before .before .pre in
+    let q = read-doubly (args .kind) (the-match .keys2) pre in omega (arith, q .third, q .first, q .qubits, c .last-place .ensures)
 
 shared-slice-read-put-seven-3 : tie.Need-shared-slice-read-put-seven-3
-shared-slice-read-put-seven-3 c = let q = read-doubly (c .before .before .before .before .before .before .before .before .before .before .args .kind) (c .before .before .before .before .before .before .match .keys2) (c .before .before .before .before .before .before .before .before .before .before .pre) in omega (arith, q .third, q .first, q .qubits, c .before .last-place .ensures)
+shared-slice-read-put-seven-3 c =
+    let last-place = c .before .last-place in
+    let the-match = c .before .before .before .before .before .before .match in
+    let args = c .before .before .before .before .before .before .before .before .before .before .args in
+    let pre = c .before .before .before .before .before .before .before .before .before .before .pre in
+    let q = read-doubly (args .kind) (the-match .keys2) pre in omega (arith, q .third, q .first, q .qubits, last-place .ensures)
 
 put-seven-requires : tie.Need-put-seven-requires
-put-seven-requires c κs = let q = read-doubly (c .before .before .before .before .before .before .before .before .before .before .args .kind) (c .before .before .before .before .before .before .match .keys2) (c .before .before .before .before .before .before .before .before .before .before .pre) in (q .few, q .room, q .fewer, q .place, q .small-left, q .small-right)
+put-seven-requires c κs =
+    let the-match = c .before .before .before .before .before .before .match in
+    let args = c .before .before .before .before .before .before .before .before .before .before .args in
+    let pre = c .before .before .before .before .before .before .before .before .before .before .pre in
+    let q = read-doubly (args .kind) (the-match .keys2) pre in (q .few, q .room, q .fewer, q .place, q .small-left, q .small-right)
 
 same-length : tie.Need-same-length
 same-length c = search needs
 
 returns : tie.Need-returns
 returns c =
-    let a = c .before .before .before .before .before .before .before .before .before .args in
-    let e = c .before .before .put-lone .ensures in
-    op-put (a .w .nodes) (a .nodes .now) (a .w .operations) (a .operations .now) (loneWords (a .kind) (getD (a .frame .now) (a .n + a .a) 0) (a .given) (a .b))
-    (a .w .operations + 1) _ _ _ (refl, e .2) (e .0, e .1)
-    ∙ lone-record (a .n) (a .given) (a .kind) (a .a) (a .b) (a .d) (a .frame .now) (writing (a .w .nodes) (a .nodes .now) (a .w .operations) (a .operations .now))
-    (c .before .before .before .before .before .match .keys1)
+    let put-operation = c .before .before .before .before .put-operation in
+    let bit-word = c .before .before .before .before .before .bit-word in
+    let given-word = c .before .before .before .before .before .before .given-word in
+    let first-word = c .before .before .before .before .before .before .before .before .first-word in
+    let the-match = c .before .before .before .before .before .before .before .before .before .before .match in
+    let args = c .before .before .before .before .before .before .before .before .before .before .before .before .before .before .args in
+    let pre = c .before .before .before .before .before .before .before .before .before .before .before .before .before .before .pre in
+    let a = args in
+    let axis = getD (a .frame .now) (a .n + a .a) 0 in
+    let q = read-lone (a .kind) (the-match .keys1) pre in
+    let put = lone-put (a .kind) axis (a .given) (a .b) (a .w .operations) (a .operations .now) _ _ _ _ (first-word .ensures) (given-word .ensures)
+    (bit-word .ensures) (q .place) (put-operation .ensures) in
+    op-put (a .w .nodes) (a .nodes .now) (a .w .operations) (a .operations .now) (loneWords (a .kind) axis (a .given) (a .b))
+    (a .w .operations + 1) _ _ _ (refl, put)
+    (c .made .ensures)
+    ∙ lone-record (a .n) (a .given) (a .kind) (a .a) (a .b) (a .d) (a .frame .now) (writing (a .w .nodes) (a .nodes .now) (a .w .operations)
+    (a .operations .now))
+    (the-match .keys1)
 
 same-length-2 : tie.Need-same-length-2
 same-length-2 c = search needs
@@ -86,10 +146,15 @@ pub write-record-spec : {M : Type 1} → statement M
 write-record-spec =
     tie.close
     (tie.spec
-    add-put-lone
-    mul-put-lone
-    shared-slice-read-put-lone
-    put-lone-requires
+    first-word-requires
+    add-put-operation
+    mul-put-operation
+    shared-slice-read-put-operation
+    given-word-requires
+    bit-word-requires
+    put-operation-requires
+    add-made
+    made-requires
     add-put-seven
     mul-put-seven
     shared-slice-read-put-seven
