@@ -86,7 +86,7 @@ AllBorne cap [] = Unit {0}
 AllBorne cap (e ∷ es) = Borne cap e × AllBorne cap es
 
 axes-light : (cap n : ℕ) (e : Elementary) → Borne cap e → UpTo cap (axes n [] e)
-unfolding axes paper.products back
+unfolding axes paper.gateProducts back
 axes-light cap n (clifford g) h = tt
 axes-light cap n (elT q) h = (omega (arith, weight-single n q Z), tt)
 axes-light cap n (elTdg q) h = (omega (arith, weight-single n q Z), tt)
