@@ -30,7 +30,7 @@ use Rattle.arena.proofs.Running
 use Rattle.arena.proofs.Ending
 use Rattle.arena.proofs.Reports
 use Rattle.arena.proofs.Charging
-use Rattle.arena.proofs.PoolSafe
+use Rattle.arena.proofs.chains.Safe
 use Rattle.arena.specs.Limits.{capOf}
 
 -- ---- demand 1, for the calls of this crate
@@ -82,33 +82,33 @@ new-images = Answers.new-answer
 -- no record is in two chains
 pub pool-never-shared : (words : ℕ) (vs : List World) (w : World) → Run words vs w → (c d : Held) (some others : List Held) (r : ℕ)
     → Without c (w .chains) some → Without d some others → InChain w c r → InChain w d r → ⊥
-pool-never-shared = PoolSafe.never-shared
+pool-never-shared = Safe.never-shared
 
 -- nor in a chain and the free list
 pub pool-never-free : (words : ℕ) (vs : List World) (w : World) → Run words vs w → (c : Held) (others : List Held) (r : ℕ)
     → Without c (w .chains) others → InChain w c r → InFree w r → ⊥
-pool-never-free = PoolSafe.never-free
+pool-never-free = Safe.never-free
 
 -- nor twice in a chain, nor twice in the free list
 pub pool-never-twice : (words : ℕ) (vs : List World) (w : World) → Run words vs w → (c : Held) (others : List Held)
     → Without c (w .chains) others → Once (w .pool) (c .head) (length (c .factors))
-pool-never-twice = PoolSafe.never-twice
+pool-never-twice = Safe.never-twice
 
 pub pool-free-once : (words : ℕ) (vs : List World) (w : World) → Run words vs w → Once (w .pool) (w .free) (w .spares)
-pool-free-once = PoolSafe.free-never-twice
+pool-free-once = Safe.free-never-twice
 
 -- a record that is held is counted, and is not record 0
 pub pool-counted : (words : ℕ) (vs : List World) (w : World) → Run words vs w → (c : Held) (others : List Held) (r : ℕ)
     → Without c (w .chains) others → InChain w c r → Lendable (w .pool) r
-pool-counted = PoolSafe.held-counted
+pool-counted = Safe.held-counted
 
 -- the records lent, less the records given back, are the factors held
 pub pool-held : (words : ℕ) (vs : List World) (w : World) (r : Run words vs w) → factorsHeld (w .chains) + backIn words vs w r ≡ lentIn words vs w r
-pool-held = PoolSafe.records-held
+pool-held = Safe.records-held
 
 -- and with the free records they are all the counted records but record 0
 pub pool-balance : (words : ℕ) (vs : List World) (w : World) → Run words vs w → w .spares + factorsHeld (w .chains) ≡ capOf words - 1
-pool-balance = PoolSafe.records-balance
+pool-balance = Safe.records-balance
 
 -- ---- what an accepted walk shows
 

@@ -20,9 +20,9 @@ use Rattle.arena.specs.PoolSteps.{Source, Copied}
 use Rattle.arena.specs.Code.Results.{Ledger, Value, Says}
 use Rattle.arena.specs.Code.WalkWords.{usesAt, withUse, valueAt, headIn, valueNamed, Marks, Rep, Takeable, TookRep}
 use Rattle.arena.proofs.Outcomes.{update-same, update-other}
-use Rattle.arena.proofs.PoolLetters.{number-power}
-use Rattle.arena.proofs.PoolParts.{chain-own, free-own, retag, retag-same, retag-other, retag-spare}
-use Rattle.arena.proofs.ScratchWords.{length-use, use-same, use-other, use-value, uses-set}
+use Rattle.arena.proofs.chains.Letters.{number-power}
+use Rattle.arena.proofs.chains.Parts.{chain-own, free-own, retag, retag-same, retag-other, retag-spare}
+use Rattle.arena.proofs.steps.Scratch.{length-use, use-same, use-other, use-value, uses-set}
 
 -- ---- phases as numbers
 

@@ -16,11 +16,11 @@ use Rattle.pauli.specs.declared.pauli.NumberProduct.{NumberProduct}
 use Rattle.pauli.specs.Letters.{numberProduct, power, phaseOf, phaseNumber, pauliOf, pauliNumber, _⊕_, _·_}
 use Rattle.arena.specs.Types.{Phase, One}
 use Rattle.arena.specs.Sparse.{Factor, Sparse, factor, merge, withFactor, turned, together}
-use Rattle.arena.proofs.PoolLetters.{of-number, number-power, power-one, power-times, together-none, together-some, third-some}
+use Rattle.arena.proofs.chains.Letters.{of-number, number-power, power-one, power-times, together-none, together-some, third-some}
 use Rattle.arena.specs.Pool.{loose, spare, held, Who, nextAt, qubitAt, letterAt, Lendable, Holds, Chain, Free}
 use Rattle.arena.specs.PoolSteps.{Operands, Multiplied}
-use Rattle.arena.proofs.PoolLaws.{Step, put, upd, upd-same, upd-other, no-mix, one-tag, counted-step, chain-step, free-step, Made, onto}
-use Rattle.arena.proofs.PoolParts.{Job, Parts, swap, of-loose, append, push, detach, close, chain-lower, chain-own, free-own, retag, retag-same, retag-other, retag-spare, made-put, made-own, last-held, last-room, LastHeld, free-low, chain-low, last-low, last-fits}
+use Rattle.arena.proofs.chains.Laws.{Step, put, upd, upd-same, upd-other, no-mix, one-tag, counted-step, chain-step, free-step, Made, onto}
+use Rattle.arena.proofs.chains.Parts.{Job, Parts, swap, of-loose, append, push, detach, close, chain-lower, chain-own, free-own, retag, retag-same, retag-other, retag-spare, made-put, made-own, last-held, last-room, LastHeld, free-low, chain-low, last-low, last-fits}
 use Rattle.arena.specs.Code.Turns.{attached, headOf, Meeting, keptTurn, third, turnBy, metTurn, metPool, mergeTurn, mergePool, Turn}
 
 -- ---- the merge, one factor at a time
@@ -468,16 +468,16 @@ module _ {p₀ : List ℕ} {free₀ a₀ na b₀ nb : ℕ} (g : Operands p₀ fr
 
 -- what the code answers at each way out of a turn
 module _ (p : List ℕ) (free tail a b : ℕ) where
-  module _ {x y la lb : ℕ} {m : NumberProduct} (x-is : x ≡ nextAt p a) (y-is : y ≡ nextAt p b) (la-is : la ≡ letterAt p a) (lb-is : lb ≡ letterAt p b) (m-is : m ≡ numberProduct la lb) where
+  module _ {x y : ℕ} {m : NumberProduct} (x-is : x ≡ nextAt p a) (y-is : y ≡ nextAt p b) (m-is : m ≡ numberProduct (letterAt p a) (letterAt p b)) where
     letter-is′ : m .pauli ≡ third p a b
-    letter-is′ = ap (λ (r : NumberProduct). r .pauli) m-is ∙ rw (la-is, lb-is)
+    letter-is′ = ap (λ (r : NumberProduct). r .pauli) m-is
 
     turn-is′ : m .phase ≡ turnBy p a b
-    turn-is′ = ap (λ (r : NumberProduct). r .phase) m-is ∙ rw (la-is, lb-is)
+    turn-is′ = ap (λ (r : NumberProduct). r .phase) m-is
 
-    pub met-none : {p₁ p₂ : List ℕ} → m .pauli ≡ 0 → p₁ ≡ set p (3 * a) free → p₂ ≡ set p₁ (3 * b) a
+    pub met-none : {p₂ : List ℕ} → m .pauli ≡ 0 → p₂ ≡ set (set p (3 * a) free) (3 * b) a
         → (record { free = b; a = x; b = y; tail = tail; made = 0; used = 2; phase = 0 } ≡ metTurn p tail a b) × (p₂ ≡ metPool p free tail a b)
-    met-none z e₁ e₂ = rw (eq-eqb (third p a b) 0 (sym letter-is′ ∙ z)) (rw (x-is, y-is), rw (e₂, e₁))
+    met-none z e = rw (eq-eqb (third p a b) 0 (sym letter-is′ ∙ z)) (rw (x-is, y-is), e)
 
     pub met-some : {p₁ p₂ p₃ : List ℕ} {t : ℕ} → (m .pauli ≡ 0 → ⊥) → p₁ ≡ set p (3 * a + 2) (m .pauli) → p₂ ≡ set p₁ (3 * tail) a → p₃ ≡ set p₂ (3 * b) free → t ≡ m .phase
         → (record { free = b; a = x; b = y; tail = a; made = 1; used = 2; phase = t } ≡ metTurn p tail a b) × (p₃ ≡ metPool p free tail a b)

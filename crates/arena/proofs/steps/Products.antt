@@ -25,10 +25,10 @@ use Rattle.arena.proofs.Bounds.{size-few}
 use Rattle.arena.proofs.Uses.{edge-same}
 use Rattle.arena.proofs.Invariant.{owes}
 use Rattle.arena.proofs.Evaluating.{Took, take-post}
-use Rattle.arena.proofs.PoolParts.{chain-low}
-use Rattle.arena.proofs.ScratchWords.{valueWord-head, marks-word}
-use Rattle.arena.proofs.Saying.{said-fine, says-as, refuses-on}
-use Rattle.arena.proofs.WalkMoves.{word-sum, finish-rep}
+use Rattle.arena.proofs.chains.Parts.{chain-low}
+use Rattle.arena.proofs.steps.Scratch.{valueWord-head, marks-word}
+use Rattle.arena.proofs.steps.Saying.{said-fine, says-as, refuses-on}
+use Rattle.arena.proofs.steps.Moves.{word-sum, finish-rep}
 
 -- ---- two uses taken
 

@@ -24,7 +24,7 @@ use Rattle.arena.specs.Code.WalkWords.{RootReady, Showing, ShowReady, by
 use Rattle.arena.specs.Expansion.{expansionOf, ExpansionMade, isMalformed, anyMalformed, badNodes, lettersLeft, scratchLeft, expandCheck, hermitianCheck, cleared}
 use Rattle.arena.specs.Code.Roots.{Fit}
 use Rattle.arena.proofs.Accepted.{passed-before, test-passed, left-false, right-false, Sound, sound, own}
-use Rattle.arena.proofs.Saying.{said-fine, said-refused}
+use Rattle.arena.proofs.steps.Saying.{said-fine, said-refused}
 use Rattle.arena.specs.Limits.{capOf}
 
 -- ---- what passed the checks

@@ -13,8 +13,8 @@ use Rattle.arena.specs.Sparse.{Factor, Sparse, withFactor, withLetter, t
 use Rattle.arena.specs.Pool.{Who, spare, Lendable, Chain, Free}
 use Rattle.arena.specs.PoolSteps.{Lender, Source, Holding, Operands}
 use Rattle.arena.specs.PoolRuns.{Held, World, factorsHeld, Fresh, Without, Singles, Copies, GivesBack, Multiplies, Does, singles, copies, givesBack, multiplies, Begins, Run, lentBy, backBy, lentIn, backIn, Once, InChain, InFree}
-use Rattle.arena.proofs.PoolApart
-use Rattle.arena.proofs.PoolApart.{apart, not-free, chain-once, free-once, chain-counted}
+use Rattle.arena.proofs.chains.Apart
+use Rattle.arena.proofs.chains.Apart.{apart, not-free, chain-once, free-once, chain-counted}
 use Rattle.arena.specs.Limits.{capOf}
 
 -- every chain stands
@@ -321,4 +321,4 @@ held-counted words vs w run c others r a =
 pub free-counted : (words : ℕ) (vs : List World) (w : World) → Run words vs w → (r : ℕ) → InFree w r → Lendable (w .pool) r
 free-counted words vs w run r =
     let s = run-sound words vs w run in
-    PoolApart.free-counted (w .pool) (s .who) (w .free) (w .spares) r (s .freed)
+    Apart.free-counted (w .pool) (s .who) (w .free) (w .spares) r (s .freed)

@@ -14,7 +14,7 @@ use Rattle.arena.specs.Code.WalkWords.{usesAt, withUse, ValuesKept, visi
 use Rattle.arena.proofs.Fitting.{Fits, node-fits}
 use Rattle.arena.proofs.Uses.{plus-edge, child-edges}
 use Rattle.arena.proofs.Bounds.{edge-few, edges-few}
-use Rattle.arena.proofs.ScratchWords.{length-use, use-same, use-other, values-same, values-then, node-product, node-single, node-blank}
+use Rattle.arena.proofs.steps.Scratch.{length-use, use-same, use-other, values-same, values-then, node-product, node-single, node-blank}
 
 pub uses-plus : (count : ℕ) (l l′ : List ℕ) (u : ℕ → ℕ) (i : ℕ) → i < count → 4 * count ≤ length l → Uses count l u → l′ ≡ withUse l i (usesAt l i + 1) → Uses count l′ (plusOne i u)
 uses-plus count l l′ u i li long h e j lj = rw e (go (eqb j i) refl)

@@ -7,7 +7,7 @@ use lib.ListN.{length, set, length-set}
 use lib.Seq.{getD-set-same}
 use Rattle.arena.specs.Pool.{spare, Lendable, Free}
 use Rattle.arena.specs.PoolSteps.{AllFree}
-use Rattle.arena.proofs.PoolLaws.{Step, put, one-place, counted-step, free-step}
+use Rattle.arena.proofs.chains.Laws.{Step, put, one-place, counted-step, free-step}
 use Rattle.arena.specs.Limits.{capOf}
 
 -- the records below k are threaded: record r is the r-th of the free list from its end

@@ -12,8 +12,8 @@ use Rattle.arena.specs.Types.{I}
 use Rattle.arena.specs.Sparse.{Factor}
 use Rattle.arena.specs.Pool.{loose, held, Who, nextAt, qubitAt, letterAt, Lendable, Holds, Chain, Free}
 use Rattle.arena.specs.PoolSteps.{Lender, Lent, Source, Copied, Holding, GivenBack}
-use Rattle.arena.proofs.PoolLaws.{Step, put, upd, upd-same, give, both, no-mix, one-tag, counted-step, chain-step, free-step, onto}
-use Rattle.arena.proofs.PoolParts.{Job, Parts, of-loose, append, push, pop, detach, advance, close, made-put, last-held, last-room, LastHeld, free-low, last-low, last-fits}
+use Rattle.arena.proofs.chains.Laws.{Step, put, upd, upd-same, give, both, no-mix, one-tag, counted-step, chain-step, free-step, onto}
+use Rattle.arena.proofs.chains.Parts.{Job, Parts, of-loose, append, push, pop, detach, advance, close, made-put, last-held, last-room, LastHeld, free-low, last-low, last-fits}
 use Rattle.arena.specs.Code.Turns.{attached, headOf}
 
 -- a record whose qubit and letter are written
@@ -186,12 +186,11 @@ module _ {p₀ : List ℕ} {free₀ a₀ count : ℕ} (g : Source p₀ free₀ a
           enough = omega arith;
         }
 
-    pub copy-turn : {x y : ℕ} {p₁ p₂ p₃ : List ℕ} {q l : ℕ} → Copying g p free a tail left → (left ≡ 0 → ⊥)
-        → q ≡ qubitAt p a → l ≡ letterAt p a → x ≡ nextAt p free
-        → p₁ ≡ set p (3 * free + 1) q → p₂ ≡ set p₁ (3 * free + 2) l → p₃ ≡ set p₂ (3 * tail) free → y ≡ nextAt p₃ a
+    pub copy-turn : {x y : ℕ} {p₂ p₃ : List ℕ} → Copying g p free a tail left → (left ≡ 0 → ⊥) → x ≡ nextAt p free
+        → p₂ ≡ set (set p (3 * free + 1) (qubitAt p a)) (3 * free + 2) (letterAt p a) → p₃ ≡ set p₂ (3 * tail) free → y ≡ nextAt p₃ a
         → Copying g p₃ x y free (left - 1)
-    copy-turn s ne q-is l-is x-is e₁ e₂ e₃ y-is =
-        rw (y-is, x-is, e₃, e₂, e₁, q-is, l-is) (turn-of (s .who) (s .lo) (s .fs) (s .rs) (s .n) (s .parts) (s .factors-is) (s .left-is) (s .enough) ne)
+    copy-turn s ne x-is e₂ e₃ y-is =
+        rw (y-is, x-is, e₃, e₂) (turn-of (s .who) (s .lo) (s .fs) (s .rs) (s .n) (s .parts) (s .factors-is) (s .left-is) (s .enough) ne)
 
     pub copy-tail-low : Copying g p free a tail left → tail < 65536
     copy-tail-low s = last-low p (s .who) (g .tr) (s .lo) tail (s .rs) (s .parts .made)

@@ -8,7 +8,7 @@ use lib.ListN.{length}
 use Rattle.arena.specs.Sparse.{Factor}
 use Rattle.arena.specs.Pool.{spare, held, Who, nextAt, Lendable, Chain, Free}
 use Rattle.arena.specs.PoolRuns.{Reached, Once}
-use Rattle.arena.proofs.PoolLaws.{no-mix, one-tag, one-qubit, one-place}
+use Rattle.arena.proofs.chains.Laws.{no-mix, one-tag, one-qubit, one-place}
 
 pub record HeldFrom (who : Who) (t lo r : ℕ) : Type 0 where
   pub at : ℕ

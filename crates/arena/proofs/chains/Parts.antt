@@ -14,7 +14,7 @@ use Rattle.pauli.specs.Letters.{pauliNumber}
 use Rattle.arena.specs.Types.{I}
 use Rattle.arena.specs.Sparse.{Factor}
 use Rattle.arena.specs.Pool.{Owner, loose, spare, held, Who, nextAt, qubitAt, letterAt, Lendable, Holds, Chain, Free}
-use Rattle.arena.proofs.PoolLaws.{Step, put, upd, upd-same, give, both, no-mix, not-held, not-spare, one-tag, one-qubit, one-place, counted-step, holds-step, chain-step, free-step, last-not, made-step, Made, onto}
+use Rattle.arena.proofs.chains.Laws.{Step, put, upd, upd-same, give, both, no-mix, not-held, not-spare, one-tag, one-qubit, one-place, counted-step, holds-step, chain-step, free-step, last-not, made-step, Made, onto}
 
 -- ---- a chain in the making
 

@@ -26,12 +26,12 @@ use Rattle.arena.proofs.Fitting.{node-fits}
 use Rattle.arena.proofs.Uses.{plus-edge}
 use Rattle.arena.proofs.Bounds.{roots-few}
 use Rattle.arena.proofs.Meaning.{root-used, release-inv}
-use Rattle.arena.proofs.ScratchWords.{length-use, use-value}
-use Rattle.arena.proofs.UsesInWords.{uses-plus}
-use Rattle.arena.proofs.Saying.{said-fine, said-refused, refuses-on, says-fine}
-use Rattle.arena.proofs.RootWalks.{zero-at, show-first, releasable}
+use Rattle.arena.proofs.steps.Scratch.{length-use, use-value}
+use Rattle.arena.proofs.steps.Counting.{uses-plus}
+use Rattle.arena.proofs.steps.Saying.{said-fine, said-refused, refuses-on, says-fine}
+use Rattle.arena.proofs.steps.Roots.{zero-at, show-first, releasable}
 use Rattle.arena.proofs.Accepted.{passed-before, test-passed, left-false, right-false, own}
-use Rattle.arena.proofs.ReaderWalks.{Walkable, walkable}
+use Rattle.arena.proofs.steps.Readers.{Walkable, walkable}
 use Rattle.arena.specs.Limits.{capOf}
 
 -- ---- the axes from the front

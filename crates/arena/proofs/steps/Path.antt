@@ -16,10 +16,10 @@ use Rattle.arena.specs.Pool.{Who}
 use Rattle.arena.specs.Code.Results.{Ledger, Evaluated, EvaluatedDone, EvaluatedRefused, evaluatedOut, steppedOut, upFrom, Agrees, Says}
 use Rattle.arena.specs.Code.WalkWords.{scratchAt, valueAt, valueWord, Marks, LinksKept, Linked, Trail, Rep, Stands, Combining, Making, factorMade, Topped, Branched, Landed}
 use Rattle.arena.proofs.Fitting.{Fits, node-fits}
-use Rattle.arena.proofs.Links.{Rises, linked-push}
-use Rattle.arena.proofs.ScratchWords.{uses-set, marks-word, marked, unmarked}
-use Rattle.arena.proofs.Saying.{says-as, says-fine}
-use Rattle.arena.proofs.WalkMoves.{finish-rep}
+use Rattle.arena.proofs.steps.Links.{Rises, linked-push}
+use Rattle.arena.proofs.steps.Scratch.{uses-set, marks-word, marked, unmarked}
+use Rattle.arena.proofs.steps.Saying.{says-as, says-fine}
+use Rattle.arena.proofs.steps.Moves.{finish-rep}
 
 -- ---- links
 

@@ -17,9 +17,9 @@ use Rattle.arena.proofs.Outcomes.{post-fine, bind-fine}
 use Rattle.arena.proofs.Fitting.{node-fits}
 use Rattle.arena.proofs.Stepping.{resume, onward, resume-step, eval-done}
 use Rattle.arena.proofs.Running.{Stepped, left as stepsLeft, undone, undone-few, step-trail, Sound, step-inv}
-use Rattle.arena.proofs.ScratchWords.{marked, unmarked}
-use Rattle.arena.proofs.Saying.{said-fine, said-refused, says-fine, says-refused}
-use Rattle.arena.proofs.PathSteps.{link-rep}
+use Rattle.arena.proofs.steps.Scratch.{marked, unmarked}
+use Rattle.arena.proofs.steps.Saying.{said-fine, said-refused, says-fine, says-refused}
+use Rattle.arena.proofs.steps.Path.{link-rep}
 
 -- ---- no path takes more steps than the budget
 

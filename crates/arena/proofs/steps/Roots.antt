@@ -25,11 +25,11 @@ use Rattle.arena.proofs.Sums.{sum-at}
 use Rattle.arena.proofs.Evaluating.{Good, eval-post}
 use Rattle.arena.proofs.Invariant.{inv-worked}
 use Rattle.arena.proofs.Meaning.{root-used, begin-inv}
-use Rattle.arena.proofs.PoolLetters.{number-power}
-use Rattle.arena.proofs.ScratchWords.{length-use, use-value}
-use Rattle.arena.proofs.UsesInWords.{uses-plus}
-use Rattle.arena.proofs.Saying.{said-fine, says-as, says-on, refuses-on, says-fine, says-refused}
-use Rattle.arena.proofs.WalkMoves.{word-sum, less-rep}
+use Rattle.arena.proofs.chains.Letters.{number-power}
+use Rattle.arena.proofs.steps.Scratch.{length-use, use-value}
+use Rattle.arena.proofs.steps.Counting.{uses-plus}
+use Rattle.arena.proofs.steps.Saying.{said-fine, says-as, says-on, refuses-on, says-fine, says-refused}
+use Rattle.arena.proofs.steps.Moves.{word-sum, less-rep}
 use Rattle.arena.specs.Limits.{capOf}
 
 pub zero-at : (n k : ℕ) → _≡_ {A = ℕ} (getD (replicate n 0) k 0) 0
