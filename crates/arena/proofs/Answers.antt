@@ -16,7 +16,7 @@ use Rattle.arena.specs.Store.{Header}
 use Rattle.arena.specs.Builder.{Step, NodesAndFrame, decided, overlay, startNodes, startFrame, newHeader, withNodes, nodePut, refTo, nodesFor, Created, CreatedMade, CreatedRefused, Singled, SingledMade, SingledRefused, Multiplied, MultipliedMade, MultipliedRefused, newCheck, newStep, singleCheck, singleStep, productCheck, productStep}
 use Rattle.arena.proofs.Images.{put-older, single-image, product-image, new-images}
 use Rattle.arena.proofs.Accepted.{fits-single, fits-product}
-use Rattle.arena.proofs.Reading.{image-older}
+use Rattle.arena.proofs.NodeRows.{image-older}
 
 zero-is-one : _≡_ {A = ℕ} 0 1 → ⊥
 zero-is-one z = omega arith

@@ -19,7 +19,7 @@ use Rattle.arena.specs.Store.{Header}
 use Rattle.arena.specs.Builder.{overlay, qubitNodes, startNodes, imageWords, startFrame, nodePut, nodesFor, singleCheck, productCheck}
 use Rattle.arena.proofs.Accepted.{FitsSingle, fits-single, FitsProduct, fits-product}
 use Rattle.arena.proofs.Overlay.{length-qubitNodes, length-imageWords}
-use Rattle.arena.proofs.Reading.{image-older, image-of-node, single-decodes, product-decodes}
+use Rattle.arena.proofs.NodeRows.{image-older, image-of-node, single-decodes, product-decodes}
 
 -- ---- a node put after k others
 

@@ -20,14 +20,14 @@ use Rattle.arena.specs.Stats.{Within, Refused, workAfter, chargeAnswer}
 use Rattle.arena.specs.Calls.{Call, Slices, checked, after, KeptSlices}
 use Rattle.arena.specs.Pool.{Lendable}
 use Rattle.arena.specs.PoolRuns.{Held, World, factorsHeld, Without, Run, lentIn, backIn, Once, InChain, InFree}
-use Rattle.arena.proofs.Reading
+use Rattle.arena.proofs.NodeRows
 use Rattle.arena.proofs.Answers
 use Rattle.arena.proofs.Spans
-use Rattle.arena.proofs.Meaning
-use Rattle.arena.proofs.Ending
-use Rattle.arena.proofs.Reports
-use Rattle.arena.proofs.Charging
-use Rattle.arena.proofs.PoolSafe
+use Rattle.arena.proofs.walk.Means
+use Rattle.arena.proofs.walk.Ends
+use Rattle.arena.proofs.walk.Reports
+use Rattle.arena.proofs.walk.Charges
+use Rattle.arena.proofs.chains.Safe
 use Rattle.arena.specs.Limits.{capOf}
 
 -- ---- demand 1, for the calls of this crate
@@ -43,7 +43,7 @@ accepted-used-only = Spans.accepted-used-only
 -- ---- appending nodes changes no older image
 
 pub image-older : (n k m : ℕ) (ws vs : List ℕ) (w : ℕ) → nodeIn w < k → k ≤ m → take (2 * k) ws ≡ take (2 * k) vs → image n m vs w ≡ image n k ws w
-image-older = Reading.image-older
+image-older = NodeRows.image-older
 
 pub single-older : (h : Header) (ws : List ℕ) (q : ℕ) (a : Pauli) (h′ : Header) (x : PauliAxis) → singleStep h ws q a .answer ≡ SingledMade h′ x
     → (w : ℕ) → nodeIn w < h .nodes → image (h′ .qubits) (h′ .nodes) (singleStep h ws q a .words) w ≡ image (h .qubits) (h .nodes) ws w
@@ -67,7 +67,7 @@ product-image = Answers.product-answer
 
 -- a phase in front of a word is in front of its image
 pub scaled-image : (n k : ℕ) (words : List ℕ) (p : Phase) (w : ℕ) → image n k words (scaledWord p w) ≡ scaled p (image n k words w)
-scaled-image = Reading.image-scaled
+scaled-image = NodeRows.image-scaled
 
 -- the frame words of a new circuit stand for the rows of the plain table's start
 pub new-images : (qubits cbits owner : ℕ) (nodes frame : List ℕ) (h : Header) → newStep qubits cbits owner nodes frame .answer ≡ CreatedMade h
@@ -79,54 +79,54 @@ new-images = Answers.new-answer
 -- no record is in two chains
 pub pool-never-shared : (words : ℕ) (vs : List World) (w : World) → Run words vs w → (c d : Held) (some others : List Held) (r : ℕ)
     → Without c (w .chains) some → Without d some others → InChain w c r → InChain w d r → ⊥
-pool-never-shared = PoolSafe.never-shared
+pool-never-shared = Safe.never-shared
 
 -- nor in a chain and the free list
 pub pool-never-free : (words : ℕ) (vs : List World) (w : World) → Run words vs w → (c : Held) (others : List Held) (r : ℕ)
     → Without c (w .chains) others → InChain w c r → InFree w r → ⊥
-pool-never-free = PoolSafe.never-free
+pool-never-free = Safe.never-free
 
 -- nor twice in a chain, nor twice in the free list
 pub pool-never-twice : (words : ℕ) (vs : List World) (w : World) → Run words vs w → (c : Held) (others : List Held)
     → Without c (w .chains) others → Once (w .pool) (c .head) (length (c .factors))
-pool-never-twice = PoolSafe.never-twice
+pool-never-twice = Safe.never-twice
 
 pub pool-free-once : (words : ℕ) (vs : List World) (w : World) → Run words vs w → Once (w .pool) (w .free) (w .spares)
-pool-free-once = PoolSafe.free-never-twice
+pool-free-once = Safe.free-never-twice
 
 -- a record that is held is counted, and is not record 0
 pub pool-counted : (words : ℕ) (vs : List World) (w : World) → Run words vs w → (c : Held) (others : List Held) (r : ℕ)
     → Without c (w .chains) others → InChain w c r → Lendable (w .pool) r
-pool-counted = PoolSafe.held-counted
+pool-counted = Safe.held-counted
 
 -- the records lent, less the records given back, are the factors held
 pub pool-held : (words : ℕ) (vs : List World) (w : World) (r : Run words vs w) → factorsHeld (w .chains) + backIn words vs w r ≡ lentIn words vs w r
-pool-held = PoolSafe.records-held
+pool-held = Safe.records-held
 
 -- and with the free records they are all the counted records but record 0
 pub pool-balance : (words : ℕ) (vs : List World) (w : World) → Run words vs w → w .spares + factorsHeld (w .chains) ≡ capOf words - 1
-pool-balance = PoolSafe.records-balance
+pool-balance = Safe.records-balance
 
 -- ---- what an accepted walk shows
 
 -- at each root the root's image
 pub walk-means : (limit room n count : ℕ) (words roots : List ℕ) (a : Answer) → Named count roots → walk limit room n count words roots ≡ fine a
     → map (dense n) (a .shown) ≡ map (image n count words) roots
-walk-means = Meaning.walk-means
+walk-means = Means.walk-means
 
 -- with as many factors as the image has letters other than I
 pub walk-weights : (limit room n count : ℕ) (words roots : List ℕ) (a : Answer) → Named count roots → walk limit room n count words roots ≡ fine a
     → map size (a .shown) ≡ map (λ w. weight (image n count words w .letters)) roots
-walk-weights = Meaning.walk-weights
+walk-weights = Means.walk-weights
 
 -- afterwards no use is left, and no record is held
 pub walk-uses : (limit room n count : ℕ) (words roots : List ℕ) (r : Walked) → Named count roots → walkNodes limit room (nodeAt n words) count roots ≡ fine r
     → (j : ℕ) → r .state .uses j ≡ 0
-walk-uses limit room n count words roots r h e = Ending.accepted-empty limit room n count words roots r h e .no-use
+walk-uses limit room n count words roots r h e = Ends.accepted-empty limit room n count words roots r h e .no-use
 
 pub walk-held : (limit room n count : ℕ) (words roots : List ℕ) (r : Walked) → Named count roots → walkNodes limit room (nodeAt n words) count roots ≡ fine r
     → r .state .held ≡ 0
-walk-held limit room n count words roots r h e = Ending.accepted-empty limit room n count words roots r h e .no-record
+walk-held limit room n count words roots r h e = Ends.accepted-empty limit room n count words roots r h e .no-record
 
 -- ---- what is read from a walk
 
@@ -152,13 +152,13 @@ report-means = Reports.report-means
 -- answered Within, it is fine, with the work that the charge leaves
 pub charge-within : (limit amount : ℕ) (s : State) → chargeAnswer (s .work) limit amount ≡ Within
     → (t : State) × ((charge limit amount s ≡ fine t) × (t .work ≡ workAfter (s .work) limit amount))
-charge-within = Charging.within-fine
+charge-within = Charges.within-fine
 
 -- fine, it is answered Within
 pub charge-fine : (limit amount : ℕ) (s t : State) → charge limit amount s ≡ fine t
     → (chargeAnswer (s .work) limit amount ≡ Within) × (t .work ≡ workAfter (s .work) limit amount)
-charge-fine = Charging.fine-within
+charge-fine = Charges.fine-within
 
 -- a refusal is the same refusal
 pub charge-refused : (limit amount : ℕ) (s : State) (e : PbcError) → chargeAnswer (s .work) limit amount ≡ Refused e → charge limit amount s ≡ refused e
-charge-refused = Charging.refused-alike
+charge-refused = Charges.refused-alike

@@ -7,14 +7,13 @@ use crate::pool::Value;
 use crate::pool::copy;
 use crate::pool::multiply;
 use crate::pool::single;
+use crate::scratch::drop_use;
 use crate::scratch::first_word;
 use crate::scratch::link_of;
 use crate::scratch::named_value;
 use crate::scratch::second_word;
 use crate::scratch::set_link;
-use crate::scratch::set_use;
 use crate::scratch::set_value;
-use crate::scratch::use_of;
 use crate::scratch::value_of;
 ghost use mathlib.Core.Path.{_≡_};
 ghost use Prim.Native.Nat.{_+_, _*_, _-_, _≤_, _<_, min};
@@ -54,9 +53,8 @@ fn take_use(s: &mut [u32], pool: &mut [u32], limit: usize, w: usize, left: Ledge
         → Says (takeUse limit (g .room) w (g .s)) (tookOut r) (TookRep g (now (s .exit)) (now (pool .exit)))) ⌝ }
     ensures { λ _. ⌜ LinksKept (now (s .entry)) (now (s .exit)) ⌝ }
 {
-    let u = use_of(s, w / 4);
     let v = named_value(s, w);
-    set_use(s, w / 4, u - 1);
+    let u = drop_use(s, w / 4);
     if u == 1 {
         return Took::Value(v, left);
     }
@@ -188,9 +186,8 @@ fn go_up(s: &[u32], i: usize, o: Evaluated) -> Stepped
     requires { ⌜ 4 * i + 3 < length (now s) ⌝ }
     ensures { λ r. ⌜ r ≡ upFrom (scratchAt 3 (now (s .entry)) i) o ⌝ }
 {
-    let up = link_of(s, i);
     match o {
-        Evaluated::Done(left) => Stepped::At(up, left),
+        Evaluated::Done(left) => Stepped::At(link_of(s, i), left),
         Evaluated::Refused(e) => Stepped::Refused(e),
     }
 }

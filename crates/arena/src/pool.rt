@@ -1,11 +1,12 @@
 //! The factor pool: a lent slice of records of three words, next, qubit and letter, in chains that rise by qubit; a next of 0 ends a chain.
 //! Record 0 is never lent: its next is where a chain in the making starts. What a chain and the free list are: specs/Pool.antt.
 
+use pauli::NumberProduct;
 use pauli::times_numbers;
 ghost use mathlib.Core.Path.{_≡_};
 ghost use Prim.Native.Nat.{_+_, _*_, _≤_, _<_};
 ghost use lib.ListN.{length, set};
-ghost use Rattle.pauli.specs.Letters.{pauliOf};
+ghost use Rattle.pauli.specs.Letters.{pauliOf, numberProduct};
 ghost use Rattle.arena.specs.Sparse.{factor};
 ghost use Rattle.arena.specs.Pool.{nextAt, qubitAt, letterAt};
 ghost use Rattle.arena.specs.PoolSteps.{Operands, Merged, Lender, Lent, Source, Copied, Holding, GivenBack, AllFree};
@@ -168,6 +169,17 @@ pub(crate) fn single(pool: &mut [u32], free: usize, qubit: u32, letter: u32) -> 
     }
 }
 
+// The record r gets the factor of the record a.
+fn copy_factor(pool: &mut [u32], r: usize, a: usize)
+    requires { ⌜ (r < 65536) × (a < 65536) × (3 * r + 2 < length (now pool)) × (3 * a + 2 < length (now pool)) ⌝ }
+    ensures { λ _. ⌜ now (pool .exit) ≡ set (set (now (pool .entry)) (3 * r + 1) (qubitAt (now (pool .entry)) a)) (3 * r + 2) (letterAt (now (pool .entry)) a) ⌝ }
+{
+    let qubit = qubit_of(pool, a);
+    let letter = letter_of(pool, a);
+    set_qubit(pool, r, qubit);
+    set_letter(pool, r, letter);
+}
+
 // A chain of count factors is copied.
 pub(crate) fn copy(pool: &mut [u32], free0: usize, a0: usize, count: usize) -> NewChain
     requires { ⌜ Source (now pool) free0 a0 count ⌝ }
@@ -178,11 +190,8 @@ pub(crate) fn copy(pool: &mut [u32], free0: usize, a0: usize, count: usize) -> N
     let mut tail = 0;
     let mut left = count;
     while left != 0 {
-        let q = qubit_of(pool, a);
-        let l = letter_of(pool, a);
         let next = next_of(pool, free);
-        set_qubit(pool, free, q);
-        set_letter(pool, free, l);
+        copy_factor(pool, free, a);
         link(pool, tail, free);
         tail = free;
         free = next;
@@ -238,6 +247,25 @@ fn kept(free: usize, a: usize, b: usize, tail: usize) -> Turn
     }
 }
 
+// The product of the letters of the records a and b.
+fn product_of(pool: &[u32], a: usize, b: usize) -> NumberProduct
+    requires { ⌜ (a < 65536) × (b < 65536) × (3 * a + 2 < length (now pool)) × (3 * b + 2 < length (now pool)) ⌝ }
+    ensures { λ r. ⌜ r ≡ numberProduct (letterAt (now (pool .entry)) a) (letterAt (now (pool .entry)) b) ⌝ }
+{
+    let la = letter_of(pool, a);
+    let lb = letter_of(pool, b);
+    times_numbers(la, lb)
+}
+
+// The records a and b are free, b first.
+fn free_both(pool: &mut [u32], free: usize, a: usize, b: usize)
+    requires { ⌜ (free < 65536) × (a < 65536) × (b < 65536) × (3 * a < length (now pool)) × (3 * b < length (now pool)) ⌝ }
+    ensures { λ _. ⌜ now (pool .exit) ≡ set (set (now (pool .entry)) (3 * a) free) (3 * b) a ⌝ }
+{
+    link(pool, a, free);
+    link(pool, b, a);
+}
+
 // Two factors of one qubit: the record a holds their product and is the last of the chain in the making, b is free. If they cancel, both are free.
 fn meet(pool: &mut [u32], free: usize, tail: usize, a: usize, b: usize) -> Turn
     requires { ⌜ Meeting (now pool) free tail a b ⌝ }
@@ -245,13 +273,10 @@ fn meet(pool: &mut [u32], free: usize, tail: usize, a: usize, b: usize) -> Turn
 {
     let next_a = next_of(pool, a);
     let next_b = next_of(pool, b);
-    let la = letter_of(pool, a);
-    let lb = letter_of(pool, b);
-    let product = times_numbers(la, lb);
+    let product = product_of(pool, a, b);
     let letter = product.pauli;
     if letter == 0 {
-        link(pool, a, free);
-        link(pool, b, a);
+        free_both(pool, free, a, b);
         return Turn {
             free: b,
             a: next_a,

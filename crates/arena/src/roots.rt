@@ -14,10 +14,9 @@ use crate::pool::next_of;
 use crate::pool::qubit_of;
 use crate::pool::wide;
 use crate::scratch::add_use;
+use crate::scratch::drop_use;
 use crate::scratch::named_value;
 use crate::scratch::scan_uses;
-use crate::scratch::set_use;
-use crate::scratch::use_of;
 use crate::scratch::zero_all;
 ghost use mathlib.Core.Path.{_≡_};
 ghost use mathlib.Core.List.{[], _∷_, _++_};
@@ -117,8 +116,7 @@ pub(crate) fn release(s: &mut [u32], pool: &mut [u32], j: usize, v: Value, left:
     requires { ⌜ Releasable (now s) (now pool) j v left ⌝ }
     ensures { λ r. ⌜ ((g : Releasable (now (s .entry)) (now (pool .entry)) j v left) → Released g (now (s .exit)) (now (pool .exit)) r) ⌝ }
 {
-    let u = use_of(s, j);
-    set_use(s, j, u - 1);
+    let u = drop_use(s, j);
     if u != 1 {
         return left;
     }

@@ -16,14 +16,14 @@ fn joined(low: u32, high: u32) -> usize
     wide(low) + 4294967296 * wide(high)
 }
 
-pub(crate) fn use_of(s: &[u32], i: usize) -> usize
+fn use_of(s: &[u32], i: usize) -> usize
     requires { ⌜ 4 * i + 1 < length (now s) ⌝ }
     ensures { λ r. ⌜ r ≡ usesAt (now (s .entry)) i ⌝ }
 {
     joined(s[4 * i], s[4 * i + 1])
 }
 
-pub(crate) fn set_use(s: &mut [u32], i: usize, v: usize)
+fn set_use(s: &mut [u32], i: usize, v: usize)
     requires { ⌜ 4 * i + 1 < length (now s) ⌝ }
     ensures { λ _. ⌜ now (s .exit) ≡ withUse (now (s .entry)) i v ⌝ }
 {
@@ -104,6 +104,16 @@ pub(crate) fn add_use(s: &mut [u32], i: usize)
 {
     let u = use_of(s, i);
     set_use(s, i, u + 1);
+}
+
+// One use less: how many there were is returned.
+pub(crate) fn drop_use(s: &mut [u32], i: usize) -> usize
+    requires { ⌜ (4 * i + 1 < length (now s)) × (1 ≤ usesAt (now s) i) ⌝ }
+    ensures { λ r. ⌜ (r ≡ usesAt (now (s .entry)) i) × (now (s .exit) ≡ withUse (now (s .entry)) i (r - 1)) ⌝ }
+{
+    let u = use_of(s, i);
+    set_use(s, i, u - 1);
+    u
 }
 
 // A node with a use is reachable, and uses its children: 1 for such a node.

@@ -11,7 +11,7 @@ use Rattle.pauli.specs.Gates.{Gate, gateH, gateX, gateZ, gateS, gateSdg, gateCn
 use Rattle.pauli.specs.Table.{xRow, zRow, step}
 use Rattle.arena.specs.References.{scaledWord}
 use Rattle.arena.specs.Nodes.{image}
-use Rattle.arena.proofs.Reading.{image-scaled}
+use Rattle.arena.proofs.NodeRows.{image-scaled}
 use Rattle.convert.specs.Types.{Phase, One, PlusI, MinusOne, MinusI}
 use Rattle.convert.specs.Frame.{Arena, word, pushed, stored, multiplied, frameStep}
 use Rattle.convert.proofs.Nodes.{phase-small, image-append, image-product}

@@ -9,7 +9,7 @@ use Rattle.pauli.specs.Letters.{phaseNumber}
 use Rattle.pauli.specs.Rows.{_★_, scaled}
 use Rattle.arena.specs.References.{scaledWord}
 use Rattle.arena.specs.Nodes.{productWord, decode, nodeAt, rowOf, values, image}
-use Rattle.arena.proofs.Reading.{image-older, image-of-node, product-decodes, image-scaled}
+use Rattle.arena.proofs.NodeRows.{image-older, image-of-node, product-decodes, image-scaled}
 use Rattle.convert.specs.Types.{Phase, One, PlusI, MinusOne, MinusI}
 
 phase-word : (k : ℕ) (p : Phase) → 4 * k + phaseNumber p ≡ scaledWord p (4 * k)

@@ -14,7 +14,7 @@ use Rattle.arena.specs.Nodes.{decode, nodeAt, image}
 use Rattle.arena.specs.Builder.{overlay, startNodes, imageWords, startFrame}
 use Rattle.arena.proofs.Overlay.{length-qubitNodes, length-imageWords}
 use Rattle.arena.proofs.Images.{new-images}
-use Rattle.arena.proofs.Reading.{image-of-node}
+use Rattle.arena.proofs.NodeRows.{image-of-node}
 use Rattle.convert.specs.Types.{X, Z}
 use Rattle.convert.specs.Frame.{Arena, startArena}
 use Rattle.convert.specs.Words.{idX, idZ}

@@ -19,7 +19,7 @@ use Rattle.pauli.proofs.Theorems.{flush-as-gates, table-is-back, table-real, in
 use Rattle.arena.specs.Nodes.{image}
 use Rattle.arena.specs.Builder.{overlay}
 use Rattle.arena.specs.Expansion.{opAt}
-use Rattle.arena.proofs.Reading.{image-older}
+use Rattle.arena.proofs.NodeRows.{image-older}
 use Rattle.arena.proofs.Accepted.{left-false, right-false}
 use Rattle.convert.specs.Types.{PbcError, Fine, Wrong}
 use Rattle.convert.specs.Records.{KindY, KindSx, KindSwap, KindCy, Cap, records, lowerAll, kindOf, Elementary, Placed, bare, AllProper}

@@ -1,8 +1,8 @@
 -- `combine_at` meets its contract: two uses taken, and their product.
 use mathlib.Core.Path.{ap, _∙_}
 use Rattle.arena.specs.Code.Results.{tookOut}
-use Rattle.arena.proofs.ScratchWords.{links-then}
-use Rattle.arena.proofs.WalkProducts.{first, no-first, second, no-second, multiplying, combined}
+use Rattle.arena.proofs.steps.Scratch.{links-then}
+use Rattle.arena.proofs.steps.Products.{first, no-first, second, no-second, multiplying, combined}
 use borrow.Author.Needs.{needs}
 use Rattle.arena.proofs.materialize.combine_at.Statement.{statement}
 use Rattle.arena.proofs.materialize.combine_at.Tie as tie

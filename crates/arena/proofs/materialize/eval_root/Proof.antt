@@ -1,5 +1,5 @@
 -- `eval_root` meets its contract: a node that is done is left alone, another is walked to.
-use Rattle.arena.proofs.PathRuns.{root-done, started}
+use Rattle.arena.proofs.steps.Runs.{root-done, started}
 use borrow.Author.Needs.{needs}
 use Rattle.arena.proofs.materialize.eval_root.Statement.{statement}
 use Rattle.arena.proofs.materialize.eval_root.Tie as tie

@@ -6,27 +6,27 @@ use borrow.Author.Needs.{needs}
 use Rattle.arena.proofs.materialize.go_up.Statement.{statement}
 use Rattle.arena.proofs.materialize.go_up.Tie as tie
 
-link-of-requires : tie.Need-link-of-requires
-link-of-requires c κs = search needs
-
 enum-known-o : tie.Need-enum-known-o
 enum-known-o c = search needs
+
+link-of-requires : tie.Need-link-of-requires
+link-of-requires c κs = search needs
 
 enum-known-o-2 : tie.Need-enum-known-o-2
 enum-known-o-2 c = search needs
 
 returns : tie.Need-returns
-returns c = ap (λ k. SteppedAt k (c .before .o .given .0 .0)) (c .before .before .before .link-of .ensures) ∙ sym (ap (upFrom (scratchAt 3 (c .before .before .before .before .before .args .s .now) (c .before .before .before .before .before .args .i))) (c .before .o .given .1))
+returns c = ap (λ k. SteppedAt k (c .before .before .o .given .0 .0)) (c .link-of .ensures) ∙ sym (ap (upFrom (scratchAt 3 (c .before .before .before .before .before .args .s .now) (c .before .before .before .before .before .args .i))) (c .before .before .o .given .1))
 
 returns-2 : tie.Need-returns-2
-returns-2 c = sym (ap (upFrom (scratchAt 3 (c .before .before .before .before .before .args .s .now) (c .before .before .before .before .before .args .i))) (c .before .o2 .given .1))
+returns-2 c = sym (ap (upFrom (scratchAt 3 (c .before .before .before .before .args .s .now) (c .before .before .before .before .args .i))) (c .before .o2 .given .1))
 
 pub go-up-spec : {M : Type 1} → statement M
 go-up-spec =
     tie.close
     (tie.spec
-    link-of-requires
     enum-known-o
+    link-of-requires
     enum-known-o-2
     returns
     returns-2)

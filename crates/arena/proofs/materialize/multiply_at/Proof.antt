@@ -1,8 +1,8 @@
 -- `multiply_at` meets its contract: the charge, then the product.
 use mathlib.Core.Path.{refl}
 use native.Mathlib.Omega.{arith}
-use Rattle.arena.proofs.ScratchWords.{links-same, links-value}
-use Rattle.arena.proofs.WalkProducts.{work-fits, small₁, small₂, small₃, sum-few, words-long, dear, operands, head-low, count-fits, few₃, made}
+use Rattle.arena.proofs.steps.Scratch.{links-same, links-value}
+use Rattle.arena.proofs.steps.Products.{work-fits, small₁, small₂, small₃, sum-few, words-long, dear, operands, head-low, count-fits, few₃, made}
 use borrow.Author.Needs.{needs}
 use Rattle.arena.proofs.materialize.multiply_at.Statement.{statement}
 use Rattle.arena.proofs.materialize.multiply_at.Tie as tie

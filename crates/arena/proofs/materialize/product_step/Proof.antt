@@ -1,6 +1,6 @@
 -- `product_step` meets its contract: a child comes first, or the product is made.
 use native.Mathlib.Omega.{arith}
-use Rattle.arena.proofs.PathSteps.{words-room, left-room, right-room, link-low, push-left, push-right, combining, combined-step}
+use Rattle.arena.proofs.steps.Path.{words-room, left-room, right-room, link-low, push-left, push-right, combining, combined-step}
 use Rattle.arena.proofs.materialize.product_step.Statement.{statement}
 use Rattle.arena.proofs.materialize.product_step.Tie as tie
 

@@ -3,7 +3,7 @@ use mathlib.Core.Path.{refl, ap, _∙_}
 use native.Mathlib.Omega.{arith}
 use Rattle.arena.specs.Code.Results.{steppedOut}
 use Rattle.arena.specs.Code.WalkWords.{Started}
-use Rattle.arena.proofs.PathRuns.{Going, going-begin, going-end, topped, some-left, going-refused, going-on}
+use Rattle.arena.proofs.steps.Runs.{Going, going-begin, going-end, topped, some-left, going-refused, going-on}
 use borrow.Author.Needs.{needs}
 use Rattle.arena.proofs.materialize.run_path.Statement.{statement}
 use Rattle.arena.proofs.materialize.run_path.Tie as tie

@@ -2,8 +2,8 @@
 use mathlib.Core.Path.{refl}
 use native.Mathlib.Omega.{arith}
 use Rattle.pauli.specs.Letters.{pauliOf}
-use Rattle.arena.proofs.ScratchWords.{links-same, links-value}
-use Rattle.arena.proofs.WalkProducts.{no-room, lender, single-made}
+use Rattle.arena.proofs.steps.Scratch.{links-same, links-value}
+use Rattle.arena.proofs.steps.Products.{no-room, lender, single-made}
 use borrow.Author.Needs.{needs}
 use Rattle.arena.proofs.materialize.single_at.Statement.{statement}
 use Rattle.arena.proofs.materialize.single_at.Tie as tie

@@ -1,8 +1,8 @@
 -- `step_at` meets its contract: a product, a factor, or nothing.
 use Prim.Native.Nat.{_/_}
 use native.Mathlib.Omega.{arith}
-use Rattle.arena.proofs.ScratchWords.{links-value, node-product, node-single, node-blank}
-use Rattle.arena.proofs.PathSteps.{nodes-room, words-room, low, making, single-step, blank-step}
+use Rattle.arena.proofs.steps.Scratch.{links-value, node-product, node-single, node-blank}
+use Rattle.arena.proofs.steps.Path.{nodes-room, words-room, low, making, single-step, blank-step}
 use borrow.Author.Needs.{needs}
 use Rattle.arena.proofs.materialize.step_at.Statement.{statement}
 use Rattle.arena.proofs.materialize.step_at.Tie as tie

@@ -1,28 +1,22 @@
 -- `take_use` meets its contract: a value moved or copied, or one of two refusals.
 use native.Mathlib.Omega.{arith}
-use Rattle.arena.proofs.ScratchWords.{links-use}
-use Rattle.arena.proofs.WalkMoves.{use-some, took-move, took-17, took-18, source, took-copy}
+use Rattle.arena.proofs.steps.Scratch.{links-use}
+use Rattle.arena.proofs.steps.Moves.{word-room, use-some, took-move, took-17, took-18, source, took-copy}
 use borrow.Author.Needs.{needs}
 use Rattle.arena.proofs.materialize.take_use.Statement.{statement}
 use Rattle.arena.proofs.materialize.take_use.Tie as tie
 
-use-of-requires : tie.Need-use-of-requires
-use-of-requires c κs = search needs
-
 named-value-requires : tie.Need-named-value-requires
 named-value-requires c κs = search needs
 
-sub-set-use : tie.Need-sub-set-use
-sub-set-use c = omega (arith, use-some (c .before .before .before .before .before .before .before .pre), c .before .before .before .use-of .ensures)
-
-set-use-requires : tie.Need-set-use-requires
-set-use-requires c κs = search needs
+drop-use-requires : tie.Need-drop-use-requires
+drop-use-requires c κs = (omega (arith, word-room (c .before .before .before .before .before .pre)), use-some (c .before .before .before .before .before .pre))
 
 same-length : tie.Need-same-length
 same-length c = search needs
 
 returns : tie.Need-returns
-returns c = (λ g. took-move g (c .before .before .before .before .before .before .before .use-of .ensures) (c .before .before .before .before .before .named-value .ensures) (c .if1 .taken) (c .before .before .before .set-use .ensures), links-use _ _ (c .before .before .before .set-use .ensures))
+returns c = (λ g. took-move g (c .before .before .before .drop-use .ensures .0) (c .before .before .before .before .before .named-value .ensures) (c .if1 .taken) (c .before .before .before .drop-use .ensures .1), links-use _ _ (c .before .before .before .drop-use .ensures .1))
 
 sub-if2 : tie.Need-sub-if2
 sub-if2 c = search needs
@@ -33,10 +27,9 @@ same-length-2 c = search needs
 returns-2 : tie.Need-returns-2
 returns-2 c =
     let if1 = c .before .before .if1 in
-    let set-use = c .before .before .before .before .before .set-use in
+    let drop-use = c .before .before .before .before .before .drop-use in
     let named-value = c .before .before .before .before .before .before .before .named-value in
-    let use-of = c .before .before .before .before .before .before .before .before .before .use-of in
-    (λ g. took-17 g (use-of .ensures) (named-value .ensures) (if1 .left) (c .if2 .taken), links-use _ _ (set-use .ensures))
+    (λ g. took-17 g (drop-use .ensures .0) (named-value .ensures) (if1 .left) (c .if2 .taken), links-use _ _ (drop-use .ensures .1))
 
 same-length-3 : tie.Need-same-length-3
 same-length-3 c = search needs
@@ -45,26 +38,24 @@ returns-3 : tie.Need-returns-3
 returns-3 c =
     let if2 = c .before .before .if2 in
     let if1 = c .before .before .before .before .if1 in
-    let set-use = c .before .before .before .before .before .before .before .set-use in
+    let drop-use = c .before .before .before .before .before .before .before .drop-use in
     let named-value = c .before .before .before .before .before .before .before .before .before .named-value in
-    let use-of = c .before .before .before .before .before .before .before .before .before .before .before .use-of in
-    (λ g. took-18 g (use-of .ensures) (named-value .ensures) (if1 .left) (if2 .left) (c .if3 .taken), links-use _ _ (set-use .ensures))
+    (λ g. took-18 g (drop-use .ensures .0) (named-value .ensures) (if1 .left) (if2 .left) (c .if3 .taken), links-use _ _ (drop-use .ensures .1))
 
 copy-requires : tie.Need-copy-requires
 copy-requires c κs =
     let if3 = c .before .if3 in
+    let drop-use = c .before .before .before .before .before .before .before .before .drop-use in
     let named-value = c .before .before .before .before .before .before .before .before .before .before .named-value in
-    let use-of = c .before .before .before .before .before .before .before .before .before .before .before .before .use-of in
-    let back12 = c .before .before .before .before .before .before .before .before .before .before .before .before in
-    let pre = back12 .before .before .before .before .pre in
-    source pre (use-of .ensures) (named-value .ensures) (if3 .left)
+    let pre = c .before .before .before .before .before .before .before .before .before .before .before .before .before .before .pre in
+    source pre (drop-use .ensures .0) (named-value .ensures) (if3 .left)
 
-add-t12 : tie.Need-add-t12
-add-t12 c =
+add-t21 : tie.Need-add-t21
+add-t21 c =
     let if2 = c .before .before .before .before .before .before .before .before .if2 in
     let back12 = c .before .before .before .before .before .before .before .before .before .before .before .before in
-    let the-fits = back12 .before .before .before .before .before .before .before .before .before .fits in
-    let pre = back12 .before .before .before .before .before .before .before .before .before .pre in
+    let the-fits = back12 .before .before .before .before .before .before .before .fits in
+    let pre = back12 .before .before .before .before .before .before .before .pre in
     record { fits = omega (arith, if2 .left, the-fits .limit, pre .rep .work-is, pre .paid) }
 
 same-length-4 : tie.Need-same-length-4
@@ -79,23 +70,20 @@ returns-4 c =
     let if3 = c .before .before .before .before .before .before .if3 in
     let if2 = c .before .before .before .before .before .before .before .before .if2 in
     let if1 = c .before .before .before .before .before .before .before .before .before .before .if1 in
-    let set-use = c .before .before .before .before .before .before .before .before .before .before .before .before .before .set-use in
+    let drop-use = c .before .before .before .before .before .before .before .before .before .before .before .before .before .drop-use in
     let back12 = c .before .before .before .before .before .before .before .before .before .before .before .before in
-    let named-value = back12 .before .before .before .named-value in
-    let use-of = back12 .before .before .before .before .before .use-of in (
-      λ g. took-copy g (use-of .ensures) (named-value .ensures) (if1 .left) (if2 .left) (if3 .left) (set-use .ensures) (copy .ensures (source g
-          (use-of .ensures) (named-value .ensures) (if3 .left))),
-      links-use _ _ (set-use .ensures),
+    let named-value = back12 .before .before .before .named-value in (
+      λ g. took-copy g (drop-use .ensures .0) (named-value .ensures) (if1 .left) (if2 .left) (if3 .left) (drop-use .ensures .1) (copy .ensures (source g
+          (drop-use .ensures .0) (named-value .ensures) (if3 .left))),
+      links-use _ _ (drop-use .ensures .1),
     )
 
 pub take-use-spec : {M : Type 1} → statement M
 take-use-spec =
     tie.close
     (tie.spec
-    use-of-requires
     named-value-requires
-    sub-set-use
-    set-use-requires
+    drop-use-requires
     same-length
     returns
     sub-if2
@@ -104,7 +92,7 @@ take-use-spec =
     same-length-3
     returns-3
     copy-requires
-    add-t12
+    add-t21
     same-length-4
     same-length-5
     returns-4)

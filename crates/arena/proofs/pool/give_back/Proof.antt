@@ -1,7 +1,7 @@
 -- `give_back` meets its contract.
 use native.Mathlib.Omega.{arith}
 use Rattle.arena.specs.PoolSteps.{Holding}
-use Rattle.arena.proofs.PoolMoves.{Giving, GiveReady, give-begin, give-ready, give-turn, give-end}
+use Rattle.arena.proofs.chains.Moves.{Giving, GiveReady, give-begin, give-ready, give-turn, give-end}
 use Rattle.arena.proofs.pool.give_back.Statement.{statement}
 use Rattle.arena.proofs.pool.give_back.Tie as tie
 

@@ -3,7 +3,7 @@ use mathlib.Core.Path.{sym, _∙_}
 use Prim.Native.Nat.{_-_}
 use native.Mathlib.Omega.{arith}
 use borrow.Author.Needs.{needs}
-use Rattle.arena.proofs.PoolEnds.{Threading, thread-begin, thread-turn, thread-end, none-free}
+use Rattle.arena.proofs.chains.Ends.{Threading, thread-begin, thread-turn, thread-end, none-free}
 use Rattle.arena.proofs.pool.init.Statement.{statement}
 use Rattle.arena.proofs.pool.init.Tie as tie
 

@@ -1,6 +1,6 @@
 -- `merge_turn` meets its contract, whichever factor comes first.
 use borrow.Author.Needs.{needs}
-use Rattle.arena.proofs.PoolMerge.{first-turn, second-turn, third-turn}
+use Rattle.arena.proofs.chains.Merge.{first-turn, second-turn, third-turn}
 use Rattle.arena.proofs.pool.merge_turn.Statement.{statement}
 use Rattle.arena.proofs.pool.merge_turn.Tie as tie
 

@@ -3,7 +3,7 @@ use mathlib.Core.Path.{_∙_}
 use mathlib.Core.Logic.{inl, inr, ⊎-elim}
 use native.Mathlib.Omega.{arith}
 use Rattle.arena.specs.PoolSteps.{Operands}
-use Rattle.arena.proofs.PoolMerge.{Merging, begin, turn′, small, TurnReady, ready, low-tail, room-tail, sum-fits, Rest, low-rest, finish}
+use Rattle.arena.proofs.chains.Merge.{Merging, begin, turn′, small, TurnReady, ready, low-tail, room-tail, sum-fits, Rest, low-rest, finish}
 use Rattle.arena.proofs.pool.multiply.Statement.{statement}
 use Rattle.arena.proofs.pool.multiply.Tie as tie
 

@@ -1,8 +1,8 @@
 -- `single` meets its contract.
 use mathlib.Core.Path.{sym}
-use Rattle.arena.proofs.PoolLetters.{some-letter-of, number-of}
+use Rattle.arena.proofs.chains.Letters.{some-letter-of, number-of}
 use borrow.Author.Needs.{needs}
-use Rattle.arena.proofs.PoolMoves.{lent′}
+use Rattle.arena.proofs.chains.Moves.{lent′}
 use Rattle.arena.proofs.pool.single.Statement.{statement}
 use Rattle.arena.proofs.pool.single.Tie as tie
 

@@ -5,7 +5,7 @@ use lib.ListN.{length}
 use Rattle.arena.specs.Limits.{capOf}
 use Rattle.arena.specs.Expansion.{expansionOf, lettersLeft}
 use Rattle.arena.specs.Code.Results.{shownOut}
-use Rattle.arena.proofs.ReaderWalks.{ready-of, expand-low, expand-refused, to-show, expand-answer, expand-letters}
+use Rattle.arena.proofs.steps.Readers.{ready-of, expand-low, expand-refused, to-show, expand-answer, expand-letters}
 use borrow.Author.Needs.{needs}
 use Rattle.arena.proofs.readers.expand_walk.Statement.{statement}
 use Rattle.arena.proofs.readers.expand_walk.Tie as tie

@@ -6,7 +6,7 @@ use Rattle.arena.specs.Limits.{capOf}
 use Rattle.arena.specs.References.{PauliRef, axisOf}
 use Rattle.arena.specs.Expansion.{hermitianOf, HermitianMade}
 use Rattle.arena.specs.Code.Results.{shownOut}
-use Rattle.arena.proofs.ReaderWalks.{ready-of, axis-refused, axis-odd, axis-even}
+use Rattle.arena.proofs.steps.Readers.{ready-of, axis-refused, axis-odd, axis-even}
 use borrow.Author.Needs.{needs}
 use Rattle.arena.proofs.readers.hermitian_walk.Statement.{statement}
 use Rattle.arena.proofs.readers.hermitian_walk.Tie as tie

@@ -1,5 +1,5 @@
 -- `begin` meets its contract: the reachable nodes are counted, and the charge passes or not.
-use Rattle.arena.proofs.RootWalks.{counting, begin-dear, begun}
+use Rattle.arena.proofs.steps.Roots.{counting, begin-dear, begun}
 use borrow.Author.Needs.{needs}
 use Rattle.arena.proofs.roots.begin.Statement.{statement}
 use Rattle.arena.proofs.roots.begin.Tie as tie

@@ -2,7 +2,7 @@
 use mathlib.Core.Path.{_∙_}
 use native.Mathlib.Omega.{arith}
 use borrow.Author.Needs.{needs}
-use Rattle.arena.proofs.Cells.{cell-safe, cell-none, cell-later, cell-here}
+use Rattle.arena.proofs.steps.Cells.{cell-safe, cell-none, cell-later, cell-here}
 use Rattle.arena.proofs.roots.cell_at.Statement.{statement}
 use Rattle.arena.proofs.roots.cell_at.Tie as tie
 

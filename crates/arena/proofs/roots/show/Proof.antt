@@ -3,7 +3,7 @@ use mathlib.Core.Path.{refl}
 use Prim.Native.Nat.{_-_}
 use native.Mathlib.Omega.{arith}
 use Rattle.arena.specs.Code.WalkWords.{ShowReady}
-use Rattle.arena.proofs.Cells.{Writing, write-begin, cell, write-turn, write-end}
+use Rattle.arena.proofs.steps.Cells.{Writing, write-begin, cell, write-turn, write-end}
 use Rattle.arena.proofs.roots.show.Statement.{statement}
 use Rattle.arena.proofs.roots.show.Tie as tie
 

@@ -2,7 +2,7 @@
 use mathlib.Core.Path.{ap}
 use native.Mathlib.Omega.{arith}
 use Rattle.arena.specs.Code.Results.{evaluatedOut}
-use Rattle.arena.proofs.RootWalks.{root-refused, work-fits, too-high, root-shown}
+use Rattle.arena.proofs.steps.Roots.{root-refused, work-fits, too-high, root-shown}
 use borrow.Author.Needs.{needs}
 use Rattle.arena.proofs.roots.show_root.Statement.{statement}
 use Rattle.arena.proofs.roots.show_root.Tie as tie

@@ -1,7 +1,7 @@
 -- `walk_root` meets its contract: the use counted, the walk begun, the root shown, or a refusal on the way.
 use mathlib.Core.Path.{ap}
 use Rattle.arena.specs.Code.Results.{evaluatedOut}
-use Rattle.arena.proofs.RootWalks.{add-fits, rootable, walk-refused, rooted, walk-shown}
+use Rattle.arena.proofs.steps.Roots.{add-fits, rootable, walk-refused, rooted, walk-shown}
 use borrow.Author.Needs.{needs}
 use Rattle.arena.proofs.roots.walk_root.Statement.{statement}
 use Rattle.arena.proofs.roots.walk_root.Tie as tie

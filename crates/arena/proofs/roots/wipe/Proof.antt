@@ -2,7 +2,7 @@
 use mathlib.Core.Path.{sym}
 use Prim.Native.Nat.{_-_}
 use borrow.Author.Needs.{needs}
-use Rattle.arena.proofs.ReaderWalks.{part-long, zero-front}
+use Rattle.arena.proofs.steps.Readers.{part-long, zero-front}
 use Rattle.arena.proofs.roots.wipe.Statement.{statement}
 use Rattle.arena.proofs.roots.wipe.Tie as tie
 

@@ -2,8 +2,8 @@
 use mathlib.Core.Path.{refl, _∙_}
 use native.Mathlib.Omega.{arith}
 use borrow.Author.Needs.{needs}
-use Rattle.arena.proofs.ScratchWords.{values-use, values-same, values-then}
-use Rattle.arena.proofs.UsesInWords.{visit-room, visit-words, visit-none, visit-leaf, left-fits, right-fits, visit-product}
+use Rattle.arena.proofs.steps.Scratch.{values-use, values-same, values-then}
+use Rattle.arena.proofs.steps.Counting.{visit-room, visit-words, visit-none, visit-leaf, left-fits, right-fits, visit-product}
 use Rattle.arena.proofs.scratch.count_node.Statement.{statement}
 use Rattle.arena.proofs.scratch.count_node.Tie as tie
 
@@ -32,7 +32,13 @@ wide-requires : tie.Need-wide-requires
 wide-requires c κs = search needs
 
 add-use-requires : tie.Need-add-use-requires
-add-use-requires c κs = rw (c .wide .ensures) (left-fits (c .before .before .before .before .before .before .before .before .before .before .pre) (c .before .before .before .before .before .before .use-of .ensures) (c .before .before .before .before .first-word .ensures) (c .before .before .before .if2 .left) (c .before .before .second-word .ensures))
+add-use-requires c κs =
+    let the-second-word = c .before .before .second-word in
+    let the-if2 = c .before .before .before .if2 in
+    let the-first-word = c .before .before .before .before .first-word in
+    let the-use-of = c .before .before .before .before .before .before .use-of in
+    let the-pre = c .before .before .before .before .before .before .before .before .before .before .pre in
+    rw (c .wide .ensures) (left-fits the-pre (the-use-of .ensures) (the-first-word .ensures) (the-if2 .left) (the-second-word .ensures))
 
 wide-requires-2 : tie.Need-wide-requires-2
 wide-requires-2 c κs = search needs

@@ -1,7 +1,7 @@
 -- `scan_uses` meets its contract: what is counted so far, and the nodes still to be looked at, give the whole count.
 use native.Mathlib.Omega.{arith}
 use Rattle.arena.specs.Code.WalkWords.{Counting}
-use Rattle.arena.proofs.UsesInWords.{Scanning, scan-begin, scan-end, visiting, scan-turn, one-more}
+use Rattle.arena.proofs.steps.Counting.{Scanning, scan-begin, scan-end, visiting, scan-turn, one-more}
 use Rattle.arena.proofs.scratch.scan_uses.Statement.{statement}
 use Rattle.arena.proofs.scratch.scan_uses.Tie as tie
 
@@ -39,7 +39,12 @@ loop-less : tie.Need-loop-less Inv-loop μ-loop
 loop-less c = omega (arith, c .before .before .before .before .loop-test .taken)
 
 loop-again : tie.Need-loop-again Inv-loop μ-loop
-loop-again c = λ g. scan-turn g (c .before .before .before .before .before .loop .inv g) (c .before .before .before .before .loop-test .taken) (c .before .before .count-node .ensures .0 (visiting g (c .before .before .before .before .before .loop .inv g) (c .before .before .before .before .loop-test .taken))) (c .before .before .count-node .ensures .1) (c .before .before .count-node .kept .1 .0)
+loop-again c =
+    let the-count-node = c .before .before .count-node in
+    let the-loop-test = c .before .before .before .before .loop-test in
+    let the-loop′ = c .before .before .before .before .before .loop in
+    λ g. scan-turn g (the-loop′ .inv g) (the-loop-test .taken) (the-count-node .ensures .0 (visiting g (the-loop′ .inv g) (the-loop-test .taken)))
+    (the-count-node .ensures .1) (the-count-node .kept .1 .0)
 
 same-length : tie.Need-same-length Inv-loop μ-loop
 same-length c = (c .before .loop .inv (c .before .before .before .before .pre)) .long

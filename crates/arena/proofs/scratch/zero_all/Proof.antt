@@ -6,7 +6,7 @@ use native.Mathlib.Omega.{arith}
 use lib.ListN.{length, set, replicate, drop, length-set}
 use borrow.Author.Needs.{needs}
 use borrow.Author.Fill.{fill-none, fill-more}
-use Rattle.arena.proofs.ScratchWords.{fill-all}
+use Rattle.arena.proofs.steps.Scratch.{fill-all}
 use Rattle.arena.proofs.scratch.zero_all.Statement.{statement}
 use Rattle.arena.proofs.scratch.zero_all.Tie as tie
 

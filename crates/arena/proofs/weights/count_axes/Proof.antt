@@ -5,7 +5,7 @@ use native.Mathlib.Omega.{arith}
 use borrow.Author.Needs.{needs}
 use Rattle.arena.specs.Expansion.{weighedOf}
 use Rattle.arena.specs.Code.Roots.{Countable}
-use Rattle.arena.proofs.WeightWalks.{CountAt, count-begin, count-fits, count-turn, count-end}
+use Rattle.arena.proofs.steps.Weights.{CountAt, count-begin, count-fits, count-turn, count-end}
 use Rattle.arena.proofs.weights.count_axes.Statement.{statement}
 use Rattle.arena.proofs.weights.count_axes.Tie as tie
 
@@ -28,7 +28,13 @@ cast-w : tie.Need-cast-w Inv-loop μ-loop
 cast-w c = search needs
 
 add-use-requires : tie.Need-add-use-requires Inv-loop μ-loop
-add-use-requires c κs = count-fits (c .before .before .before .before .before .before .before .pre) (c .before .before .before .before .loop .inv (c .before .before .before .before .before .before .before .pre)) (c .before .before .before .loop-test .taken) (c .before .axis-word .ensures ∙ ap (λ o. weighedOf o .word) (c .before .before .op-at .ensures))
+add-use-requires c κs =
+    let axis-word = c .before .axis-word in
+    let op-at = c .before .before .op-at in
+    let loop-test = c .before .before .before .loop-test in
+    let the-loop = c .before .before .before .before .loop in
+    let pre = c .before .before .before .before .before .before .before .pre in
+    count-fits pre (the-loop .inv pre) (loop-test .taken) (axis-word .ensures ∙ ap (λ o. weighedOf o .word) (op-at .ensures))
 
 add-i : tie.Need-add-i Inv-loop μ-loop
 add-i c = search needs
@@ -37,7 +43,13 @@ loop-less : tie.Need-loop-less Inv-loop μ-loop
 loop-less c = omega (arith, c .before .before .before .before .before .before .loop-test .taken)
 
 loop-again : tie.Need-loop-again Inv-loop μ-loop
-loop-again c = λ g. count-turn g (c .before .before .before .before .before .before .before .loop .inv g) (c .before .before .before .before .before .before .loop-test .taken) (c .before .before .before .before .axis-word .ensures ∙ ap (λ o. weighedOf o .word) (c .before .before .before .before .before .op-at .ensures)) (c .before .before .add-use .ensures)
+loop-again c =
+    let add-use = c .before .before .add-use in
+    let axis-word = c .before .before .before .before .axis-word in
+    let op-at = c .before .before .before .before .before .op-at in
+    let loop-test = c .before .before .before .before .before .before .loop-test in
+    let the-loop = c .before .before .before .before .before .before .before .loop in
+    λ g. count-turn g (the-loop .inv g) (loop-test .taken) (axis-word .ensures ∙ ap (λ o. weighedOf o .word) (op-at .ensures)) (add-use .ensures)
 
 same-length : tie.Need-same-length Inv-loop μ-loop
 same-length c = (c .before .loop .inv (c .before .before .before .before .pre)) .long

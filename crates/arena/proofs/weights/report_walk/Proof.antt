@@ -2,7 +2,7 @@
 use mathlib.Core.Path.{sym, ap, _∙_}
 use Rattle.arena.specs.Expansion.{maxWeightsOf}
 use Rattle.arena.specs.Code.Results.{evaluatedOut}
-use Rattle.arena.proofs.WeightWalks.{countable, axes-rootable, report-refused, weighing, report-is}
+use Rattle.arena.proofs.steps.Weights.{countable, axes-rootable, report-refused, weighing, report-is}
 use borrow.Author.Needs.{needs}
 use Rattle.arena.proofs.weights.report_walk.Statement.{statement}
 use Rattle.arena.proofs.weights.report_walk.Tie as tie

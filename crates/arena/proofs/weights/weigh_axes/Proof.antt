@@ -4,7 +4,7 @@ use Prim.Native.Nat.{_-_}
 use native.Mathlib.Omega.{arith}
 use Rattle.arena.specs.Code.Results.{axisWeightOut}
 use Rattle.arena.specs.Code.Roots.{Weighing}
-use Rattle.arena.proofs.WeightWalks.{WeighAt, weigh-begin, axis-rooted, weigh-refused, weigh-turn, weigh-end}
+use Rattle.arena.proofs.steps.Weights.{WeighAt, weigh-begin, axis-rooted, weigh-refused, weigh-turn, weigh-end}
 use borrow.Author.Needs.{needs}
 use Rattle.arena.proofs.weights.weigh_axes.Statement.{statement}
 use Rattle.arena.proofs.weights.weigh_axes.Tie as tie

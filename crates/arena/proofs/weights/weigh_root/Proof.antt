@@ -1,7 +1,7 @@
 -- `weigh_root` meets its contract: the root shown, then released.
 use mathlib.Core.Path.{ap}
 use Rattle.arena.specs.Code.Results.{shownOut}
-use Rattle.arena.proofs.WeightWalks.{weight-refused, to-release, weight-made}
+use Rattle.arena.proofs.steps.Weights.{weight-refused, to-release, weight-made}
 use borrow.Author.Needs.{needs}
 use Rattle.arena.proofs.weights.weigh_root.Statement.{statement}
 use Rattle.arena.proofs.weights.weigh_root.Tie as tie

@@ -6,7 +6,7 @@ use borrow.Author.Needs.{needs}
 use lib.ListN.{length}
 use Rattle.arena.specs.Readers.{expandWalk}
 use Rattle.arena.specs.Expansion.{expansionOf, lettersLeft, expandStep}
-use Rattle.arena.proofs.ReaderWalks.{fits-expand, part-long, fit-part, cap-fits, room-same, front-long, left-scratch, left-pool}
+use Rattle.arena.proofs.steps.Readers.{fits-expand, part-long, fit-part, cap-fits, room-same, front-long, left-scratch, left-pool}
 use Rattle.arena.proofs.header.Header.expand.Statement.{statement}
 use Rattle.arena.proofs.header.Header.expand.Tie as tie
 

@@ -6,7 +6,7 @@ use borrow.Author.Needs.{needs}
 use lib.ListN.{length}
 use Rattle.arena.specs.Readers.{hermitianWalk}
 use Rattle.arena.specs.Expansion.{hermitianOf, hermitianStep}
-use Rattle.arena.proofs.ReaderWalks.{fits-hermitian, part-long, fit-part, cap-fits, room-same, front-long, left-scratch, left-pool}
+use Rattle.arena.proofs.steps.Readers.{fits-hermitian, part-long, fit-part, cap-fits, room-same, front-long, left-scratch, left-pool}
 use Rattle.arena.proofs.header.Header.hermitian_axis.Statement.{statement}
 use Rattle.arena.proofs.header.Header.hermitian_axis.Tie as tie
 
@@ -55,7 +55,10 @@ slice-relend-prefix-hermitian-walk-2 : tie.Need-slice-relend-prefix-hermitian-wa
 slice-relend-prefix-hermitian-walk-2 c = search needs
 
 slice-aggregate-hermitian-walk-2 : tie.Need-slice-aggregate-hermitian-walk-2
-slice-aggregate-hermitian-walk-2 c = sym (part-long (c .before .before .before .before .before .before .before .before .before .before .args .pool .now) (3 * c .before .before .cap-of .result) (cap-fits (c .before .before .before .before .before .before .before .before .before .before .args .pool .now) (c .before .before .cap-of .result) (c .before .before .cap-of .ensures)))
+slice-aggregate-hermitian-walk-2 c =
+    let the-cap-of = c .before .before .cap-of in
+    let the-args = c .before .before .before .before .before .before .before .before .before .before .args in
+    sym (part-long (the-args .pool .now) (3 * the-cap-of .result) (cap-fits (the-args .pool .now) (the-cap-of .result) (the-cap-of .ensures)))
 
 hermitian-walk-requires : tie.Need-hermitian-walk-requires
 hermitian-walk-requires c κs =

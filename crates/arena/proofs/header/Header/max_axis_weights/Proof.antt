@@ -7,8 +7,8 @@ use lib.ListN.{length}
 use Rattle.arena.specs.Readers.{reportWalk}
 use Rattle.arena.specs.Expansion.{maxWeightsOf, reportStep}
 use Rattle.arena.specs.Code.Roots.{axesOf}
-use Rattle.arena.proofs.ReaderWalks.{part-long, fit-part, cap-fits, room-same, front-long, left-scratch, left-pool}
-use Rattle.arena.proofs.WeightWalks.{fits-report}
+use Rattle.arena.proofs.steps.Readers.{part-long, fit-part, cap-fits, room-same, front-long, left-scratch, left-pool}
+use Rattle.arena.proofs.steps.Weights.{fits-report}
 use Rattle.arena.proofs.header.Header.max_axis_weights.Statement.{statement}
 use Rattle.arena.proofs.header.Header.max_axis_weights.Tie as tie
 
@@ -57,7 +57,10 @@ slice-relend-prefix-report-walk-2 : tie.Need-slice-relend-prefix-report-walk-2
 slice-relend-prefix-report-walk-2 c = search needs
 
 slice-aggregate-report-walk-2 : tie.Need-slice-aggregate-report-walk-2
-slice-aggregate-report-walk-2 c = sym (part-long (c .before .before .before .before .before .before .before .before .before .before .before .args .pool .now) (3 * c .before .before .cap-of .result) (cap-fits (c .before .before .before .before .before .before .before .before .before .before .before .args .pool .now) (c .before .before .cap-of .result) (c .before .before .cap-of .ensures)))
+slice-aggregate-report-walk-2 c =
+    let the-cap-of = c .before .before .cap-of in
+    let the-args = c .before .before .before .before .before .before .before .before .before .before .before .args in
+    sym (part-long (the-args .pool .now) (3 * the-cap-of .result) (cap-fits (the-args .pool .now) (the-cap-of .result) (the-cap-of .ensures)))
 
 report-walk-requires : tie.Need-report-walk-requires
 report-walk-requires c κs =
