@@ -8,7 +8,8 @@ use lib.Seq.{sets}
 use Rattle.pauli.specs.Angle.{eighthsOf}
 use Rattle.arena.specs.Types.{Pauli, I, X, Y, Z, PauliAngle}
 use Rattle.arena.specs.Limits.{maxQubits, maxCbits, nodeWords, operationWords}
-use Rattle.arena.specs.Errors.{PbcError, TooManyQubits, BadStore, ForeignPauli, QubitOutOfRange, ClassicalBitOutOfRange, UnknownMeasurement, NoFrame, NoNodes, NoOperations, Checked, Fine, Wrong, _⟫_⇒_}
+use Rattle.arena.specs.Errors.{PbcError, TooManyQubits, BadStore, ForeignPauli, QubitOutOfRange, ClassicalBitOutOfRange, UnknownMeasurement, NoFrame, NoNodes, NoOperations, Checked, Fine}
+use Rattle.arena.specs.Errors.{Wrong, _⟫_⇒_}
 use Rattle.arena.specs.References.{PauliRef, PauliAxis, axisOf}
 use Rattle.arena.specs.Nodes.{singleWord, productWord}
 use Rattle.arena.specs.Operations.{MeasId, measId, Target, rotateWords, measureWords, conditionalWords}

@@ -10,7 +10,8 @@ use Rattle.arena.specs.Errors.{Checked}
 use Rattle.arena.specs.References.{PauliRef, PauliAxis}
 use Rattle.arena.specs.Operations.{MeasId, Target}
 use Rattle.arena.specs.Store.{Header}
-use Rattle.arena.specs.Builder.{nodesFor, newCheck, newStep, singleCheck, singleStep, productCheck, productStep, rotateCheck, rotateStep, measureCheck, measureStep, conditionalCheck, conditionalStep}
+use Rattle.arena.specs.Builder.{nodesFor, newCheck, newStep, singleCheck, singleStep, productCheck, productStep, rotateCheck, rotateStep, measureCheck, measureStep, conditionalCheck}
+use Rattle.arena.specs.Builder.{conditionalStep}
 
 -- a call with all its arguments but the slices
 pub data Call : Type 0 where

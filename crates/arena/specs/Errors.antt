@@ -1,7 +1,9 @@
 -- The refusals of document 01 ("Turning back"): the number, gate index and operand of each, and the order of a call's checks.
 use mathlib.Core.Bool.{Bool, true, false}
 use Prim.Native.Nat.{ℕ}
-pub use Rattle.arena.specs.declared.error.PbcError.the-variants.{the-data as PbcError, TooManyQubits, BrokenGateList, BadStore, ForeignPauli, UnsupportedGate, NonCliffordFrameGate, QubitOutOfRange, RepeatedOperand, ClassicalBitOutOfRange, UnknownMeasurement, CapTooSmall, NoPlanes, NoFrame, NoNodes, NoOperations, NoScratch, ExpansionLimit, NoPool, NonHermitianAxis}
+pub use Rattle.arena.specs.declared.error.PbcError.the-variants.{the-data as PbcError, TooManyQubits, BrokenGateList, BadStore, ForeignPauli, UnsupportedGate, NonCliffordFrameGate}
+pub use Rattle.arena.specs.declared.error.PbcError.the-variants.{QubitOutOfRange, RepeatedOperand, ClassicalBitOutOfRange, UnknownMeasurement, CapTooSmall, NoPlanes, NoFrame, NoNodes}
+pub use Rattle.arena.specs.declared.error.PbcError.the-variants.{NoOperations, NoScratch, ExpansionLimit, NoPool, NonHermitianAxis}
 pub use Rattle.arena.specs.declared.error.Refusal.{Refusal}
 pub use Rattle.arena.specs.declared.error.Checked.the-variants.{the-data as Checked, Fine, Wrong}
 

@@ -31,7 +31,11 @@ use Rattle.convert.specs.Circuits.{gate, reference}
 
 -- n qubits, 2 classical bits, owner 7, room for so many nodes and operations
 input : ℕ → Cap → ℕ → ℕ → List ℕ → Input
-unfolding power flush start step _⟫_⇒_ decode nodeAt dense walk breaksLimit exceedsNodes exceedsOperations foreign unknown noNodeRoom noOperationRoom singleCheck singleStep productCheck productStep rotateCheck rotateStep measureCheck measureStep conditionalCheck conditionalStep expandWalk expandCheck expandStep records kindOf lowerAs lower lowerFrom lowerAll plainBegin tested exceeds flushed performAs plainStep plainRun rowsAfter tableRun startArena pushed multiplied frameStep qubitsOf operandsChecked frameGates frameRun cliffordCheck cliffordStep startWords flushGate flushGates flushWords writeSeven write wordStep wordRun mask digits rowWords rowsWords images packed gatesIn plainEnd tableEnd wordEnd recordChecked recordsChecked gatesCheck gatesChecked convertCheck roomChecked convertWithin convertStep converted later laters gatesOf fed
+unfolding power flush start step _⟫_⇒_ decode nodeAt dense walk breaksLimit exceedsNodes exceedsOperations foreign unknown noNodeRoom noOperationRoom singleCheck singleStep
+    productCheck productStep rotateCheck rotateStep measureCheck measureStep conditionalCheck conditionalStep expandWalk expandCheck expandStep records kindOf lowerAs lower
+    lowerFrom lowerAll plainBegin tested exceeds flushed performAs plainStep plainRun rowsAfter tableRun startArena pushed multiplied frameStep qubitsOf operandsChecked frameGates
+    frameRun cliffordCheck cliffordStep startWords flushGate flushGates flushWords writeSeven write wordStep wordRun mask digits rowWords rowsWords images packed gatesIn plainEnd
+    tableEnd wordEnd recordChecked recordsChecked gatesCheck gatesChecked convertCheck roomChecked convertWithin convertStep converted later laters gatesOf fed
 input n cap nodes ops gs = record {
   qubits = n;
   cbits = 2;

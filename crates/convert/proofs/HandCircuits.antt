@@ -20,7 +20,11 @@ use Rattle.convert.specs.Conversion.{gatesIn, plainEnd, wordEnd, recordC
 use Rattle.convert.specs.Circuits.{HandCircuits}
 
 pub hand-circuits : HandCircuits
-unfolding power flush start step _⟫_⇒_ decode nodeAt values image dense walk decodeOp breaksLimit exceedsNodes exceedsOperations foreign unknown noNodeRoom newCheck newStep productCheck productStep expandWalk hermitianWalk reportWalk opAt expandCheck expandStep hermitianCheck hermitianStep reportCheck reportStep records kindOf lowerAs lower lowerFrom lowerAll plainBegin tested exceeds flushed performAs plainStep plainRun startArena pushed multiplied frameStep qubitsOf operandsChecked startWords flushGate flushGates flushWords writeSeven write wordStep wordRun meaning operationsIn gatesIn plainEnd wordEnd recordChecked recordsChecked gatesCheck gatesChecked convertCheck roomChecked convertWithin convertStep
+unfolding power flush start step _⟫_⇒_ decode nodeAt values image dense walk decodeOp breaksLimit exceedsNodes exceedsOperations foreign unknown noNodeRoom newCheck newStep
+    productCheck productStep expandWalk hermitianWalk reportWalk opAt expandCheck expandStep hermitianCheck hermitianStep reportCheck reportStep records kindOf lowerAs lower
+    lowerFrom lowerAll plainBegin tested exceeds flushed performAs plainStep plainRun startArena pushed multiplied frameStep qubitsOf operandsChecked startWords flushGate
+    flushGates flushWords writeSeven write wordStep wordRun meaning operationsIn gatesIn plainEnd wordEnd recordChecked recordsChecked gatesCheck gatesChecked convertCheck
+    roomChecked convertWithin convertStep
 hand-circuits = record {
   a = (refl, refl);
   c = (refl, refl);

@@ -21,7 +21,11 @@ use Rattle.convert.specs.Circuits.{gate}
 
 -- n = 2, 2 classical bits, owner 7; h 0, measure 0 into 1; room for 8 nodes and 5 operations
 lent : Input
-unfolding power flush start step _⟫_⇒_ breaksLimit exceedsNodes exceedsOperations foreign unknown noNodeRoom noOperationRoom singleCheck singleStep productCheck productStep rotateCheck rotateStep measureCheck measureStep conditionalCheck conditionalStep records kindOf lowerAs lower lowerFrom lowerAll plainBegin tested exceeds flushed performAs plainStep plainRun rowsAfter tableRun startArena pushed multiplied frameStep qubitsOf operandsChecked frameGates frameRun cliffordCheck cliffordStep startWords write wordStep wordRun gatesIn plainEnd tableEnd wordEnd recordChecked recordsChecked gatesCheck gatesChecked convertCheck roomChecked convertWithin convertStep converted later laters gatesOf fed callIn wordsAt callsTo callsIn runStep
+unfolding power flush start step _⟫_⇒_ breaksLimit exceedsNodes exceedsOperations foreign unknown noNodeRoom noOperationRoom singleCheck singleStep productCheck productStep
+    rotateCheck rotateStep measureCheck measureStep conditionalCheck conditionalStep records kindOf lowerAs lower lowerFrom lowerAll plainBegin tested exceeds flushed performAs
+    plainStep plainRun rowsAfter tableRun startArena pushed multiplied frameStep qubitsOf operandsChecked frameGates frameRun cliffordCheck cliffordStep startWords write wordStep
+    wordRun gatesIn plainEnd tableEnd wordEnd recordChecked recordsChecked gatesCheck gatesChecked convertCheck roomChecked convertWithin convertStep converted later laters gatesOf
+    fed callIn wordsAt callsTo callsIn runStep
 lent = inputOf 2 2 7 NoCap (gate 0 0 0 0 ++ gate 12 0 1 0) (replicate 16 9) (replicate 20 9) (replicate 5 9) []
 
 words : List ℕ

@@ -6,7 +6,9 @@ use Prim.Native.Nat.{ℕ, suc, _<_}
 use lib.Dec.{eqb}
 use lib.ListN.{getD}
 use Rattle.pauli.specs.Gates.{Gate, gateH, gateX, gateZ, gateS, gateSdg, gateCnot, gateCz, Valid}
-pub use Rattle.convert.specs.declared.gate.GateKind.the-variants.{the-data as GateKind, H as KindH, X as KindX, Z as KindZ, S as KindS, Sdg as KindSdg, T as KindT, Tdg as KindTdg, Cnot as KindCnot, Cz as KindCz, Ccx as KindCcx, Ccz as KindCcz, Measure as KindMeasure, Y as KindY, Sx as KindSx, Swap as KindSwap, Cy as KindCy, Unsupported}
+pub use Rattle.convert.specs.declared.gate.GateKind.the-variants.{the-data as GateKind, H as KindH, X as KindX, Z as KindZ, S as KindS, Sdg as KindSdg, T as KindT, Tdg as KindTdg}
+pub use Rattle.convert.specs.declared.gate.GateKind.the-variants.{Cnot as KindCnot, Cz as KindCz, Ccx as KindCcx, Ccz as KindCcz, Measure as KindMeasure, Y as KindY, Sx as KindSx}
+pub use Rattle.convert.specs.declared.gate.GateKind.the-variants.{Swap as KindSwap, Cy as KindCy, Unsupported}
 pub use Rattle.convert.specs.declared.gate.Shape.the-variants.{the-data as Shape, None as NoShape, One as OneQubit, Two as TwoQubits, Three as ThreeQubits, Measured}
 pub use Rattle.convert.specs.declared.cap.Cap.the-variants.{the-data as Cap, None as NoCap, AtMost}
 
