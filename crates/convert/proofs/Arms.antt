@@ -1,14 +1,15 @@
 -- Arms of a match that name several kinds, or the rest: an answer that is right at each of an arm's numbers is right for every kind that takes it.
 use mathlib.Core.Path.{_≡_, refl, sym, ap, subst, _∙_}
-use mathlib.Core.Bool.{false}
+use mathlib.Core.Bool.{true, false}
 use mathlib.Core.Logic.{_⊎_, inl, inr}
 use mathlib.Core.List.{List, [], _∷_, map}
 use Prim.Native.Nat.{ℕ, _+_}
+use native.Mathlib.Omega.{arith}
 use lib.ListN.{getD, drop}
 use types.Run.{OneOf}
 use denote.Enum.Declared.{tagOf}
 use Rattle.convert.proofs.gate.GateKind.{the-type}
-use Rattle.convert.specs.Records.{GateKind, KindH, KindX, KindZ, KindS, KindSdg, KindT, KindTdg, KindCnot, KindCz, KindCcx, KindCcz, KindMeasure, KindY, KindSx, KindSwap, KindCy, Unsupported, lowerAs}
+use Rattle.convert.specs.Records.{GateKind, KindH, KindX, KindZ, KindS, KindSdg, KindT, KindTdg, KindCnot, KindCz, KindCcx, KindCcz, KindMeasure, KindY, KindSx, KindSwap, KindCy, Unsupported, TwoQubits, hasShape, lowerAs}
 use Rattle.convert.specs.Frame.{frameGates}
 use Rattle.convert.specs.Conversion.{isMeasure}
 use Rattle.convert.specs.Code.RawPlanes.{planeStep, planeRun}
@@ -71,6 +72,19 @@ no-frame k a b o = sym (arm (λ (k : GateKind). frameGates k a b) [] (5 ∷ 6 �
 pub no-gates : (k : GateKind) (a b : ℕ) → OneOf (5 ∷ 6 ∷ 9 ∷ 10 ∷ 11 ∷ 16 ∷ []) (tagOf the-type k) → recordGates k a b ≡ []
 unfolding recordGates lowerAs
 no-gates k a b o = sym (arm (λ (k : GateKind). recordGates k a b) [] (5 ∷ 6 ∷ 9 ∷ 10 ∷ 11 ∷ 16 ∷ []) refl k o)
+
+differ : true ≡ false → ⊥
+differ e = let z : _≡_ {A = ℕ} 0 1 = cc in omega arith
+
+-- past the kinds on one qubit: two qubits, or no frame gate
+pub pair-or-none : (k : GateKind) (a b : ℕ) → OneOf (5 ∷ 6 ∷ 7 ∷ 8 ∷ 9 ∷ 10 ∷ 11 ∷ 14 ∷ 15 ∷ 16 ∷ []) (tagOf the-type k) → hasShape k TwoQubits ≡ false → recordGates k a b ≡ []
+unfolding recordGates lowerAs
+pair-or-none k a b o =
+    each (λ (k : GateKind). hasShape k TwoQubits ≡ false → recordGates k a b ≡ []) (5 ∷ 6 ∷ 7 ∷ 8 ∷ 9 ∷ 10 ∷ 11 ∷ 14 ∷ 15 ∷ 16 ∷ [])
+    ((λ e. refl), ((λ e. refl), ((λ e. absurd (differ e)), ((λ e. absurd (differ e)), ((λ e. refl), ((λ e. refl), ((λ e. refl), ((λ e. absurd (differ e)), ((λ e. absurd (differ e)), ((λ e. refl), tt)))))))))) k o
+
+pub no-pair : (k : GateKind) → OneOf (0 ∷ 1 ∷ 2 ∷ 3 ∷ 4 ∷ 5 ∷ 6 ∷ 9 ∷ 10 ∷ 11 ∷ 12 ∷ 13 ∷ 16 ∷ []) (tagOf the-type k) → hasShape k TwoQubits ≡ false
+no-pair k o = sym (arm (λ (k : GateKind). hasShape k TwoQubits) false (0 ∷ 1 ∷ 2 ∷ 3 ∷ 4 ∷ 5 ∷ 6 ∷ 9 ∷ 10 ∷ 11 ∷ 12 ∷ 13 ∷ 16 ∷ []) refl k o)
 
 pub no-planes : (l : ℕ) (k : GateKind) (a b : ℕ) (p : List ℕ) → OneOf (1 ∷ 2 ∷ 5 ∷ 6 ∷ 9 ∷ 10 ∷ 11 ∷ 12 ∷ 16 ∷ []) (tagOf the-type k) → p ≡ planeRun l (recordGates k a b) p
 unfolding planeRun planeStep recordGates lowerAs

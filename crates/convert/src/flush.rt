@@ -6,6 +6,7 @@ use crate::gate::kind_at;
 use crate::gate::operand_at;
 use arena::put_operation;
 ghost use mathlib.Core.Path.{_≡_};
+ghost use mathlib.Core.Bool.{false};
 ghost use mathlib.Core.List.{[], _∷_};
 ghost use Prim.Native.Nat.{_+_, _*_, _/_, _<_, _≤_};
 ghost use lib.ListN.{length};
@@ -13,6 +14,7 @@ ghost use lib.Seq.{sets};
 ghost use Rattle.pauli.specs.Gates.{gateH, gateX, gateZ, gateS, gateSdg, gateCnot, gateCz};
 ghost use Rattle.arena.specs.Limits.{maxQubits, maxNodes, maxOperations, nodeWords, operationWords};
 ghost use Rattle.arena.specs.Operations.{rotateWords};
+ghost use Rattle.convert.specs.Records.{TwoQubits, hasShape};
 ghost use Rattle.convert.specs.Words.{idX, idZ};
 ghost use Rattle.convert.specs.Code.Raw.{maxWord, writing, putJoint, FlushReady, Flushed, recordGates, gatesOver};
 
@@ -197,6 +199,30 @@ fn flush_cy(
     flush_s(w2, nodes, operations, n, t)
 }
 
+// Those of a kind that has two qubits, or no frame gate.
+fn flush_pair(
+    w: Used,
+    nodes: &mut [u32],
+    operations: &mut [u32],
+    n: usize,
+    kind: GateKind,
+    a: usize,
+    b: usize,
+) -> Used
+    requires { ⌜ FlushReady n (recordGates kind a b) (w .nodes) (now nodes) (w .operations) (now operations) ⌝ }
+    requires { ⌜ (hasShape kind TwoQubits ≡ false → recordGates kind a b ≡ []) ⌝ }
+    ensures { λ r. ⌜ Flushed (recordGates kind a b) (w .nodes) (now (nodes .entry)) (w .operations) (now (operations .entry))
+        (r .nodes) (now (nodes .exit)) (r .operations) (now (operations .exit)) ⌝ }
+{
+    match kind {
+        GateKind::Cnot => flush_cnot(w, nodes, operations, n, a, b),
+        GateKind::Cz => flush_cz(w, nodes, operations, n, a, b),
+        GateKind::Swap => flush_swap(w, nodes, operations, n, a, b),
+        GateKind::Cy => flush_cy(w, nodes, operations, n, a, b),
+        _ => w,
+    }
+}
+
 // The frame gates of a record.
 fn flush_record(
     w: Used,
@@ -217,13 +243,9 @@ fn flush_record(
         GateKind::Z => flush_z(w, nodes, operations, n, a),
         GateKind::S => flush_s(w, nodes, operations, n, a),
         GateKind::Sdg => flush_sdg(w, nodes, operations, n, a),
-        GateKind::Cnot => flush_cnot(w, nodes, operations, n, a, b),
-        GateKind::Cz => flush_cz(w, nodes, operations, n, a, b),
         GateKind::Y => flush_y(w, nodes, operations, n, a),
         GateKind::Sx => flush_sx(w, nodes, operations, n, a),
-        GateKind::Swap => flush_swap(w, nodes, operations, n, a, b),
-        GateKind::Cy => flush_cy(w, nodes, operations, n, a, b),
-        _ => w,
+        _ => flush_pair(w, nodes, operations, n, kind, a, b),
     }
 }
 

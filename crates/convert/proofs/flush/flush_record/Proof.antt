@@ -1,8 +1,7 @@
--- `flush_record` meets its contract: one arm a kind, and one for those that have no frame gate.
+-- `flush_record` meets its contract: one arm a kind, and one for the rest.
 use Rattle.convert.specs.Records.{lowerAs}
 use Rattle.convert.specs.Code.Raw.{recordGates}
-use Rattle.convert.proofs.FlushLaws.{none-flushed}
-use Rattle.convert.proofs.Arms.{no-gates}
+use Rattle.convert.proofs.Arms.{pair-or-none}
 use borrow.Author.Needs.{needs}
 use Rattle.convert.proofs.flush.flush_record.Statement.{statement}
 use Rattle.convert.proofs.flush.flush_record.Tie as tie
@@ -45,44 +44,21 @@ flush-sdg-requires c κs = rw (c .before .before .enum-told5 .given .1) at (c .b
 enum-told-6 : tie.Need-enum-told-6
 enum-told-6 c = search needs
 
-flush-cnot-requires : tie.Need-flush-cnot-requires
+flush-y-requires : tie.Need-flush-y-requires
 unfolding recordGates lowerAs
-flush-cnot-requires c κs = rw (c .before .before .enum-told6 .given .1) at (c .before .before .before .before .before .before .pre)
+flush-y-requires c κs = rw (c .before .before .enum-told6 .given .1) at (c .before .before .before .before .before .before .pre)
 
 enum-told-7 : tie.Need-enum-told-7
 enum-told-7 c = search needs
 
-flush-cz-requires : tie.Need-flush-cz-requires
-unfolding recordGates lowerAs
-flush-cz-requires c κs = rw (c .before .before .enum-told7 .given .1) at (c .before .before .before .before .before .before .pre)
-
-enum-told-8 : tie.Need-enum-told-8
-enum-told-8 c = search needs
-
-flush-y-requires : tie.Need-flush-y-requires
-unfolding recordGates lowerAs
-flush-y-requires c κs = rw (c .before .before .enum-told8 .given .1) at (c .before .before .before .before .before .before .pre)
-
-enum-told-9 : tie.Need-enum-told-9
-enum-told-9 c = search needs
-
 flush-sx-requires : tie.Need-flush-sx-requires
 unfolding recordGates lowerAs
-flush-sx-requires c κs = rw (c .before .before .enum-told9 .given .1) at (c .before .before .before .before .before .before .pre)
+flush-sx-requires c κs = rw (c .before .before .enum-told7 .given .1) at (c .before .before .before .before .before .before .pre)
 
-enum-told-10 : tie.Need-enum-told-10
-enum-told-10 c = search needs
-
-flush-swap-requires : tie.Need-flush-swap-requires
-unfolding recordGates lowerAs
-flush-swap-requires c κs = rw (c .before .before .enum-told10 .given .1) at (c .before .before .before .before .before .before .pre)
-
-enum-told-11 : tie.Need-enum-told-11
-enum-told-11 c = search needs
-
-flush-cy-requires : tie.Need-flush-cy-requires
-unfolding recordGates lowerAs
-flush-cy-requires c κs = rw (c .before .before .enum-told11 .given .1) at (c .before .before .before .before .before .before .pre)
+flush-pair-requires : tie.Need-flush-pair-requires
+flush-pair-requires c κs =
+    let start = c .before .before .before .before .before in
+    (start .pre, pair-or-none (start .args .kind) (start .args .a) (start .args .b) (c .before .before .match .keys8))
 
 same-length : tie.Need-same-length
 same-length c = search needs
@@ -142,7 +118,7 @@ same-length-12 c = search needs
 
 returns-6 : tie.Need-returns-6
 unfolding recordGates lowerAs
-returns-6 c = rw (c .before .before .before .before .before .before .before .enum-told6 .given .1) (c .before .before .before .before .flush-cnot .ensures)
+returns-6 c = rw (c .before .before .before .before .before .before .before .enum-told6 .given .1) (c .before .before .before .before .flush-y .ensures)
 
 same-length-13 : tie.Need-same-length-13
 same-length-13 c = search needs
@@ -152,7 +128,7 @@ same-length-14 c = search needs
 
 returns-7 : tie.Need-returns-7
 unfolding recordGates lowerAs
-returns-7 c = rw (c .before .before .before .before .before .before .before .enum-told7 .given .1) (c .before .before .before .before .flush-cz .ensures)
+returns-7 c = rw (c .before .before .before .before .before .before .before .enum-told7 .given .1) (c .before .before .before .before .flush-sx .ensures)
 
 same-length-15 : tie.Need-same-length-15
 same-length-15 c = search needs
@@ -161,43 +137,7 @@ same-length-16 : tie.Need-same-length-16
 same-length-16 c = search needs
 
 returns-8 : tie.Need-returns-8
-unfolding recordGates lowerAs
-returns-8 c = rw (c .before .before .before .before .before .before .before .enum-told8 .given .1) (c .before .before .before .before .flush-y .ensures)
-
-same-length-17 : tie.Need-same-length-17
-same-length-17 c = search needs
-
-same-length-18 : tie.Need-same-length-18
-same-length-18 c = search needs
-
-returns-9 : tie.Need-returns-9
-unfolding recordGates lowerAs
-returns-9 c = rw (c .before .before .before .before .before .before .before .enum-told9 .given .1) (c .before .before .before .before .flush-sx .ensures)
-
-same-length-19 : tie.Need-same-length-19
-same-length-19 c = search needs
-
-same-length-20 : tie.Need-same-length-20
-same-length-20 c = search needs
-
-returns-10 : tie.Need-returns-10
-unfolding recordGates lowerAs
-returns-10 c = rw (c .before .before .before .before .before .before .before .enum-told10 .given .1) (c .before .before .before .before .flush-swap .ensures)
-
-same-length-21 : tie.Need-same-length-21
-same-length-21 c = search needs
-
-same-length-22 : tie.Need-same-length-22
-same-length-22 c = search needs
-
-returns-11 : tie.Need-returns-11
-unfolding recordGates lowerAs
-returns-11 c = rw (c .before .before .before .before .before .before .before .enum-told11 .given .1) (c .before .before .before .before .flush-cy .ensures)
-
-returns-12 : tie.Need-returns-12
-returns-12 c =
-    let start = c .before .before .before in
-    rw (no-gates (start .args .kind) (start .args .a) (start .args .b) (c .match .keys12)) none-flushed
+returns-8 c = c .before .before .before .before .flush-pair .ensures
 
 pub flush-record-spec : {M : Type 1} → statement M
 flush-record-spec =
@@ -214,17 +154,10 @@ flush-record-spec =
     enum-told-5
     flush-sdg-requires
     enum-told-6
-    flush-cnot-requires
-    enum-told-7
-    flush-cz-requires
-    enum-told-8
     flush-y-requires
-    enum-told-9
+    enum-told-7
     flush-sx-requires
-    enum-told-10
-    flush-swap-requires
-    enum-told-11
-    flush-cy-requires
+    flush-pair-requires
     same-length
     same-length-2
     returns
@@ -248,14 +181,4 @@ flush-record-spec =
     returns-7
     same-length-15
     same-length-16
-    returns-8
-    same-length-17
-    same-length-18
-    returns-9
-    same-length-19
-    same-length-20
-    returns-10
-    same-length-21
-    same-length-22
-    returns-11
-    returns-12)
+    returns-8)
