@@ -32,17 +32,17 @@ use Rattle.convert.specs.Later.{Circuit, converted, LaterCall, callFrame
 use Rattle.convert.specs.Statement.{Capped, Frame, Means, frameImages, Converts, endTable, endGates, Demand3}
 use Rattle.convert.specs.Lowering.{ruleY, ruleSx, ruleSwap, ruleCy, loweredActs}
 use Rattle.convert.specs.Circuits.{HandCircuits}
-use Rattle.convert.proofs.Nodes.{image-append}
-use Rattle.convert.proofs.FrameRows.{Under, Keeps, kept-map, Shows, shown, word-under}
-use Rattle.convert.proofs.Meaning.{Meant, meant, reads-kept}
-use Rattle.convert.proofs.PaperAxes.{Agrees, agrees, table-run}
-use Rattle.convert.proofs.Signs.{hermitian}
-use Rattle.convert.proofs.Accepting.{accepted, FitsGate, fits-gate}
-use Rattle.convert.proofs.CapKept.{capped}
-use Rattle.convert.proofs.LaterCalls.{framed, shows-framed, later-framed, Good, good-laters, made-step, meant-input, good-converted}
-use Rattle.convert.proofs.LoweredGates.{y-acts, sx-acts, swap-acts, cy-acts}
+use Rattle.convert.proofs.meaning.Nodes.{image-append}
+use Rattle.convert.proofs.meaning.FrameRows.{Under, Keeps, kept-map, Shows, shown, word-under}
+use Rattle.convert.proofs.meaning.Words.{Meant, meant, reads-kept}
+use Rattle.convert.proofs.meaning.Papers.{Agrees, agrees, table-run}
+use Rattle.convert.proofs.meaning.Signs.{hermitian}
+use Rattle.convert.proofs.Accepted.{accepted, FitsGate, fits-gate}
+use Rattle.convert.proofs.meaning.Cap.{capped}
+use Rattle.convert.proofs.calls.Table.{framed, shows-framed, later-framed, Good, good-laters, made-step, meant-input, good-converted}
+use Rattle.convert.proofs.meaning.Lowered.{y-acts, sx-acts, swap-acts, cy-acts}
 use Rattle.convert.proofs.HandCircuits.{hand-circuits}
-use Rattle.convert.proofs.OperationWords.{AllFour, four-run, ops-read}
+use Rattle.convert.proofs.meaning.Operations.{AllFour, four-run, ops-read}
 
 -- ---- Means
 

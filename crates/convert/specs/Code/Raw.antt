@@ -14,7 +14,7 @@ use Rattle.arena.specs.Nodes.{productWord}
 use Rattle.convert.specs.Conversion.{isMeasure, isDoubly, roomChecked, limits}
 use Rattle.arena.specs.Operations.{rotateWords, measureWords}
 use Rattle.convert.specs.Words.{Words, startWords, wordRun, idX, idZ}
-use Rattle.convert.specs.Types.{One, PlusI, MinusOne, MinusI, Bit, PbcError, Checked, Fine, Wrong, Header}
+use Rattle.convert.specs.Types.{One, PlusI, MinusOne, MinusI, Bit, PbcError, Checked, Fine, Wrong}
 use Rattle.convert.specs.Records.{GateKind, KindH, KindX, KindZ, KindS, KindSdg, KindT, KindTdg, KindCnot, KindCz, KindCcx, KindCcz, KindMeasure, KindY, KindSx, KindSwap, KindCy, Unsupported}
 use Rattle.convert.specs.Records.{Cap, NoCap, AtMost, Elementary, clifford, elT, elTdg, elCcx, elCcz, elMeasure, bare, lowerAs, Record, records, kindOf, AllProper, lowerAll}
 use Rattle.pauli.specs.Letters.{phaseNumber}
@@ -357,8 +357,3 @@ pub record NeedsChecked (n : ℕ) (cap : Cap) (gs : List ℕ) (frame node-words 
   pub same : r ≡ roomChecked limits Fine (needsLast n cap gs .nodes) (needsLast n cap gs .operations) n frame node-words operation-words
   pub planes : (t : List Row) → planesFor cap n t ps′ ≡ planesFor cap n t ps
   pub ended : (e : PbcError) → r ≡ Wrong e → ps′ ≡ planesFor cap n (plainLast n cap gs .table) ps
-
--- ---- what is lent to a conversion, and the header that it makes
-
-abbrev pub headerOf : (qubits cbits owner nodes operations measurements : ℕ) → Header
-headerOf q c o k m g = record { qubits = q; cbits = c; owner = o; nodes = k; operations = m; measurements = g }

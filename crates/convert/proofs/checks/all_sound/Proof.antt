@@ -6,7 +6,7 @@ use lib.ListN.{drop}
 use Rattle.convert.specs.Types.{Checked}
 use Rattle.convert.specs.Records.{records}
 use Rattle.convert.specs.Conversion.{recordsChecked}
-use Rattle.convert.proofs.CheckLaws.{checks-end, sound-more}
+use Rattle.convert.proofs.kinds.Checks.{checks-end, sound-more}
 use borrow.Author.Needs.{needs}
 use Rattle.convert.proofs.checks.all_sound.Statement.{statement}
 use Rattle.convert.proofs.checks.all_sound.Tie as tie

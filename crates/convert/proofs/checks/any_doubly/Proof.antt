@@ -5,7 +5,7 @@ use mathlib.Core.Bool.{_||_}
 use lib.ListN.{drop}
 use Rattle.convert.specs.Records.{records}
 use Rattle.convert.specs.Conversion.{anyDoubly}
-use Rattle.convert.proofs.CheckLaws.{doubly-more, doubly-end}
+use Rattle.convert.proofs.kinds.Checks.{doubly-more, doubly-end}
 use borrow.Author.Needs.{needs}
 use Rattle.convert.proofs.checks.any_doubly.Statement.{statement}
 use Rattle.convert.proofs.checks.any_doubly.Tie as tie

@@ -1,6 +1,6 @@
 use Rattle.convert.specs.Conversion.{anyDoubly}
 use Rattle.convert.specs.Records.{records}
-use Rattle.convert.proofs.CheckLaws.{cap-above, cap-below}
+use Rattle.convert.proofs.kinds.Checks.{cap-above, cap-below}
 use borrow.Author.Needs.{needs}
 use Rattle.convert.proofs.checks.cap_too_small.Statement.{statement}
 use Rattle.convert.proofs.checks.cap_too_small.Tie as tie

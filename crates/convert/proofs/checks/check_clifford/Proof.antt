@@ -1,7 +1,7 @@
 use mathlib.Core.Path.{_∙_, ap}
 use Rattle.arena.specs.Store.{noNodeRoom}
 use Rattle.convert.specs.Code.Raw.{isFrame, frameNodes}
-use Rattle.convert.proofs.CheckLaws.{clifford-checked}
+use Rattle.convert.proofs.kinds.Checks.{clifford-checked}
 use borrow.Author.Needs.{needs}
 use Rattle.convert.proofs.checks.check_clifford.Statement.{statement}
 use Rattle.convert.proofs.checks.check_clifford.Tie as tie

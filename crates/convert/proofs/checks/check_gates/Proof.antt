@@ -1,4 +1,4 @@
-use Rattle.convert.proofs.ConvertLaws.{gates-checked}
+use Rattle.convert.proofs.buffers.Conversion.{gates-checked}
 use borrow.Author.Needs.{needs}
 use Rattle.convert.proofs.checks.check_gates.Statement.{statement}
 use Rattle.convert.proofs.checks.check_gates.Tie as tie

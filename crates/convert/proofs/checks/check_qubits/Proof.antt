@@ -1,6 +1,6 @@
 -- `check_qubits` meets its contract, by the shape of the kind.
 use mathlib.Core.Path.{_∙_, sym}
-use Rattle.convert.proofs.CheckLaws.{none-checked, one-checked, two-checked, three-checked}
+use Rattle.convert.proofs.kinds.Checks.{none-checked, one-checked, two-checked, three-checked}
 use borrow.Author.Needs.{needs}
 use Rattle.convert.proofs.checks.check_qubits.Statement.{statement}
 use Rattle.convert.proofs.checks.check_qubits.Tie as tie

@@ -1,7 +1,7 @@
 -- `check_record` meets its contract.
 use mathlib.Core.Path.{_∙_, ap}
 use Rattle.convert.specs.Records.{GateKind, NoShape, Measured, hasShape}
-use Rattle.convert.proofs.CheckLaws.{record-checked}
+use Rattle.convert.proofs.kinds.Checks.{record-checked}
 use borrow.Author.Needs.{needs}
 use Rattle.convert.proofs.checks.check_record.Statement.{statement}
 use Rattle.convert.proofs.checks.check_record.Tie as tie

@@ -4,7 +4,7 @@ use mathlib.Core.Path.{_≡_, refl, _∙_, sym}
 use lib.ListN.{drop}
 use Rattle.convert.specs.Records.{records}
 use Rattle.convert.specs.Conversion.{recordsChecked}
-use Rattle.convert.proofs.CheckLaws.{checks-more, checks-end}
+use Rattle.convert.proofs.kinds.Checks.{checks-more, checks-end}
 use borrow.Author.Needs.{needs}
 use Rattle.convert.proofs.checks.check_records.Statement.{statement}
 use Rattle.convert.proofs.checks.check_records.Tie as tie

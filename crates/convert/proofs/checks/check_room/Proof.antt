@@ -1,4 +1,4 @@
-use Rattle.convert.proofs.ConvertLaws.{room-checked}
+use Rattle.convert.proofs.buffers.Conversion.{room-checked}
 use borrow.Author.Needs.{needs}
 use Rattle.convert.proofs.checks.check_room.Statement.{statement}
 use Rattle.convert.proofs.checks.check_room.Tie as tie

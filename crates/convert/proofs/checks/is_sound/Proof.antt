@@ -1,5 +1,5 @@
 -- `is_sound` meets its contract.
-use Rattle.convert.proofs.CheckLaws.{sound-record}
+use Rattle.convert.proofs.kinds.Checks.{sound-record}
 use borrow.Author.Needs.{needs}
 use Rattle.convert.proofs.checks.is_sound.Statement.{statement}
 use Rattle.convert.proofs.checks.is_sound.Tie as tie

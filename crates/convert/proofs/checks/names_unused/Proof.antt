@@ -4,7 +4,7 @@ use mathlib.Core.Path.{_≡_, refl, _∙_, sym}
 use mathlib.Core.Bool.{_||_}
 use lib.ListN.{drop, take}
 use Rattle.convert.specs.Frame.{namesUnused}
-use Rattle.convert.proofs.CheckLaws.{unused-more, unused-end}
+use Rattle.convert.proofs.kinds.Checks.{unused-more, unused-end}
 use borrow.Author.Needs.{needs}
 use Rattle.convert.proofs.checks.names_unused.Statement.{statement}
 use Rattle.convert.proofs.checks.names_unused.Tie as tie

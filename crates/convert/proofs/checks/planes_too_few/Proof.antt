@@ -1,5 +1,5 @@
 use native.Mathlib.Omega.{arith}
-use Rattle.convert.proofs.CheckLaws.{plane-words}
+use Rattle.convert.proofs.kinds.Checks.{plane-words}
 use borrow.Author.Needs.{needs}
 use Rattle.convert.proofs.checks.planes_too_few.Statement.{statement}
 use Rattle.convert.proofs.checks.planes_too_few.Tie as tie

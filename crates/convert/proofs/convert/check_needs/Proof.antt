@@ -1,5 +1,5 @@
 use mathlib.Core.Path.{_∙_}
-use Rattle.convert.proofs.SumLaws.{summed-needs, fits-most, counted}
+use Rattle.convert.proofs.counts.Sums.{summed-needs, fits-most, counted}
 use borrow.Author.Needs.{needs}
 use Rattle.convert.proofs.convert.check_needs.Statement.{statement}
 use Rattle.convert.proofs.convert.check_needs.Tie as tie

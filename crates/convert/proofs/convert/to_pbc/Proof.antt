@@ -1,7 +1,7 @@
 use native.Mathlib.Omega.{arith}
 use mathlib.Core.Path.{refl, _∙_, sym}
 use Rattle.arena.specs.Builder.{newHeader, startNodes, startFrame}
-use Rattle.convert.proofs.ConvertLaws.{gates-fit, counts-are, refused-first, refused-second, made, new-fine, new-words, not-refused, start-least, room-from, room-again, start-again, over-start, over-frame}
+use Rattle.convert.proofs.buffers.Conversion.{gates-fit, counts-are, refused-first, refused-second, made, new-fine, new-words, not-refused, start-least, room-from, room-again, start-again, over-start, over-frame}
 use borrow.Author.Needs.{needs}
 use Rattle.convert.proofs.convert.to_pbc.Statement.{statement}
 use Rattle.convert.proofs.convert.to_pbc.Tie as tie

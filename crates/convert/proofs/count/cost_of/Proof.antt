@@ -5,7 +5,7 @@ use borrow.Author.Needs.{needs}
 use Rattle.convert.specs.Records.{lowerAs}
 use Rattle.convert.specs.Code.Raw.{needed, costOf}
 use Rattle.convert.proofs.count.of.Reads as of-reads
-use Rattle.convert.proofs.Arms.{arm}
+use Rattle.convert.proofs.kinds.Arms.{arm}
 use Rattle.convert.proofs.count.cost_of.Statement.{statement}
 use Rattle.convert.proofs.count.cost_of.Tie as tie
 use Rattle.convert.proofs.count.cost_of.Reads as reads

@@ -4,8 +4,8 @@ use mathlib.Core.Path.{_≡_, refl, _∙_, sym}
 use lib.ListN.{length}
 use Rattle.pauli.specs.Table.{start}
 use Rattle.convert.specs.Records.{AtMost}
-use Rattle.convert.proofs.CountLaws.{prepared, planes-over}
-use Rattle.convert.proofs.RestLaws.{CountAt, count-start, count-more, count-end, few-cost}
+use Rattle.convert.proofs.packed.Deciding.{prepared, planes-over}
+use Rattle.convert.proofs.counts.Rest.{CountAt, count-start, count-more, count-end, few-cost}
 use borrow.Author.Needs.{needs}
 use Rattle.convert.proofs.count.count_records.Statement.{statement}
 use Rattle.convert.proofs.count.count_records.Tie as tie

@@ -1,4 +1,4 @@
-use Rattle.convert.proofs.CountLaws.{decided-uncapped}
+use Rattle.convert.proofs.packed.Deciding.{decided-uncapped}
 use borrow.Author.Needs.{needs}
 use Rattle.convert.proofs.count.decide.Statement.{statement}
 use Rattle.convert.proofs.count.decide.Tie as tie

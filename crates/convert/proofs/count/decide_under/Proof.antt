@@ -1,5 +1,5 @@
 use mathlib.Core.Path.{sym, _∙_}
-use Rattle.convert.proofs.CountLaws.{valid-of, decided-untested, decided-tested}
+use Rattle.convert.proofs.packed.Deciding.{valid-of, decided-untested, decided-tested}
 use borrow.Author.Needs.{needs}
 use Rattle.convert.proofs.count.decide_under.Statement.{statement}
 use Rattle.convert.proofs.count.decide_under.Tie as tie

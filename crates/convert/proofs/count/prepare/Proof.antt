@@ -1,7 +1,7 @@
 use native.Mathlib.Omega.{arith}
 use mathlib.Core.Path.{_∙_, sym}
 use borrow.Author.Tests.{not-true, not-false}
-use Rattle.convert.proofs.CountLaws.{prepared}
+use Rattle.convert.proofs.packed.Deciding.{prepared}
 use borrow.Author.Needs.{needs}
 use Rattle.convert.proofs.count.prepare.Statement.{statement}
 use Rattle.convert.proofs.count.prepare.Tie as tie

@@ -6,8 +6,8 @@ use lib.ListN.{drop}
 use Rattle.convert.specs.Records.{records}
 use Rattle.convert.specs.Code.Raw.{needed, summed}
 use Rattle.convert.specs.declared.count.Needed.{Needed}
-use Rattle.convert.proofs.RestLaws.{few-cost, costs-few}
-use Rattle.convert.proofs.SumLaws.{sum-more, sum-end}
+use Rattle.convert.proofs.counts.Rest.{few-cost, costs-few}
+use Rattle.convert.proofs.counts.Sums.{sum-more, sum-end}
 use borrow.Author.Needs.{needs}
 use Rattle.convert.proofs.count.sum_records.Statement.{statement}
 use Rattle.convert.proofs.count.sum_records.Tie as tie

@@ -1,4 +1,4 @@
-use Rattle.convert.proofs.FlushLaws.{cnot-flushed}
+use Rattle.convert.proofs.buffers.Flush.{cnot-flushed}
 use borrow.Author.Needs.{needs}
 use Rattle.convert.proofs.flush.flush_cnot.Statement.{statement}
 use Rattle.convert.proofs.flush.flush_cnot.Tie as tie

@@ -1,4 +1,4 @@
-use Rattle.convert.proofs.FlushLaws.{cz-flushed}
+use Rattle.convert.proofs.buffers.Flush.{cz-flushed}
 use borrow.Author.Needs.{needs}
 use Rattle.convert.proofs.flush.flush_cz.Statement.{statement}
 use Rattle.convert.proofs.flush.flush_cz.Tie as tie

@@ -1,4 +1,4 @@
-use Rattle.convert.proofs.FlushLaws.{h-flushed}
+use Rattle.convert.proofs.buffers.Flush.{h-flushed}
 use borrow.Author.Needs.{needs}
 use Rattle.convert.proofs.flush.flush_h.Statement.{statement}
 use Rattle.convert.proofs.flush.flush_h.Tie as tie

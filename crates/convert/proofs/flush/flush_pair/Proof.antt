@@ -1,8 +1,8 @@
 -- `flush_pair` meets its contract: one arm a kind, and one for the rest.
 use Rattle.convert.specs.Records.{lowerAs}
 use Rattle.convert.specs.Code.Raw.{recordGates}
-use Rattle.convert.proofs.FlushLaws.{none-flushed}
-use Rattle.convert.proofs.Arms.{no-pair}
+use Rattle.convert.proofs.buffers.Flush.{none-flushed}
+use Rattle.convert.proofs.kinds.Arms.{no-pair}
 use borrow.Author.Needs.{needs}
 use Rattle.convert.proofs.flush.flush_pair.Statement.{statement}
 use Rattle.convert.proofs.flush.flush_pair.Tie as tie

@@ -1,7 +1,7 @@
 -- `flush_record` meets its contract: one arm a kind, and one for the rest.
 use Rattle.convert.specs.Records.{lowerAs}
 use Rattle.convert.specs.Code.Raw.{recordGates}
-use Rattle.convert.proofs.Arms.{pair-or-none}
+use Rattle.convert.proofs.kinds.Arms.{pair-or-none}
 use borrow.Author.Needs.{needs}
 use Rattle.convert.proofs.flush.flush_record.Statement.{statement}
 use Rattle.convert.proofs.flush.flush_record.Tie as tie

@@ -2,7 +2,7 @@ use native.Mathlib.Omega.{arith}
 use Prim.Native.Nat.{_≤_, _-_}
 use mathlib.Core.Path.{_≡_, refl}
 use lib.ListN.{length}
-use Rattle.convert.proofs.FlushLaws.{FlushAt, flush-start, flush-one, flush-more, flush-end}
+use Rattle.convert.proofs.buffers.Flush.{FlushAt, flush-start, flush-one, flush-more, flush-end}
 use borrow.Author.Needs.{needs}
 use Rattle.convert.proofs.flush.flush_records.Statement.{statement}
 use Rattle.convert.proofs.flush.flush_records.Tie as tie

@@ -1,4 +1,4 @@
-use Rattle.convert.proofs.FlushLaws.{s-flushed}
+use Rattle.convert.proofs.buffers.Flush.{s-flushed}
 use borrow.Author.Needs.{needs}
 use Rattle.convert.proofs.flush.flush_s.Statement.{statement}
 use Rattle.convert.proofs.flush.flush_s.Tie as tie

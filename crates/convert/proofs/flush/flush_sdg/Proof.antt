@@ -1,4 +1,4 @@
-use Rattle.convert.proofs.FlushLaws.{sdg-flushed}
+use Rattle.convert.proofs.buffers.Flush.{sdg-flushed}
 use borrow.Author.Needs.{needs}
 use Rattle.convert.proofs.flush.flush_sdg.Statement.{statement}
 use Rattle.convert.proofs.flush.flush_sdg.Tie as tie

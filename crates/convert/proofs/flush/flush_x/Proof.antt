@@ -1,4 +1,4 @@
-use Rattle.convert.proofs.FlushLaws.{x-flushed}
+use Rattle.convert.proofs.buffers.Flush.{x-flushed}
 use borrow.Author.Needs.{needs}
 use Rattle.convert.proofs.flush.flush_x.Statement.{statement}
 use Rattle.convert.proofs.flush.flush_x.Tie as tie

@@ -1,6 +1,6 @@
 -- `flush_y` meets its contract: the gates in turn.
 use native.Mathlib.Omega.{arith}
-use Rattle.convert.proofs.FlushLaws.{flush-head, flush-tail, more-flushed}
+use Rattle.convert.proofs.buffers.Flush.{flush-head, flush-tail, more-flushed}
 use borrow.Author.Needs.{needs}
 use Rattle.convert.proofs.flush.flush_y.Statement.{statement}
 use Rattle.convert.proofs.flush.flush_y.Tie as tie

@@ -1,4 +1,4 @@
-use Rattle.convert.proofs.FlushLaws.{z-flushed}
+use Rattle.convert.proofs.buffers.Flush.{z-flushed}
 use borrow.Author.Needs.{needs}
 use Rattle.convert.proofs.flush.flush_z.Statement.{statement}
 use Rattle.convert.proofs.flush.flush_z.Tie as tie

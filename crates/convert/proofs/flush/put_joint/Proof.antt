@@ -1,5 +1,5 @@
 use mathlib.Core.Path.{refl}
-use Rattle.convert.proofs.FlushLaws.{joint-put}
+use Rattle.convert.proofs.buffers.Flush.{joint-put}
 use borrow.Author.Needs.{needs}
 use Rattle.convert.proofs.flush.put_joint.Statement.{statement}
 use Rattle.convert.proofs.flush.put_joint.Tie as tie

@@ -1,7 +1,7 @@
 use Rattle.convert.specs.Records.{lowerAs}
 use Rattle.convert.specs.Frame.{frameGates}
-use Rattle.convert.proofs.FrameLaws.{head-ready, none-ran}
-use Rattle.convert.proofs.Arms.{no-frame}
+use Rattle.convert.proofs.buffers.Frame.{head-ready, none-ran}
+use Rattle.convert.proofs.kinds.Arms.{no-frame}
 use borrow.Author.Needs.{needs}
 use Rattle.convert.proofs.frame.append.Statement.{statement}
 use Rattle.convert.proofs.frame.append.Tie as tie

@@ -1,8 +1,8 @@
 -- `frame_record` meets its contract: one arm a kind, and one for those that have no frame gate.
 use Rattle.convert.specs.Records.{lowerAs}
 use Rattle.convert.specs.Code.Raw.{recordGates}
-use Rattle.convert.proofs.FrameLaws.{none-ran}
-use Rattle.convert.proofs.Arms.{no-gates}
+use Rattle.convert.proofs.buffers.Frame.{none-ran}
+use Rattle.convert.proofs.kinds.Arms.{no-gates}
 use borrow.Author.Needs.{needs}
 use Rattle.convert.proofs.frame.frame_record.Statement.{statement}
 use Rattle.convert.proofs.frame.frame_record.Tie as tie

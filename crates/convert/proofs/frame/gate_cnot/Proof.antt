@@ -2,7 +2,7 @@ use native.Mathlib.Omega.{arith}
 use mathlib.Core.Path.{refl}
 use Prim.Native.Nat.{_+_, _-_}
 use Rattle.pauli.specs.Gates.{gateCnot}
-use Rattle.convert.proofs.FrameLaws.{two-ran, cnot-step, mul-count, mul-small}
+use Rattle.convert.proofs.buffers.Frame.{two-ran, cnot-step, mul-count, mul-small}
 use borrow.Author.Needs.{needs}
 use Rattle.convert.proofs.frame.gate_cnot.Statement.{statement}
 use Rattle.convert.proofs.frame.gate_cnot.Tie as tie

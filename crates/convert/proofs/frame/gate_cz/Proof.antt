@@ -2,7 +2,7 @@ use native.Mathlib.Omega.{arith}
 use mathlib.Core.Path.{refl}
 use Prim.Native.Nat.{_+_, _-_}
 use Rattle.pauli.specs.Gates.{gateCz}
-use Rattle.convert.proofs.FrameLaws.{two-ran, cz-step, mul-count, mul-small}
+use Rattle.convert.proofs.buffers.Frame.{two-ran, cz-step, mul-count, mul-small}
 use borrow.Author.Needs.{needs}
 use Rattle.convert.proofs.frame.gate_cz.Statement.{statement}
 use Rattle.convert.proofs.frame.gate_cz.Tie as tie

@@ -1,7 +1,7 @@
 use native.Mathlib.Omega.{arith}
 use lib.ListN.{length-set}
 use Prim.Native.Nat.{_-_}
-use Rattle.convert.proofs.FrameLaws.{h-ran}
+use Rattle.convert.proofs.buffers.Frame.{h-ran}
 use borrow.Author.Needs.{needs}
 use Rattle.convert.proofs.frame.gate_h.Statement.{statement}
 use Rattle.convert.proofs.frame.gate_h.Tie as tie

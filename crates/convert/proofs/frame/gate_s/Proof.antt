@@ -1,6 +1,6 @@
 use native.Mathlib.Omega.{arith}
 use Prim.Native.Nat.{_-_}
-use Rattle.convert.proofs.FrameLaws.{s-ran}
+use Rattle.convert.proofs.buffers.Frame.{s-ran}
 use borrow.Author.Needs.{needs}
 use Rattle.convert.proofs.frame.gate_s.Statement.{statement}
 use Rattle.convert.proofs.frame.gate_s.Tie as tie

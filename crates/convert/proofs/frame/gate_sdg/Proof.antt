@@ -1,6 +1,6 @@
 use native.Mathlib.Omega.{arith}
 use Prim.Native.Nat.{_-_}
-use Rattle.convert.proofs.FrameLaws.{sdg-ran}
+use Rattle.convert.proofs.buffers.Frame.{sdg-ran}
 use borrow.Author.Needs.{needs}
 use Rattle.convert.proofs.frame.gate_sdg.Statement.{statement}
 use Rattle.convert.proofs.frame.gate_sdg.Tie as tie

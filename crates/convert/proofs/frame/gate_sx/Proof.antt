@@ -1,6 +1,6 @@
 -- `gate_sx` meets its contract: the gates in turn.
 use native.Mathlib.Omega.{arith}
-use Rattle.convert.proofs.FrameLaws.{head-ready, tail-ready, more-ran}
+use Rattle.convert.proofs.buffers.Frame.{head-ready, tail-ready, more-ran}
 use borrow.Author.Needs.{needs}
 use Rattle.convert.proofs.frame.gate_sx.Statement.{statement}
 use Rattle.convert.proofs.frame.gate_sx.Tie as tie

@@ -1,5 +1,5 @@
 use Prim.Native.Nat.{_-_}
-use Rattle.convert.proofs.FrameLaws.{x-ran}
+use Rattle.convert.proofs.buffers.Frame.{x-ran}
 use borrow.Author.Needs.{needs}
 use Rattle.convert.proofs.frame.gate_x.Statement.{statement}
 use Rattle.convert.proofs.frame.gate_x.Tie as tie

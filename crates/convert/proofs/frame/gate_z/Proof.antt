@@ -1,5 +1,5 @@
 use Prim.Native.Nat.{_-_}
-use Rattle.convert.proofs.FrameLaws.{z-ran}
+use Rattle.convert.proofs.buffers.Frame.{z-ran}
 use borrow.Author.Needs.{needs}
 use Rattle.convert.proofs.frame.gate_z.Statement.{statement}
 use Rattle.convert.proofs.frame.gate_z.Tie as tie

@@ -2,7 +2,7 @@ use mathlib.Core.Path.{refl, _∙_, sym, ap}
 use Prim.Native.Nat.{ℕ}
 use Rattle.arena.specs.Builder.{withNodes}
 use Rattle.convert.specs.Frame.{Arena, cliffordStep, FramePushedMade}
-use Rattle.convert.proofs.CliffordLaws.{clifford-ready, clifford-done}
+use Rattle.convert.proofs.buffers.Clifford.{clifford-ready, clifford-done}
 use borrow.Author.Needs.{needs}
 use Rattle.convert.proofs.frame.push_output_clifford.Statement.{statement}
 use Rattle.convert.proofs.frame.push_output_clifford.Tie as tie

@@ -1,6 +1,6 @@
 -- `convert_and_run` meets its contract.
 use Rattle.convert.specs.Conversion.{inputOf}
-use Rattle.convert.proofs.LaterRuns.{run-made, run-refused, demand3-of}
+use Rattle.convert.proofs.calls.Words.{run-made, run-refused, demand3-of}
 use borrow.Author.Needs.{needs}
 use Rattle.convert.proofs.later.convert_and_run.Statement.{statement}
 use Rattle.convert.proofs.later.convert_and_run.Tie as tie

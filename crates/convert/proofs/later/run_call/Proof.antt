@@ -2,7 +2,7 @@
 use mathlib.Core.Path.{ap, sym, _∙_}
 use Rattle.convert.specs.Later.{circuitOf, later}
 use Rattle.convert.specs.LaterWords.{callAs, callIn}
-use Rattle.convert.proofs.LaterRuns.{call-rest}
+use Rattle.convert.proofs.calls.Words.{call-rest}
 use borrow.Author.Needs.{needs}
 use Rattle.convert.proofs.later.run_call.Statement.{statement}
 use Rattle.convert.proofs.later.run_call.Tie as tie

@@ -6,7 +6,7 @@ use native.Mathlib.Omega.{arith}
 use lib.ListN.{length}
 use Rattle.convert.specs.Later.{circuitOf, later, laters}
 use Rattle.convert.specs.LaterWords.{callIn, callsTo, callsIn}
-use Rattle.convert.proofs.LaterRuns.{ran-more}
+use Rattle.convert.proofs.calls.Words.{ran-more}
 use Rattle.convert.proofs.later.run_calls.Statement.{statement}
 use Rattle.convert.proofs.later.run_calls.Tie as tie
 

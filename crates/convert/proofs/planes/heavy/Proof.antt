@@ -1,8 +1,8 @@
 use native.Mathlib.Omega.{arith}
 use mathlib.Core.Path.{_∙_, sym}
 use lib.ListN.{length}
-use Rattle.convert.proofs.PlaneLaws.{room-x, room-z}
-use Rattle.convert.proofs.Heavy.{light, a-qubit, three-qubits, three-qubits-z, third, z-heavy, ccx-heavy, ccz-heavy}
+use Rattle.convert.proofs.packed.Words.{room-x, room-z}
+use Rattle.convert.proofs.packed.Tests.{light, a-qubit, three-qubits, three-qubits-z, third, z-heavy, ccx-heavy, ccz-heavy}
 use borrow.Author.Needs.{needs}
 use Rattle.convert.proofs.planes.heavy.Statement.{statement}
 use Rattle.convert.proofs.planes.heavy.Tie as tie

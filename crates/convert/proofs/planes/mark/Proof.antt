@@ -2,7 +2,7 @@ use native.Mathlib.Omega.{arith}
 use native.Mathlib.Numerals.{add-one}
 use lib.ListN.{length, length-set}
 use Prim.Native.Nat.{_-_}
-use Rattle.convert.proofs.PlaneLaws.{room-x, room-z}
+use Rattle.convert.proofs.packed.Words.{room-x, room-z}
 use borrow.Author.Needs.{needs}
 use Rattle.convert.proofs.planes.mark.Statement.{statement}
 use Rattle.convert.proofs.planes.mark.Tie as tie

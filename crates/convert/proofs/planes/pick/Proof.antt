@@ -1,4 +1,4 @@
-use Rattle.convert.proofs.PlaneLaws.{pick-some}
+use Rattle.convert.proofs.packed.Words.{pick-some}
 use borrow.Author.Needs.{needs}
 use Rattle.convert.proofs.planes.pick.Statement.{statement}
 use Rattle.convert.proofs.planes.pick.Tie as tie

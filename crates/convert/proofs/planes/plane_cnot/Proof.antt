@@ -4,7 +4,7 @@ use lib.ListN.{length}
 use mathlib.Core.Path.{_∙_}
 use Prim.Native.Nat.{_-_}
 use Rattle.convert.specs.Code.RawPlanes.{planeStep}
-use Rattle.convert.proofs.PlaneLaws.{room-x, room-z}
+use Rattle.convert.proofs.packed.Words.{room-x, room-z}
 use borrow.Author.Needs.{needs}
 use Rattle.convert.proofs.planes.plane_cnot.Statement.{statement}
 use Rattle.convert.proofs.planes.plane_cnot.Tie as tie

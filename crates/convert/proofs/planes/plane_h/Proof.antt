@@ -2,7 +2,7 @@ use native.Mathlib.Numerals.{add-one}
 use lib.ListN.{length}
 use Prim.Native.Nat.{_-_}
 use Rattle.convert.specs.Code.RawPlanes.{planeStep}
-use Rattle.convert.proofs.PlaneLaws.{room-x, room-z}
+use Rattle.convert.proofs.packed.Words.{room-x, room-z}
 use borrow.Author.Needs.{needs}
 use Rattle.convert.proofs.planes.plane_h.Statement.{statement}
 use Rattle.convert.proofs.planes.plane_h.Tie as tie

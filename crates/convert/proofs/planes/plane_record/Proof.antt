@@ -3,7 +3,7 @@ use mathlib.Core.Path.{_∙_}
 use Rattle.convert.specs.Code.RawPlanes.{planeStep, planeRun}
 use Rattle.convert.specs.Records.{lowerAs}
 use Rattle.convert.specs.Code.Raw.{recordGates}
-use Rattle.convert.proofs.Arms.{no-planes}
+use Rattle.convert.proofs.kinds.Arms.{no-planes}
 use borrow.Author.Needs.{needs}
 use Rattle.convert.proofs.planes.plane_record.Statement.{statement}
 use Rattle.convert.proofs.planes.plane_record.Tie as tie

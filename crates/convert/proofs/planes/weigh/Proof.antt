@@ -5,7 +5,7 @@ use borrow.Author.Needs.{needs}
 use lib.Bits.{or-lt}
 use lib.Count.{ones-le}
 use Rattle.convert.specs.Code.RawPlanes.{weightTo}
-use Rattle.convert.proofs.PlaneLaws.{weight-more}
+use Rattle.convert.proofs.packed.Words.{weight-more}
 use Rattle.convert.proofs.planes.weigh.Statement.{statement}
 use Rattle.convert.proofs.planes.weigh.Tie as tie
 use Rattle.convert.proofs.planes.weigh.Reads as reads

@@ -2,7 +2,7 @@
 use mathlib.Core.Path.{ap}
 use native.Mathlib.Omega.{arith}
 use Rattle.convert.specs.Conversion.{isMeasure}
-use Rattle.convert.proofs.Arms.{no-measure}
+use Rattle.convert.proofs.kinds.Arms.{no-measure}
 use borrow.Author.Needs.{needs}
 use Rattle.convert.proofs.write.bit_word.Statement.{statement}
 use Rattle.convert.proofs.write.bit_word.Tie as tie

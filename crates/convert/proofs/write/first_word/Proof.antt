@@ -3,7 +3,7 @@ use mathlib.Core.Path.{refl}
 use mathlib.Core.List.{[], _∷_}
 use Rattle.convert.specs.Records.{lowerAs}
 use Rattle.convert.specs.Code.Raw.{firstWord}
-use Rattle.convert.proofs.Arms.{arm}
+use Rattle.convert.proofs.kinds.Arms.{arm}
 use borrow.Author.Needs.{needs}
 use Rattle.convert.proofs.write.first_word.Statement.{statement}
 use Rattle.convert.proofs.write.first_word.Tie as tie

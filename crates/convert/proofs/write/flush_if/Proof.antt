@@ -1,7 +1,7 @@
 use mathlib.Core.Path.{_∙_}
 use borrow.Author.Tests.{not-true, not-false}
 use Rattle.arena.proofs.Overlay.{frame-started}
-use Rattle.convert.proofs.FlushLaws.{not-flushed, is-flushed}
+use Rattle.convert.proofs.buffers.Flush.{not-flushed, is-flushed}
 use borrow.Author.Needs.{needs}
 use Rattle.convert.proofs.write.flush_if.Statement.{statement}
 use Rattle.convert.proofs.write.flush_if.Tie as tie

@@ -1,5 +1,5 @@
 -- `given_word` meets its contract.
-use Rattle.convert.proofs.Arms.{no-measure}
+use Rattle.convert.proofs.kinds.Arms.{no-measure}
 use borrow.Author.Needs.{needs}
 use Rattle.convert.proofs.write.given_word.Statement.{statement}
 use Rattle.convert.proofs.write.given_word.Tie as tie

@@ -1,5 +1,5 @@
 use mathlib.Core.Path.{_∙_, sym}
-use Rattle.convert.proofs.CheckLaws.{measures-by}
+use Rattle.convert.proofs.kinds.Checks.{measures-by}
 use borrow.Author.Needs.{needs}
 use Rattle.convert.proofs.write.measures.Statement.{statement}
 use Rattle.convert.proofs.write.measures.Tie as tie

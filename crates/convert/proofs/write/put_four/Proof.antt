@@ -1,4 +1,4 @@
-use Rattle.convert.proofs.SevenLaws.{four-put}
+use Rattle.convert.proofs.buffers.Seven.{four-put}
 use borrow.Author.Needs.{needs}
 use Rattle.convert.proofs.write.put_four.Statement.{statement}
 use Rattle.convert.proofs.write.put_four.Tie as tie

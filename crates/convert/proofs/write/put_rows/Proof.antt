@@ -4,7 +4,7 @@ use mathlib.Core.Path.{_≡_, refl}
 use mathlib.Core.List.{[]}
 use lib.ListN.{length}
 use Rattle.convert.specs.Code.Raw.{writing, putRows}
-use Rattle.convert.proofs.SevenLaws.{rows-none, rows-more}
+use Rattle.convert.proofs.buffers.Seven.{rows-none, rows-more}
 use borrow.Author.Needs.{needs}
 use Rattle.convert.proofs.write.put_rows.Statement.{statement}
 use Rattle.convert.proofs.write.put_rows.Tie as tie

@@ -1,4 +1,4 @@
-use Rattle.convert.proofs.SevenLaws.{seven-put}
+use Rattle.convert.proofs.buffers.Seven.{seven-put}
 use borrow.Author.Needs.{needs}
 use Rattle.convert.proofs.write.put_seven.Statement.{statement}
 use Rattle.convert.proofs.write.put_seven.Tie as tie

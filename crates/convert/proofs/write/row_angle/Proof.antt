@@ -1,4 +1,4 @@
-use Rattle.convert.proofs.SevenLaws.{row-angle}
+use Rattle.convert.proofs.buffers.Seven.{row-angle}
 use borrow.Author.Needs.{needs}
 use Rattle.convert.proofs.write.row_angle.Statement.{statement}
 use Rattle.convert.proofs.write.row_angle.Tie as tie

@@ -1,4 +1,4 @@
-use Rattle.convert.proofs.SevenLaws.{row-subset}
+use Rattle.convert.proofs.buffers.Seven.{row-subset}
 use borrow.Author.Needs.{needs}
 use Rattle.convert.proofs.write.row_subset.Statement.{statement}
 use Rattle.convert.proofs.write.row_subset.Tie as tie

@@ -1,4 +1,4 @@
-use Rattle.convert.proofs.SevenLaws.{word-past}
+use Rattle.convert.proofs.buffers.Seven.{word-past}
 use borrow.Author.Needs.{needs}
 use Rattle.convert.proofs.write.subset_word.Statement.{statement}
 use Rattle.convert.proofs.write.subset_word.Tie as tie

@@ -4,9 +4,9 @@ use mathlib.Core.Path.{refl, ap, _∙_}
 use Prim.Native.Nat.{ℕ, _+_}
 use lib.ListN.{getD}
 use Rattle.convert.specs.Code.Raw.{writing, putSeven, loneWords}
-use Rattle.convert.proofs.SevenLaws.{op-put, lone-put}
-use Rattle.convert.proofs.ReadyLaws.{read-lone, read-doubly}
-use Rattle.convert.proofs.Arms.{no-record, lone-record, seven-record}
+use Rattle.convert.proofs.buffers.Seven.{op-put, lone-put}
+use Rattle.convert.proofs.buffers.Reads.{read-lone, read-doubly}
+use Rattle.convert.proofs.kinds.Arms.{no-record, lone-record, seven-record}
 use borrow.Author.Needs.{needs}
 use Rattle.convert.proofs.write.write_record.Statement.{statement}
 use Rattle.convert.proofs.write.write_record.Tie as tie

@@ -3,8 +3,8 @@ use Prim.Native.Nat.{_≤_, _-_}
 use mathlib.Core.Path.{_≡_, refl, _∙_, sym}
 use lib.ListN.{length}
 use Rattle.pauli.specs.Table.{start}
-use Rattle.convert.proofs.CountLaws.{planes-over}
-use Rattle.convert.proofs.WriteLaws.{WriteAt, write-start, write-planes, write-flush, write-frames, write-ready, write-more, write-end, measures-few}
+use Rattle.convert.proofs.packed.Deciding.{planes-over}
+use Rattle.convert.proofs.buffers.Writing.{WriteAt, write-start, write-planes, write-flush, write-frames, write-ready, write-more, write-end, measures-few}
 use borrow.Author.Needs.{needs}
 use Rattle.convert.proofs.write.write_records.Statement.{statement}
 use Rattle.convert.proofs.write.write_records.Tie as tie

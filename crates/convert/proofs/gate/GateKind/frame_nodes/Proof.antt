@@ -5,7 +5,7 @@ use borrow.Author.Needs.{needs}
 use Rattle.convert.specs.Records.{lowerAs}
 use Rattle.convert.specs.Frame.{frameGates}
 use Rattle.convert.specs.Code.Raw.{frameNodes}
-use Rattle.convert.proofs.Arms.{arm}
+use Rattle.convert.proofs.kinds.Arms.{arm}
 use Rattle.convert.proofs.gate.GateKind.frame_nodes.Statement.{statement}
 use Rattle.convert.proofs.gate.GateKind.frame_nodes.Tie as tie
 

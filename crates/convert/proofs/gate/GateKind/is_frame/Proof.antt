@@ -6,7 +6,7 @@ use borrow.Author.Needs.{needs}
 use Rattle.convert.specs.Records.{lowerAs}
 use Rattle.convert.specs.Frame.{frameGates}
 use Rattle.convert.specs.Code.Raw.{isFrame}
-use Rattle.convert.proofs.Arms.{arm}
+use Rattle.convert.proofs.kinds.Arms.{arm}
 use Rattle.convert.proofs.gate.GateKind.is_frame.Statement.{statement}
 use Rattle.convert.proofs.gate.GateKind.is_frame.Tie as tie
 

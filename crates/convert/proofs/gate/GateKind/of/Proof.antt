@@ -1,5 +1,5 @@
 use Rattle.convert.specs.Records.{kindOf}
-use Rattle.convert.proofs.Outside.{outside}
+use Rattle.convert.proofs.kinds.Unlisted.{outside}
 use Rattle.convert.proofs.gate.GateKind.of.Statement.{statement}
 use Rattle.convert.proofs.gate.GateKind.of.Tie as tie
 use Rattle.convert.proofs.gate.GateKind.of.Reads as reads

@@ -3,7 +3,7 @@ use mathlib.Core.Path.{refl}
 use mathlib.Core.List.{[], _∷_}
 use borrow.Author.Needs.{needs}
 use Rattle.convert.specs.Records.{OneQubit, TwoQubits, ThreeQubits, shapeOf}
-use Rattle.convert.proofs.Arms.{arm}
+use Rattle.convert.proofs.kinds.Arms.{arm}
 use Rattle.convert.proofs.gate.GateKind.shape.Statement.{statement}
 use Rattle.convert.proofs.gate.GateKind.shape.Tie as tie
 

@@ -4,7 +4,7 @@ use mathlib.Core.List.{[], _∷_}
 use borrow.Author.Needs.{needs}
 use Rattle.convert.specs.Records.{lowerAs}
 use Rattle.convert.specs.Code.Raw.{testsOf}
-use Rattle.convert.proofs.Arms.{arm}
+use Rattle.convert.proofs.kinds.Arms.{arm}
 use Rattle.convert.proofs.gate.GateKind.tests.Statement.{statement}
 use Rattle.convert.proofs.gate.GateKind.tests.Tie as tie
 

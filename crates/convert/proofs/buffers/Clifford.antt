@@ -17,8 +17,8 @@ use Rattle.convert.specs.Types.{Header, BadStore, NonCliffordFrameGate, 
 use Rattle.convert.specs.Records.{kindOf}
 use Rattle.convert.specs.Frame.{qubitsOf, operandsChecked, namesUnused, frameGates, frameRun, cliffordCheck, opened}
 use Rattle.convert.specs.Code.Raw.{arena, putRun, Small, FrameReady, Ran}
-use Rattle.convert.proofs.Accepting.{passed-operands, FitsGate, fits-gate}
-use Rattle.convert.proofs.Laid.{laid, put-run}
+use Rattle.convert.proofs.Accepted.{passed-operands, FitsGate, fits-gate}
+use Rattle.convert.proofs.buffers.Words.{laid, put-run}
 
 unused-small : (k : ℕ) (ws : List ℕ) → namesUnused k ws ≡ false → (i : ℕ) → i < length ws → getD ws i 0 / 4 < k
 unused-small k [] e i h = absurd (omega arith)

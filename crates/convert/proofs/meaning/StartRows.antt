@@ -18,7 +18,7 @@ use Rattle.arena.proofs.NodeRows.{image-of-node}
 use Rattle.convert.specs.Types.{X, Z}
 use Rattle.convert.specs.Frame.{Arena, startArena}
 use Rattle.convert.specs.Words.{idX, idZ}
-use Rattle.convert.proofs.FrameRows.{Under, Keeps, Shows}
+use Rattle.convert.proofs.meaning.FrameRows.{Under, Keeps, Shows}
 
 -- ---- the frame words of the start
 

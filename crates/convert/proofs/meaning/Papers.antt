@@ -15,7 +15,7 @@ use Rattle.convert.specs.Types.{Pauli, X, Z, Bit}
 use Rattle.convert.specs.Records.{Cap, NoCap, AtMost, Elementary, clifford, elT, elTdg, elCcx, elCcz, elMeasure, Placed, bare, Proper, AllProper}
 use Rattle.convert.specs.Plain.{Plain, plainBegin, rowsAfter, tableRun, anyAbove, seven, asRotation, tested, exceeds, flushed, performAs, perform, plainStep, plainRun}
 use Rattle.convert.specs.Paper.{Paper, gateProducts, axes, tooHeavy, sevenAngles, rotateAll, measureFirst, writes, paperPerform, paperFlushed, paperStep, paperRun, paperBegin}
-use Rattle.convert.proofs.Meaning.{valid-append, bare-snoc}
+use Rattle.convert.proofs.meaning.Words.{valid-append, bare-snoc}
 
 -- the seven products go through U† P U
 through-seven : (n : ℕ) (gs : List Gate) → AllValid n gs → (a b d : ℕ) (l : Pauli) (A B D : Row)

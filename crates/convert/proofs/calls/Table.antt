@@ -20,9 +20,9 @@ use Rattle.convert.specs.Frame.{Arena, frameStep, frameRun, frameGates, 
 use Rattle.convert.specs.Conversion.{limits, Input, gatesIn, plainEnd, wordEnd, gatesCheck, convertCheck, planesAfter, convertedHeader, convertAs, convertWithin, convertStep}
 use Rattle.convert.specs.Later.{Circuit, circuitOf, converted, LaterCall, callFrame, callSingle, callProduct, callRotate, callMeasure, callConditional, callExpand, callHermitian, callWeights}
 use Rattle.convert.specs.Later.{lendOperations, later, laters, gatesOf, fed}
-use Rattle.convert.proofs.FrameRows.{appended, Shows, shows-appended, shows-step}
-use Rattle.convert.proofs.Meaning.{Meant, meant, valid-append}
-use Rattle.convert.proofs.Accepting.{accepted, fits-gate}
+use Rattle.convert.proofs.meaning.FrameRows.{appended, Shows, shows-appended, shows-step}
+use Rattle.convert.proofs.meaning.Words.{Meant, meant, valid-append}
+use Rattle.convert.proofs.Accepted.{accepted, fits-gate}
 
 -- the frame words of the circuit stand for t, the table of the gates gs
 pub record Good (n : ℕ) (s : Circuit) (t : List Row) (gs : List Gate) : Type 0 where

@@ -18,10 +18,10 @@ use Rattle.convert.specs.Words.{Words, startWords, flushWords, wordRun}
 use Rattle.convert.specs.Code.Needs.{Needs, writtenNodes, writtenOps, needStep, needRun}
 use Rattle.convert.specs.Code.RawPlanes.{Wide}
 use Rattle.convert.specs.Code.Raw.{recordGates, planesFor, Decided, Fits, Small, FrameReady, Ran, FlushReady, FlushedIf, RecordReady, gatesOver, anyExceeds, costOf, loneNodes, measuresOf, needsOf, putRecord, putSeven, putFour, putRows, Writing, writing, plainLast, wordsLast, needsLast, Room}
-use Rattle.convert.proofs.CountLaws.{valid-of, wide-start}
-use Rattle.convert.proofs.RecordSteps.{run-append, need-append, word-append, One, one-record, framed, writeRecord, needs-eq}
-use Rattle.convert.proofs.RestLaws.{rest-more, rest-end, wide-went, restOf}
-use Rattle.convert.proofs.Standing.{Stands, stands-frames, stands-if, stands-record, writeLone, lone-after, length-start}
+use Rattle.convert.proofs.packed.Deciding.{valid-of, wide-start}
+use Rattle.convert.proofs.counts.RecordSteps.{run-append, need-append, word-append, One, one-record, framed, writeRecord, needs-eq}
+use Rattle.convert.proofs.counts.Rest.{rest-more, rest-end, wide-went, restOf}
+use Rattle.convert.proofs.buffers.State.{Stands, stands-frames, stands-if, stands-record, writeLone, lone-after, length-start}
 
 -- ---- needs only grow
 

@@ -14,7 +14,7 @@ use Rattle.arena.specs.Nodes.{image}
 use Rattle.arena.proofs.NodeRows.{image-scaled}
 use Rattle.convert.specs.Types.{Phase, One, PlusI, MinusOne, MinusI}
 use Rattle.convert.specs.Frame.{Arena, word, pushed, stored, multiplied, frameStep}
-use Rattle.convert.proofs.Nodes.{phase-small, image-append, image-product}
+use Rattle.convert.proofs.meaning.Nodes.{phase-small, image-append, image-product}
 
 minus-under : (k w : ℕ) → w < 4 * k → scaledWord MinusOne w < 4 * k
 minus-under k w lt = omega arith

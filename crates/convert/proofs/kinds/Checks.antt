@@ -13,7 +13,7 @@ use Rattle.arena.specs.Errors.{_⟫_⇒_}
 use Rattle.convert.specs.Types.{PbcError, QubitOutOfRange, RepeatedOperand, UnsupportedGate, ClassicalBitOutOfRange, BadStore, NonCliffordFrameGate, NoFrame, NoNodes, Header, Checked, Fine, Wrong}
 use Rattle.arena.specs.Store.{breaksLimit, exceedsNodes, noNodeRoom}
 use Rattle.convert.specs.Planes.{partWords}
-use Rattle.convert.proofs.RestLaws.{drop-record, no-more}
+use Rattle.convert.proofs.counts.Rest.{drop-record, no-more}
 use Rattle.convert.specs.Records.{GateKind, KindH, KindX, KindZ, KindS, KindSdg, KindT, KindTdg, KindCnot, KindCz, KindCcx, KindCcz, KindMeasure, KindY, KindSx, KindSwap, KindCy, Unsupported, Shape, NoShape, OneQubit, TwoQubits, ThreeQubits, Measured, shapeOf, shapeNumber, hasShape, records, kindOf, lowerAs}
 use Rattle.convert.specs.Frame.{qubitsBy, qubitsOf, operandsChecked, namesUnused, frameGates, gateNodes, total, cliffordCheck}
 use Rattle.convert.specs.Conversion.{isDoubly, recordChecked, recordsChecked, anyDoubly}

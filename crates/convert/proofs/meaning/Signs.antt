@@ -19,7 +19,7 @@ use Rattle.convert.specs.Types.{Pauli, I, X, Z, One, Target, Bit}
 use Rattle.convert.specs.Records.{Cap, Elementary, clifford, elT, elTdg, elCcx, elCcz, elMeasure, Proper, AllProper}
 use Rattle.convert.specs.Plain.{Operation, seven, asRotation}
 use Rattle.convert.specs.Paper.{Paper, gateProducts, axes, tooHeavy, sevenAngles, rotateAll, measureFirst, writes, paperPerform, paperFlushed, paperStep, paperRun, paperBegin, AllHermitian}
-use Rattle.convert.proofs.Meaning.{map-append, valid-append}
+use Rattle.convert.proofs.meaning.Words.{map-append, valid-append}
 
 phases-blank : (n : ℕ) (u : List Pauli) → phases u (replicate n I) ≡ One
 phases-blank zero [] = refl

@@ -19,9 +19,9 @@ use Rattle.convert.specs.Code.Needs.{Needs, needRun}
 use Rattle.convert.specs.Conversion.{roomChecked, limits}
 use Rattle.convert.specs.Code.Raw.{anyExceeds, isCapped, costOf, costs, summed, needed, countFor, needsOf, planesFor, plainLast, needsLast, NeedsChecked}
 use Rattle.convert.specs.declared.count.Needed.{Needed}
-use Rattle.convert.proofs.CountLaws.{never, planes-over}
-use Rattle.convert.proofs.RecordSteps.{run-append, need-append, count-one}
-use Rattle.convert.proofs.RestLaws.{drop-record, no-more}
+use Rattle.convert.proofs.packed.Deciding.{never, planes-over}
+use Rattle.convert.proofs.counts.RecordSteps.{run-append, need-append, count-one}
+use Rattle.convert.proofs.counts.Rest.{drop-record, no-more}
 
 -- ---- the sums
 

@@ -19,8 +19,8 @@ use Rattle.convert.specs.Paper.{Paper, axes, tooHeavy, sevenAngles, rota
 use Rattle.convert.specs.Paper as paper
 use Rattle.convert.specs.Conversion.{isDoubly, anyDoubly, capTooSmall}
 use Rattle.convert.specs.Statement.{AllWithin, Capped}
-use Rattle.convert.proofs.Meaning.{map-append, valid-append}
-use Rattle.convert.proofs.Accepting.{bare-placed}
+use Rattle.convert.proofs.meaning.Words.{map-append, valid-append}
+use Rattle.convert.proofs.Accepted.{bare-placed}
 
 -- ---- weights
 

@@ -15,7 +15,7 @@ use Rattle.convert.specs.Types.{Header, Checked, Fine}
 use Rattle.convert.specs.Records.{GateKind, KindH, KindX, KindZ, KindS, KindSdg, KindT, KindTdg, KindCnot, KindCz, KindCcx, KindCcz, KindMeasure, KindY, KindSx, KindSwap, KindCy, Unsupported, Record, records, kindOf, Elementary, lowerAs, lower, placedFrom, lowerFrom, lowerAll, bare, AllProper}
 use Rattle.convert.specs.Frame.{qubitsOf, member, operandsChecked, gateNodes, total, frameGates, namesUnused, cliffordCheck}
 use Rattle.convert.specs.Conversion.{Limits, Input, isMeasure, recordChecked, recordsChecked, gatesIn, capTooSmall, wordEnd, gatesCheck, convertCheck, gatesChecked, roomChecked}
-use Rattle.convert.proofs.Meaning.{map-append}
+use Rattle.convert.proofs.meaning.Words.{map-append}
 
 -- ---- operands
 

@@ -27,12 +27,12 @@ use Rattle.convert.specs.Code.Needs.{Needs}
 use Rattle.convert.specs.Planes.{partWords, packed}
 use Rattle.convert.specs.Conversion.{Input, recordsChecked, capTooSmall, planesTooFew, maxGateWords, limits, gatesCheck, convertCheck, gatesIn, plainEnd, tableEnd, wordEnd, planesAs, planesAfter, convertWithin, convertStep, convertOf, ConvertedMade, ConvertedRefused, inputOf, gatesChecked, roomChecked}
 use Rattle.convert.specs.Code.Raw.{isCapped, planesFor, Fits, Room, plainLast, wordsLast, needsLast, needsOf}
-use Rattle.convert.proofs.Accepting.{bare-placed, proper-records, passed-records}
-use Rattle.convert.proofs.Counting.{needed}
-use Rattle.convert.proofs.RestLaws.{rest-more, restOf}
-use Rattle.convert.proofs.PaperAxes.{table-run}
-use Rattle.convert.proofs.Standing.{length-start}
-use Rattle.convert.proofs.WriteLaws.{need-grows}
+use Rattle.convert.proofs.Accepted.{bare-placed, proper-records, passed-records}
+use Rattle.convert.proofs.counts.Needs.{needed}
+use Rattle.convert.proofs.counts.Rest.{rest-more, restOf}
+use Rattle.convert.proofs.meaning.Papers.{table-run}
+use Rattle.convert.proofs.buffers.State.{length-start}
+use Rattle.convert.proofs.buffers.Writing.{need-grows}
 use Rattle.pauli.specs.Rows.{Row}
 
 -- ---- the checks of the gate list

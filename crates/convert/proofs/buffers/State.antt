@@ -17,8 +17,8 @@ use Rattle.convert.specs.Frame.{Arena, word, pushed, frameRun, gateNodes
 use Rattle.convert.specs.Words.{Words, flat, flushGates, flushWords, fourPushed, sevenOps, writeSeven, write}
 use Rattle.convert.specs.Code.Needs.{writtenNodes, writtenOps}
 use Rattle.convert.specs.Code.Raw.{arena, putRun, Ran, Writing, writing, putNode, Flushed, putFlushes, FlushedIf, putRows, putFour, putSeven, putRecord, recordGates, costOf, loneNodes}
-use Rattle.convert.proofs.RecordSteps.{framed, writeRecord}
-use Rattle.convert.proofs.Laid.{laid, Even, even-run, put-run, lying, Square, putAll, Fours, put-all, square-all, noded, put-node, square-node, flushes-lying}
+use Rattle.convert.proofs.counts.RecordSteps.{framed, writeRecord}
+use Rattle.convert.proofs.buffers.Words.{laid, Even, even-run, put-run, lying, Square, putAll, Fours, put-all, square-all, noded, put-node, square-node, flushes-lying}
 
 -- c nodes and u operations are used in the buffers, and they are those of w, over what the buffers had
 pub record Stands (n : ℕ) (ns₀ fs₀ os₀ : List ℕ) (c : ℕ) (ns fs : List ℕ) (u : ℕ) (os : List ℕ) (w : Words) : Type 0 where

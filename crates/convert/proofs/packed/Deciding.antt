@@ -16,9 +16,9 @@ use Rattle.convert.specs.Planes.{partWords, packed}
 use Rattle.convert.specs.Code.RawPlanes.{Wide, planeRun}
 use Rattle.convert.specs.Code.Raw.{testsOf, anyExceeds, isCapped, refreshed, recordGates, planesFor, Decided}
 use Rattle.arena.specs.Builder.{overlay}
-use Rattle.convert.proofs.PlaneLaws.{packed-length}
-use Rattle.convert.proofs.Packed.{plane-run, plane-again, plane-reset}
-use Rattle.convert.proofs.Heavy.{light}
+use Rattle.convert.proofs.packed.Words.{packed-length}
+use Rattle.convert.proofs.packed.Tables.{plane-run, plane-again, plane-reset}
+use Rattle.convert.proofs.packed.Tests.{light}
 
 -- without a cap there is no flush
 pub never : (n : ℕ) (t : List Row) (es : List Elementary) → false ≡ anyExceeds n NoCap t es

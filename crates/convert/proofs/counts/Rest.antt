@@ -16,9 +16,9 @@ use Rattle.convert.specs.Code.Needs.{Needs, needRun}
 use Rattle.convert.specs.Code.RawPlanes.{Wide}
 use Rattle.convert.specs.Code.Raw.{planesFor, Decided, costOf, costs, needed, countFor, needsOf}
 use Rattle.convert.specs.declared.count.Needed.{Needed}
-use Rattle.convert.proofs.Packed.{wide-step}
-use Rattle.convert.proofs.CountLaws.{wide-start}
-use Rattle.convert.proofs.RecordSteps.{run-append, need-append, Went, one-record, count-one}
+use Rattle.convert.proofs.packed.Tables.{wide-step}
+use Rattle.convert.proofs.packed.Deciding.{wide-start}
+use Rattle.convert.proofs.counts.RecordSteps.{run-append, need-append, Went, one-record, count-one}
 
 abbrev pub recordAt : List ℕ → ℕ → Record
 recordAt gs i = record { kind = getD gs (4 * i) 0; a = getD gs (4 * i + 1) 0; b = getD gs (4 * i + 2) 0; c = getD gs (4 * i + 3) 0 }

@@ -19,8 +19,8 @@ use Rattle.convert.specs.Records.{Cap, Elementary, clifford, elT, elTdg,
 use Rattle.convert.specs.Plain.{Operation, rotateBy, measureOf, conditionalBy, Plain, plainBegin, rotateSeven, asRotation, exceeds, flushed, performAs, perform, plainStep, plainRun}
 use Rattle.convert.specs.Frame.{Arena, word, pushed}
 use Rattle.convert.specs.Words.{idX, idZ, Words, decoded, meaning, addOps, writeJoint, flushGate, flushGates, restarted, flushWords, writeSeven, write, wordStep, wordRun, startWords}
-use Rattle.convert.proofs.FrameRows.{Keeps, keeps-trans, Shows, shown, word-under, keeps-pushed, shows-pushed, new-image, shows-step, keeps-step}
-use Rattle.convert.proofs.StartRows.{Leaves, leaves-kept, leaves-start, leaf-x, leaf-z, shows-start, shows-begin}
+use Rattle.convert.proofs.meaning.FrameRows.{Keeps, keeps-trans, Shows, shown, word-under, keeps-pushed, shows-pushed, new-image, shows-step, keeps-step}
+use Rattle.convert.proofs.meaning.StartRows.{Leaves, leaves-kept, leaves-start, leaf-x, leaf-z, shows-start, shows-begin}
 
 pub map-append : {A B : Type 0} (f : A → B) (l m : List A) → map f (l ++ m) ≡ map f l ++ map f m
 map-append f [] m = refl

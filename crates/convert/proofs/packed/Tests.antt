@@ -15,9 +15,9 @@ use Rattle.convert.specs.Plain.{anyAbove, seven, tested, exceeds}
 use Rattle.convert.specs.Planes.{partWords, packed, images}
 use Rattle.convert.specs.Code.Raw.{testsOf, anyExceeds}
 use Rattle.convert.specs.Code.RawPlanes.{weightTo, Wide, sevenAbove}
-use Rattle.convert.proofs.PlaneLaws
-use Rattle.convert.proofs.Packed.{plane-weight}
-use Rattle.convert.proofs.PlaneLaws.{chosen}
+use Rattle.convert.proofs.packed.Words
+use Rattle.convert.proofs.packed.Tables.{plane-weight}
+use Rattle.convert.proofs.packed.Words.{chosen}
 
 products-nil : (us : List Pauli) → products us [] ≡ us
 products-nil [] = refl
@@ -154,7 +154,7 @@ pub z-heavy : (n l cap : ℕ) (K : GateKind) (a b d : ℕ) (ps : List ℕ) (t : 
 z-heavy n l cap K a b d ps t rest el e v w ep =
     let z = z-case n cap t K a b d e v in
     let A = zRow n t a in
-    let fA = PlaneLaws.first-z n t a (z .0) in
+    let fA = Words.first-z n t a (z .0) in
     let pw = plane-weight n t rest w 1 0 0 (suc (a + a)) (suc (a + a)) (suc (a + a)) A A A (omega arith) (omega arith) (omega arith) fA fA fA (w .widths (n + a)) (w .widths (n + a)) (w .widths (n + a)) in
     rw (el, ep, add-one (a + a), pw, products-nil (products (A .letters) []), products-nil (A .letters)) (z .1)
 
@@ -191,7 +191,7 @@ ccx-heavy n l cap K a b d ps t rest el e v w ep =
     let z = ccx-case n cap t K a b d e v in
     rw (el, ep, add-one (a + a), add-one (b + b))
     (seven-heavy n cap t rest w (suc (a + a)) (suc (b + b)) (d + d) (zRow n t a) (zRow n t b) (xRow n t d) (omega arith) (omega arith) (omega arith)
-    (PlaneLaws.first-z n t a (z .0)) (PlaneLaws.first-z n t b (z .1)) (PlaneLaws.first-x n t d (z .2)) (w .widths (n + a)) (w .widths (n + b)) (w .widths d) ∙ z .3)
+    (Words.first-z n t a (z .0)) (Words.first-z n t b (z .1)) (Words.first-x n t d (z .2)) (w .widths (n + a)) (w .widths (n + b)) (w .widths d) ∙ z .3)
 
 pub ccz-heavy : (n l cap : ℕ) (K : GateKind) (a b d : ℕ) (ps : List ℕ) (t : List Row) (rest : List ℕ) → l ≡ partWords n → testsOf K ≡ 3 → AllProper n (b + 1) (lowerAs K a b d)
     → Wide n t → ps ≡ packed n t ++ rest
@@ -200,4 +200,4 @@ ccz-heavy n l cap K a b d ps t rest el e v w ep =
     let z = ccz-case n cap t K a b d e v in
     rw (el, ep, add-one (a + a), add-one (b + b), add-one (d + d))
     (seven-heavy n cap t rest w (suc (a + a)) (suc (b + b)) (suc (d + d)) (zRow n t a) (zRow n t b) (zRow n t d) (omega arith) (omega arith) (omega arith)
-    (PlaneLaws.first-z n t a (z .0)) (PlaneLaws.first-z n t b (z .1)) (PlaneLaws.first-z n t d (z .2)) (w .widths (n + a)) (w .widths (n + b)) (w .widths (n + d)) ∙ z .3)
+    (Words.first-z n t a (z .0)) (Words.first-z n t b (z .1)) (Words.first-z n t d (z .2)) (w .widths (n + a)) (w .widths (n + b)) (w .widths (n + d)) ∙ z .3)

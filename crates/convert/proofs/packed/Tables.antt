@@ -14,8 +14,8 @@ use Rattle.pauli.proofs.Table.{holds-start}
 use Rattle.convert.specs.Types.{Pauli, X, Z, PlusI, MinusOne, MinusI}
 use Rattle.convert.specs.Planes.{partWords, rowWords, rowsWords, images, packed}
 use Rattle.convert.specs.Code.RawPlanes.{markTo, weightTo, planeStep, planeRun, planeReset, Wide}
-use Rattle.convert.proofs.PlaneLaws
-use Rattle.convert.proofs.PlaneLaws.{pickedLetters, chosen}
+use Rattle.convert.proofs.packed.Words
+use Rattle.convert.proofs.packed.Words.{pickedLetters, chosen}
 
 -- ---- tables of n qubits
 
@@ -66,35 +66,35 @@ rows-same l d (P ∷ Ps) (suc i) R e = rw (rows-same l d Ps i R e)
 same-z : (n : ℕ) (t : List Row) (rest : List ℕ) → length t ≡ n + n → (q : ℕ) → q < n → packed n (set t (n + q) (scaled MinusOne (zRow n t q))) ++ rest ≡ packed n t ++ rest
 unfolding packed
 same-z n t rest w q v = rw (
-  PlaneLaws.images-setZ n t (scaled MinusOne (zRow n t q)) q w v,
-  rows-same (partWords n) (identity n) (images n t 0 n) (suc (q + q)) (scaled MinusOne (zRow n t q)) (ap (λ (P : Row). P .letters) (sym (PlaneLaws.first-z n t q v))),
+  Words.images-setZ n t (scaled MinusOne (zRow n t q)) q w v,
+  rows-same (partWords n) (identity n) (images n t 0 n) (suc (q + q)) (scaled MinusOne (zRow n t q)) (ap (λ (P : Row). P .letters) (sym (Words.first-z n t q v))),
 )
 
 same-x : (n : ℕ) (t : List Row) (rest : List ℕ) → length t ≡ n + n → (q : ℕ) → q < n → packed n (set t q (scaled MinusOne (xRow n t q))) ++ rest ≡ packed n t ++ rest
 unfolding packed
 same-x n t rest w q v = rw (
-  PlaneLaws.images-setX n t (scaled MinusOne (xRow n t q)) q w v,
-  rows-same (partWords n) (identity n) (images n t 0 n) (q + q) (scaled MinusOne (xRow n t q)) (ap (λ (P : Row). P .letters) (sym (PlaneLaws.first-x n t q v))),
+  Words.images-setX n t (scaled MinusOne (xRow n t q)) q w v,
+  rows-same (partWords n) (identity n) (images n t 0 n) (q + q) (scaled MinusOne (xRow n t q)) (ap (λ (P : Row). P .letters) (sym (Words.first-x n t q v))),
 )
 
 pub plane-step : (n : ℕ) (g : Gate) (t : List Row) (rest : List ℕ) → length t ≡ n + n → Valid n g
     → planeStep (partWords n) g (packed n t ++ rest) ≡ packed n (step n g t) ++ rest
 unfolding planeStep step
-plane-step n (gateH q) t rest w v = PlaneLaws.swap-xz n t rest w q v
+plane-step n (gateH q) t rest w v = Words.swap-xz n t rest w q v
 plane-step n (gateX q) t rest w v = sym (same-z n t rest w q v)
 plane-step n (gateZ q) t rest w v = sym (same-x n t rest w q v)
-plane-step n (gateS q) t rest w v = PlaneLaws.xor-xz n t rest w q q (scaled MinusI (xRow n t q ★ zRow n t q)) v v refl
-plane-step n (gateSdg q) t rest w v = PlaneLaws.xor-xz n t rest w q q (scaled PlusI (xRow n t q ★ zRow n t q)) v v refl
+plane-step n (gateS q) t rest w v = Words.xor-xz n t rest w q q (scaled MinusI (xRow n t q ★ zRow n t q)) v v refl
+plane-step n (gateSdg q) t rest w v = Words.xor-xz n t rest w q q (scaled PlusI (xRow n t q ★ zRow n t q)) v v refl
 plane-step n (gateCnot c b) t rest w v =
     let P = xRow n t c ★ xRow n t b in
     let u = set t c P in
-    rw (PlaneLaws.xor-xx n t rest w c b P (v .0) (v .1) (v .2) refl)
-    (PlaneLaws.xor-zz n u rest (length-set t c P ∙ w) b c (zRow n u c ★ zRow n u b) (v .1) (v .0) (λ e. v .2 (sym e)) (products-comm (zRow n u c .letters) (zRow n u b .letters)))
+    rw (Words.xor-xx n t rest w c b P (v .0) (v .1) (v .2) refl)
+    (Words.xor-zz n u rest (length-set t c P ∙ w) b c (zRow n u c ★ zRow n u b) (v .1) (v .0) (λ e. v .2 (sym e)) (products-comm (zRow n u c .letters) (zRow n u b .letters)))
 plane-step n (gateCz c b) t rest w v =
     let P = xRow n t c ★ zRow n t b in
     let u = set t c P in
-    rw (PlaneLaws.xor-xz n t rest w c b P (v .0) (v .1) refl)
-    (PlaneLaws.xor-xz n u rest (length-set t c P ∙ w) b c (zRow n u c ★ xRow n u b) (v .1) (v .0) (products-comm (zRow n u c .letters) (xRow n u b .letters)))
+    rw (Words.xor-xz n t rest w c b P (v .0) (v .1) refl)
+    (Words.xor-xz n u rest (length-set t c P ∙ w) b c (zRow n u c ★ xRow n u b) (v .1) (v .0) (products-comm (zRow n u c .letters) (xRow n u b .letters)))
 
 pub plane-run : (n : ℕ) (gs : List Gate) (t : List Row) (rest : List ℕ) → Wide n t → AllValid n gs
     → planeRun (partWords n) gs (packed n t ++ rest) ≡ packed n (run n gs t) ++ rest
@@ -136,7 +136,7 @@ marked-x n (suc k) q h r =
     ∙ ⊎-elim
     (λ (lo : q < k). getD-set-other (marked n k) (k + k) (q + q) (single n k X) (identity n) (λ e. omega arith) ∙ marked-x n k q lo (omega arith))
     (λ (hi : k ≤ q). let e : q ≡ k = omega arith in rw e (getD-set-same (marked n k) (k + k) (single n k X) (identity n) (omega arith)))
-    (PlaneLaws.below q k)
+    (Words.below q k)
 
 marked-z : (n k q : ℕ) → q < k → k ≤ n → getD (marked n k) (suc (q + q)) (identity n) ≡ single n q Z
 unfolding marked
@@ -148,12 +148,12 @@ marked-z n (suc k) q h r =
     (λ (lo : q < k). getD-set-other (set (marked n k) (k + k) (single n k X)) (suc (k + k)) (suc (q + q)) (single n k Z) (identity n) (λ e. omega arith)
     ∙ getD-set-other (marked n k) (k + k) (suc (q + q)) (single n k X) (identity n) (λ e. omega arith) ∙ marked-z n k q lo (omega arith))
     (λ (hi : k ≤ q). let e : q ≡ k = omega arith in rw e (getD-set-same (set (marked n k) (k + k) (single n k X)) (suc (k + k)) (single n k Z) (identity n) (omega arith)))
-    (PlaneLaws.below q k)
+    (Words.below q k)
 
 marked-all : (n : ℕ) → marked n n ≡ images n (start n) 0 n
-marked-all n = PlaneLaws.by-images (identity n) n (marked n n) (images n (start n) 0 n) (marked-length n n) (PlaneLaws.images-length n (start n) 0 n)
-    (λ q h. marked-x n n q h (omega arith) ∙ sym (PlaneLaws.first-x n (start n) q h ∙ holds-start n .atX q h))
-    (λ q h. marked-z n n q h (omega arith) ∙ sym (PlaneLaws.first-z n (start n) q h ∙ holds-start n .atZ q h))
+marked-all n = Words.by-images (identity n) n (marked n n) (images n (start n) 0 n) (marked-length n n) (Words.images-length n (start n) 0 n)
+    (λ q h. marked-x n n q h (omega arith) ∙ sym (Words.first-x n (start n) q h ∙ holds-start n .atX q h))
+    (λ q h. marked-z n n q h (omega arith) ∙ sym (Words.first-z n (start n) q h ∙ holds-start n .atZ q h))
 
 mark-rows : (n l : ℕ) (rest : List ℕ) → 0 < l → (n + 63) / 64 ≤ l → (k : ℕ) → k ≤ n
     → markTo (rowsWords l (replicate (n + n) (identity n)) ++ rest) l k ≡ rowsWords l (marked n k) ++ rest
@@ -166,12 +166,12 @@ mark-rows n l rest pos en (suc k) h =
     let Ps = marked n k in
     rw (
       mark-rows n l rest pos en k (omega arith),
-      PlaneLaws.one-word l n Ps rest pos k h hw (k + k) (k / 64) R (omega arith) (omega arith)
-          (λ b hb. PlaneLaws.row-of-x l n Ps rest pos k h hw b hb
+      Words.one-word l n Ps rest pos k h hw (k + k) (k / 64) R (omega arith) (omega arith)
+          (λ b hb. Words.row-of-x l n Ps rest pos k h hw b hb
           ∙ ap (λ (P : Row). getD (set (rowWords l P) (k / 64) (2 ^ (k % 64))) b 0) (sym (marked-later n k (k + k) (omega arith)))),
     )
-    (PlaneLaws.one-word l n (set Ps (k + k) R) rest pos k h hw (suc (k + k)) (l + k / 64) (single n k Z) (rw length-set (omega arith)) (omega arith)
-    (λ b hb. PlaneLaws.row-of-z l n Ps rest pos k h hw b hb
+    (Words.one-word l n (set Ps (k + k) R) rest pos k h hw (suc (k + k)) (l + k / 64) (single n k Z) (rw length-set (omega arith)) (omega arith)
+    (λ b hb. Words.row-of-z l n Ps rest pos k h hw b hb
     ∙ ap (λ (P : Row). getD (set (rowWords l P) (l + k / 64) (2 ^ (k % 64))) b 0)
     (sym (getD-set-other Ps (k + k) (suc (k + k)) R (identity n) (λ e. omega arith) ∙ marked-later n k (suc (k + k)) (omega arith)))))
 
@@ -181,11 +181,11 @@ unfolding planeReset packed
 plane-reset n p h =
     let l = partWords n in
     let pos : 0 < l = omega arith in
-    rw (PlaneLaws.cleared n l p pos h, mark-rows n l (drop ((n + n) * (l + l)) p) pos (omega arith) n (omega arith), marked-all n)
+    rw (Words.cleared n l p pos h, mark-rows n l (drop ((n + n) * (l + l)) p) pos (omega arith) n (omega arith), marked-all n)
 
 pub plane-again : (n : ℕ) (t : List Row) (rest : List ℕ) → planeReset n (partWords n) (packed n t ++ rest) ≡ packed n (start n) ++ rest
 plane-again n t rest =
-    let len = PlaneLaws.packed-length n t in
+    let len = Words.packed-length n t in
     plane-reset n (packed n t ++ rest) (rw (length-append, len) (omega arith)) ∙ ap (λ (ws : List ℕ). packed n (start n) ++ ws) (drop-at (packed n t) rest ((n + n) * (partWords n + partWords n)) len)
 
 -- ---- weights
@@ -209,13 +209,13 @@ pub plane-weight : (n : ℕ) (t : List Row) (rest : List ℕ) → Wide n t → (
 unfolding packed
 plane-weight n t rest w ua ub ud i j k A B D hi hj hk eA eB eD wA wB wD =
     let l = partWords n in
-    let len = PlaneLaws.images-length n t 0 n in
+    let len = Words.images-length n t 0 n in
     let fits : n ≤ 64 * l = omega arith in
     let ca = picked-le n ua (A .letters) (omega arith) in
     let cb = picked-le n ub (B .letters) (omega arith) in
     let cd = picked-le n ud (D .letters) (omega arith) in
     let cl = length-le n (products (pickedLetters ua (A .letters)) (pickedLetters ub (B .letters))) (pickedLetters ud (D .letters))
     (length-le n (pickedLetters ua (A .letters)) (pickedLetters ub (B .letters)) ca cb) cd in
-    PlaneLaws.rows-weight l (identity n) (images n t 0 n) rest (omega arith) ua ub ud i j k (omega arith) (omega arith) (omega arith)
+    Words.rows-weight l (identity n) (images n t 0 n) rest (omega arith) ua ub ud i j k (omega arith) (omega arith) (omega arith)
     (rw (eA, eB, eD) (omega arith))
     ∙ rw (eA, eB, eD)

@@ -14,7 +14,7 @@ use Rattle.convert.specs.Code.Needs.{writtenNodes, writtenOps}
 use Rattle.convert.specs.Code.Raw.{Writing, writing, putOp, putNode, putJoint, putFlush, putFlushes, FlushReady, Flushed, FlushedIf, recordGates, gatesOver}
 use mathlib.Core.Bool.{Bool, true, false}
 use Rattle.arena.specs.Builder.{overlay, startFrame}
-use Rattle.convert.proofs.RecordSteps.{total-append}
+use Rattle.convert.proofs.counts.RecordSteps.{total-append}
 
 -- what a rotation more promises
 abbrev Turned : ℕ → List ℕ → ℕ → ℕ → ℕ → List ℕ → Type 0

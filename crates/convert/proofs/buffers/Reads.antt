@@ -12,7 +12,7 @@ use Rattle.convert.proofs.gate.GateKind.{the-type}
 use Rattle.convert.specs.Records.{GateKind, KindT, KindTdg, KindCcx, KindCcz, KindMeasure, lowerAs}
 use Rattle.convert.specs.Conversion.{isMeasure}
 use Rattle.convert.specs.Code.Raw.{maxWord, costOf, testsOf, lastPlace, RecordReady}
-use Rattle.convert.proofs.Arms.{each}
+use Rattle.convert.proofs.kinds.Arms.{each}
 
 -- t, tdg and measure
 pub record Lone (n a b u : ℕ) (os fs : List ℕ) (k : GateKind) : Type 0 where

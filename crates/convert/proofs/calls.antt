@@ -1,0 +1,3 @@
+-- Laws of the later calls: the table after them, and calls given as words.
+pub mod Table
+pub mod Words
