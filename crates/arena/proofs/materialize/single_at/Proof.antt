@@ -4,7 +4,6 @@ use native.Mathlib.Omega.{arith}
 use Rattle.pauli.specs.Letters.{pauliOf}
 use Rattle.arena.proofs.steps.Scratch.{links-same, links-value}
 use Rattle.arena.proofs.steps.Products.{no-room, lender, single-made}
-use borrow.Author.Needs.{needs}
 use Rattle.arena.proofs.materialize.single_at.Statement.{statement}
 use Rattle.arena.proofs.materialize.single_at.Tie as tie
 
@@ -27,13 +26,13 @@ set-value-requires c κs =
     )
 
 sub-t16 : tie.Need-sub-t16
-sub-t16 c = search needs
+sub-t16 c = omega (arith, c .before .before .before .before .before .before .before .before .before .if1 .left)
 
 same-length : tie.Need-same-length
-same-length c = search needs
+same-length c = c .before .before .before .set-value .kept .0
 
 same-length-2 : tie.Need-same-length-2
-same-length-2 c = search needs
+same-length-2 c = c .before .before .before .before .before .before .before .single .kept .0
 
 returns-2 : tie.Need-returns-2
 returns-2 c =

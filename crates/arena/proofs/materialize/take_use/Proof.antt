@@ -2,27 +2,26 @@
 use native.Mathlib.Omega.{arith}
 use Rattle.arena.proofs.steps.Scratch.{links-use}
 use Rattle.arena.proofs.steps.Moves.{word-room, use-some, took-move, took-17, took-18, source, took-copy}
-use borrow.Author.Needs.{needs}
 use Rattle.arena.proofs.materialize.take_use.Statement.{statement}
 use Rattle.arena.proofs.materialize.take_use.Tie as tie
 
 named-value-requires : tie.Need-named-value-requires
-named-value-requires c κs = search needs
+named-value-requires c κs = omega (arith, word-room (c .before .before .before .pre))
 
 drop-use-requires : tie.Need-drop-use-requires
 drop-use-requires c κs = (omega (arith, word-room (c .before .before .before .before .before .pre)), use-some (c .before .before .before .before .before .pre))
 
 same-length : tie.Need-same-length
-same-length c = search needs
+same-length c = c .before .before .before .drop-use .kept .0
 
 returns : tie.Need-returns
 returns c = (λ g. took-move g (c .before .before .before .drop-use .ensures .0) (c .before .before .before .before .before .named-value .ensures) (c .if1 .taken) (c .before .before .before .drop-use .ensures .1), links-use _ _ (c .before .before .before .drop-use .ensures .1))
 
 sub-if2 : tie.Need-sub-if2
-sub-if2 c = search needs
+sub-if2 c = omega (arith, c .before .before .before .before .before .before .before .before .before .before .pre .rep .work-is, c .before .before .before .before .before .before .before .before .before .before .pre .paid)
 
 same-length-2 : tie.Need-same-length-2
-same-length-2 c = search needs
+same-length-2 c = c .before .before .before .before .before .drop-use .kept .0
 
 returns-2 : tie.Need-returns-2
 returns-2 c =
@@ -32,7 +31,7 @@ returns-2 c =
     (λ g. took-17 g (drop-use .ensures .0) (named-value .ensures) (if1 .left) (c .if2 .taken), links-use _ _ (drop-use .ensures .1))
 
 same-length-3 : tie.Need-same-length-3
-same-length-3 c = search needs
+same-length-3 c = c .before .before .before .before .before .before .before .drop-use .kept .0
 
 returns-3 : tie.Need-returns-3
 returns-3 c =
@@ -59,10 +58,10 @@ add-t21 c =
     record { fits = omega (arith, if2 .left, the-fits .limit, pre .rep .work-is, pre .paid) }
 
 same-length-4 : tie.Need-same-length-4
-same-length-4 c = search needs
+same-length-4 c = c .before .before .before .before .before .before .before .before .before .before .before .before .before .drop-use .kept .0
 
 same-length-5 : tie.Need-same-length-5
-same-length-5 c = search needs
+same-length-5 c = c .before .before .before .before .copy .kept .0
 
 returns-4 : tie.Need-returns-4
 returns-4 c =

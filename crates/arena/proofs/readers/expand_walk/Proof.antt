@@ -23,7 +23,7 @@ returns c =
     (args .cells) (c .if1 .taken) in (sym (ap expansionOf low), sym (ap (λ o. lettersLeft o (args .letters .now)) low))
 
 walk-root-requires : tie.Need-walk-root-requires
-walk-root-requires c κs = search needs
+walk-root-requires c κs = ready-of (c .before .before .before .before .before .before .before .before .before .args .word) (c .before .before .before .before .before .before .before .before .before .pre .0) (c .before .before .before .before .before .before .before .before .before .pre .1)
 
 enum-known-e : tie.Need-enum-known-e
 enum-known-e c = search needs
@@ -50,10 +50,10 @@ power-requires : tie.Need-power-requires
 power-requires c κs = search needs
 
 same-length : tie.Need-same-length
-same-length c = search needs
+same-length c = c .before .before .before .before .before .before .before .walk-root .kept .1 .0
 
 same-length-2 : tie.Need-same-length-2
-same-length-2 c = search needs
+same-length-2 c = c .before .before .before .before .before .before .before .walk-root .kept .1 .1 .0
 
 returns-2 : tie.Need-returns-2
 returns-2 c =
@@ -68,13 +68,13 @@ returns-2 c =
     (e .given .1)) in (sym (ap expansionOf no), sym (ap (λ o. lettersLeft o (args .letters .now)) no))
 
 same-length-3 : tie.Need-same-length-3
-same-length-3 c = search needs
+same-length-3 c = c .before .before .before .before .show .kept .0
 
 same-length-4 : tie.Need-same-length-4
-same-length-4 c = search needs
+same-length-4 c = c .before .before .before .before .before .before .before .before .before .before .before .before .before .before .walk-root .kept .1 .0
 
 same-length-5 : tie.Need-same-length-5
-same-length-5 c = search needs
+same-length-5 c = c .before .before .before .before .before .before .before .before .before .before .before .before .before .before .walk-root .kept .1 .1 .0
 
 returns-3 : tie.Need-returns-3
 returns-3 c =

@@ -18,7 +18,7 @@ cast-walk-root : tie.Need-cast-walk-root
 cast-walk-root c = search needs
 
 walk-root-requires : tie.Need-walk-root-requires
-walk-root-requires c κs = search needs
+walk-root-requires c κs = ready-of (c .before .before .before .before .before .before .before .args .reference .word) (c .before .before .before .before .before .before .before .pre .0) (c .before .before .before .before .before .before .before .pre .1)
 
 enum-known-e : tie.Need-enum-known-e
 enum-known-e c = search needs
@@ -27,10 +27,10 @@ enum-known-v : tie.Need-enum-known-v
 enum-known-v c = search needs
 
 same-length : tie.Need-same-length
-same-length c = search needs
+same-length c = c .before .before .before .before .before .before .before .before .before .walk-root .kept .1 .0
 
 same-length-2 : tie.Need-same-length-2
-same-length-2 c = search needs
+same-length-2 c = c .before .before .before .before .before .before .before .before .before .walk-root .kept .1 .1 .0
 
 returns : tie.Need-returns
 returns c =
@@ -47,10 +47,10 @@ assume-hermitian-requires : tie.Need-assume-hermitian-requires
 assume-hermitian-requires c κs = search needs
 
 same-length-3 : tie.Need-same-length-3
-same-length-3 c = search needs
+same-length-3 c = c .before .before .before .before .before .before .before .walk-root .kept .1 .0
 
 same-length-4 : tie.Need-same-length-4
-same-length-4 c = search needs
+same-length-4 c = c .before .before .before .before .before .before .before .walk-root .kept .1 .1 .0
 
 returns-2 : tie.Need-returns-2
 returns-2 c =
@@ -63,10 +63,10 @@ returns-2 c =
     (length (args .pool .now)) - 1) (args .limit) (walk-root .ensures (ready-of (args .reference .word) (pre .0) (pre .1))) (ap shownOut (e .given .1))))
 
 same-length-5 : tie.Need-same-length-5
-same-length-5 c = search needs
+same-length-5 c = c .before .before .before .before .before .before .before .before .before .before .walk-root .kept .1 .0
 
 same-length-6 : tie.Need-same-length-6
-same-length-6 c = search needs
+same-length-6 c = c .before .before .before .before .before .before .before .before .before .before .walk-root .kept .1 .1 .0
 
 returns-3 : tie.Need-returns-3
 returns-3 c =

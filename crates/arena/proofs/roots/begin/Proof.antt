@@ -17,10 +17,10 @@ add-if1 : tie.Need-add-if1
 add-if1 c = search needs
 
 same-length : tie.Need-same-length
-same-length c = search needs
+same-length c = c .before .before .before .before .before .before .before .before .scan-uses .kept .1 .0
 
 same-length-2 : tie.Need-same-length-2
-same-length-2 c = search needs
+same-length-2 c = c .before .before .before .init .kept .0
 
 returns : tie.Need-returns
 returns c =
@@ -32,10 +32,10 @@ add-t12 : tie.Need-add-t12
 add-t12 c = search needs
 
 same-length-3 : tie.Need-same-length-3
-same-length-3 c = search needs
+same-length-3 c = c .before .before .before .before .before .before .before .before .scan-uses .kept .1 .0
 
 same-length-4 : tie.Need-same-length-4
-same-length-4 c = search needs
+same-length-4 c = c .before .before .before .init .kept .0
 
 returns-2 : tie.Need-returns-2
 returns-2 c =

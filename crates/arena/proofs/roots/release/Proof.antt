@@ -10,7 +10,7 @@ drop-use-requires : tie.Need-drop-use-requires
 drop-use-requires c κs = (omega (arith, c .before .before .before .pre .rep .scratch .long, c .before .before .before .pre .low), release-some (c .before .before .before .pre) refl)
 
 same-length : tie.Need-same-length
-same-length c = search needs
+same-length c = c .before .before .before .drop-use .kept .0
 
 returns : tie.Need-returns
 returns c = λ g. release-more g (c .before .before .before .drop-use .ensures .0) (c .if1 .taken) (c .before .before .before .drop-use .ensures .1)
@@ -22,10 +22,10 @@ add-t14 : tie.Need-add-t14
 add-t14 c = search needs
 
 same-length-2 : tie.Need-same-length-2
-same-length-2 c = search needs
+same-length-2 c = c .before .before .before .before .before .before .before .before .drop-use .kept .0
 
 same-length-3 : tie.Need-same-length-3
-same-length-3 c = search needs
+same-length-3 c = c .before .before .before .give-back .kept .0
 
 returns-2 : tie.Need-returns-2
 returns-2 c =

@@ -8,7 +8,7 @@ use Rattle.arena.proofs.roots.show_root.Statement.{statement}
 use Rattle.arena.proofs.roots.show_root.Tie as tie
 
 eval-root-requires : tie.Need-eval-root-requires
-eval-root-requires c κs = search needs
+eval-root-requires c κs = c .before .before .before .before .before .pre
 
 enum-known-e : tie.Need-enum-known-e
 enum-known-e c = search needs
@@ -17,7 +17,10 @@ enum-known-rest : tie.Need-enum-known-rest
 enum-known-rest c = search needs
 
 named-value-requires : tie.Need-named-value-requires
-named-value-requires c κs = search needs
+named-value-requires c κs =
+    let eval-root = c .before .before .before .before .before .before .before .before .eval-root in
+    let pre = c .before .before .before .before .before .before .before .before .before .before .before .before .before .before .pre in
+    omega (arith, eval-root .kept .1 .0, pre .at .rep .scratch .long, pre .low)
 
 sub-if1 : tie.Need-sub-if1
 sub-if1 c =
@@ -29,10 +32,10 @@ sub-if1 c =
     work-fits (args .w) pre (eval-root .ensures pre) (ap evaluatedOut (rest .given .1))
 
 same-length : tie.Need-same-length
-same-length c = search needs
+same-length c = c .before .before .before .before .before .before .before .before .before .before .before .eval-root .kept .1 .0
 
 same-length-2 : tie.Need-same-length-2
-same-length-2 c = search needs
+same-length-2 c = c .before .before .before .before .before .before .before .before .before .before .before .eval-root .kept .1 .1 .0
 
 returns : tie.Need-returns
 returns c =
@@ -55,19 +58,19 @@ add-t21 c =
     record { fits = omega (arith, the-fits .limit, if1 .left, work-fits (args .w) pre (eval-root .ensures pre) (ap evaluatedOut (rest .given .1))) }
 
 same-length-3 : tie.Need-same-length-3
-same-length-3 c = search needs
+same-length-3 c = c .before .before .before .before .before .before .before .eval-root .kept .1 .0
 
 same-length-4 : tie.Need-same-length-4
-same-length-4 c = search needs
+same-length-4 c = c .before .before .before .before .before .before .before .eval-root .kept .1 .1 .0
 
 returns-2 : tie.Need-returns-2
 returns-2 c = λ g. root-refused (c .before .before .before .before .before .before .before .before .before .before .before .before .before .args .w) g (c .before .before .before .before .before .before .before .eval-root .ensures g) (ap evaluatedOut (c .before .e .given .1))
 
 same-length-5 : tie.Need-same-length-5
-same-length-5 c = search needs
+same-length-5 c = c .before .before .before .before .before .before .before .before .before .before .before .before .eval-root .kept .1 .0
 
 same-length-6 : tie.Need-same-length-6
-same-length-6 c = search needs
+same-length-6 c = c .before .before .before .before .before .before .before .before .before .before .before .before .eval-root .kept .1 .1 .0
 
 returns-3 : tie.Need-returns-3
 returns-3 c =

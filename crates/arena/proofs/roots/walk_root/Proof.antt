@@ -1,5 +1,5 @@
 -- `walk_root` meets its contract: the use counted, the walk begun, the root shown, or a refusal on the way.
-use mathlib.Core.Path.{ap}
+use mathlib.Core.Path.{ap, _∙_}
 use Rattle.arena.specs.Code.Results.{evaluatedOut}
 use Rattle.arena.proofs.steps.Roots.{add-fits, rootable, walk-refused, rooted, walk-shown}
 use borrow.Author.Needs.{needs}
@@ -34,10 +34,15 @@ show-root-requires c κs =
     (ap evaluatedOut (left .given .1))
 
 same-length : tie.Need-same-length
-same-length c = search needs
+same-length c =
+    let begin = c .before .before .before .before .before .before .before .begin in
+    let add-use = c .before .before .before .before .before .before .before .before .before .before .before .before .add-use in
+    let back12 = c .before .before .before .before .before .before .before .before .before .before .before .before in
+    let zero-all = back12 .before .before .before .before .zero-all in
+    begin .kept .1 .0 ∙ add-use .kept .0 ∙ zero-all .kept .0
 
 same-length-2 : tie.Need-same-length-2
-same-length-2 c = search needs
+same-length-2 c = c .before .before .before .before .before .before .before .begin .kept .1 .1 .0
 
 returns : tie.Need-returns
 returns c =
@@ -51,10 +56,16 @@ returns c =
     (ap evaluatedOut (e .given .1))
 
 same-length-3 : tie.Need-same-length-3
-same-length-3 c = search needs
+same-length-3 c =
+    let show-root = c .before .before .before .before .show-root in
+    let begin = c .before .before .before .before .before .before .before .before .before .before .before .before .before .before .begin in
+    let back12 = c .before .before .before .before .before .before .before .before .before .before .before .before in
+    let add-use = back12 .before .before .before .before .before .before .before .add-use in
+    let zero-all = back12 .before .before .before .before .before .before .before .before .before .before .before .zero-all in
+    show-root .kept .1 .0 ∙ begin .kept .1 .0 ∙ add-use .kept .0 ∙ zero-all .kept .0
 
 same-length-4 : tie.Need-same-length-4
-same-length-4 c = search needs
+same-length-4 c = c .before .before .before .before .show-root .kept .1 .1 .0 ∙ c .before .before .before .before .before .before .before .before .before .before .before .before .before .before .begin .kept .1 .1 .0
 
 returns-2 : tie.Need-returns-2
 returns-2 c =

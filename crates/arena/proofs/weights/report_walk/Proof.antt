@@ -52,10 +52,15 @@ weigh-axes-requires c κs =
     (count-axes .kept .1 .1 .0))) (ap evaluatedOut (left .given .1))
 
 same-length : tie.Need-same-length
-same-length c = search needs
+same-length c =
+    let begin = c .before .before .before .before .before .before .before .begin in
+    let count-axes = c .before .before .before .before .before .before .before .before .before .before .before .before .before .before .count-axes in
+    let back12 = c .before .before .before .before .before .before .before .before .before .before .before .before in
+    let zero-all = back12 .before .before .before .before .before .before .zero-all in
+    begin .kept .1 .0 ∙ count-axes .kept .1 .1 .0 ∙ zero-all .kept .0
 
 same-length-2 : tie.Need-same-length-2
-same-length-2 c = search needs
+same-length-2 c = c .before .before .before .before .before .before .before .begin .kept .1 .1 .0
 
 returns : tie.Need-returns
 returns c =
@@ -80,7 +85,7 @@ same-length-3 c =
     weigh-axes .kept .1 .1 .1 .0 ∙ begin .kept .1 .0 ∙ count-axes .kept .1 .1 .0 ∙ zero-all .kept .0
 
 same-length-4 : tie.Need-same-length-4
-same-length-4 c = search needs
+same-length-4 c = c .before .before .before .before .weigh-axes .kept .1 .1 .1 .1 .0 ∙ c .before .before .before .before .before .before .before .before .before .before .before .before .before .before .begin .kept .1 .1 .0
 
 returns-2 : tie.Need-returns-2
 returns-2 c =

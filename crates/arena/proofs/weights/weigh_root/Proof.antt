@@ -1,5 +1,5 @@
 -- `weigh_root` meets its contract: the root shown, then released.
-use mathlib.Core.Path.{ap}
+use mathlib.Core.Path.{ap, _∙_}
 use Rattle.arena.specs.Code.Results.{shownOut}
 use Rattle.arena.proofs.steps.Weights.{weight-refused, to-release, weight-made}
 use borrow.Author.Needs.{needs}
@@ -7,7 +7,7 @@ use Rattle.arena.proofs.weights.weigh_root.Statement.{statement}
 use Rattle.arena.proofs.weights.weigh_root.Tie as tie
 
 show-root-requires : tie.Need-show-root-requires
-show-root-requires c κs = (c .before .before .before .before .before .pre)
+show-root-requires c κs = c .before .before .before .before .before .pre
 
 enum-known-e : tie.Need-enum-known-e
 enum-known-e c = search needs
@@ -25,19 +25,19 @@ release-requires c κs =
     to-release (args .w) pre (show-root .ensures pre) (ap shownOut (v .given .1))
 
 same-length : tie.Need-same-length
-same-length c = search needs
+same-length c = c .before .before .before .before .before .before .before .show-root .kept .1 .0
 
 same-length-2 : tie.Need-same-length-2
-same-length-2 c = search needs
+same-length-2 c = c .before .before .before .before .before .before .before .show-root .kept .1 .1 .0
 
 returns : tie.Need-returns
 returns c = λ g. weight-refused (c .before .before .before .before .before .before .before .before .before .before .before .before .before .args .w) g (c .before .before .before .before .before .before .before .show-root .ensures g) (ap shownOut (c .before .e .given .1))
 
 same-length-3 : tie.Need-same-length-3
-same-length-3 c = search needs
+same-length-3 c = c .before .before .before .before .release .kept .0 ∙ c .before .before .before .before .before .before .before .before .before .before .before .before .before .before .show-root .kept .1 .0
 
 same-length-4 : tie.Need-same-length-4
-same-length-4 c = search needs
+same-length-4 c = c .before .before .before .before .release .kept .1 .0 ∙ c .before .before .before .before .before .before .before .before .before .before .before .before .before .before .show-root .kept .1 .1 .0
 
 returns-2 : tie.Need-returns-2
 returns-2 c =
