@@ -24,7 +24,7 @@ ghost use Rattle.arena.specs.Walk.{takeUse, combine, eval};
 ghost use Rattle.arena.specs.Code.Machine.{stepTop};
 ghost use Rattle.arena.specs.Code.Results.{Says, tookOut, evaluatedOut, steppedOut, upFrom};
 ghost use Rattle.arena.specs.Code.WalkWords.{scratchAt, LinksKept, Stands, Takeable, TookRep};
-ghost use Rattle.arena.specs.Code.WalkWords.{Combining, Multiplying, multiplied, Making, factorMade, Topped, Branched, Started, Landed, Rooted};
+ghost use Rattle.arena.specs.Code.WalkWords.{Combining, Multiplying, productMade, Making, factorMade, Topped, Branched, Started, Landed, Rooted};
 
 // ---- values
 
@@ -98,7 +98,7 @@ fn multiply_at(
 ) -> Evaluated
     requires { ⌜ Multiplying (now s) (now pool) limit i a b left ⌝ }
     ensures { λ o. ⌜ ((g : Multiplying (now (s .entry)) (now (pool .entry)) limit i a b left)
-        → Says (multiplied limit i (g .x) (g .y) (g .s)) (evaluatedOut o) (Stands (g .count) (g .room) (now (s .exit)) (now (pool .exit)))) ⌝ }
+        → Says (productMade limit i (g .x) (g .y) (g .s)) (evaluatedOut o) (Stands (g .count) (g .room) (now (s .exit)) (now (pool .exit)))) ⌝ }
     ensures { λ _. ⌜ LinksKept (now (s .entry)) (now (s .exit)) ⌝ }
 {
     let ca = a.count;

@@ -17,7 +17,7 @@ use Rattle.arena.specs.Walk.{Out, fine, refused, bind, State, Taken, tak
 use Rattle.arena.specs.Pool.{Chain, Free}
 use Rattle.arena.specs.PoolSteps.{Operands, Merged, Lender, Lent}
 use Rattle.arena.specs.Code.Results.{Ledger, Value, Says}
-use Rattle.arena.specs.Code.WalkWords.{edge, edges, none, valueWord, Stands, Takeable, TookRep, Multiplying, multiplied, Walking, Combining, Making, factorMade, Ordered}
+use Rattle.arena.specs.Code.WalkWords.{edge, edges, none, valueWord, Stands, Takeable, TookRep, Multiplying, productMade, Walking, Combining, Making, factorMade, Ordered}
 use Rattle.arena.proofs.walk.Outcomes.{post-fine}
 use Rattle.arena.proofs.DecodedNodes.{Fits, node-fits}
 use Rattle.arena.proofs.SparseProducts.{product-proper}
@@ -72,7 +72,7 @@ module _ {l p : List ℕ} {limit i lw rt : ℕ} {left : Ledger} (g : Combining l
 
   -- what follows when the second value is in hand, and when the first is
   abbrev onTwo : Taken → Taken → Out State
-  onTwo a b = multiplied limit i (a .value) (b .value) (b .state)
+  onTwo a b = productMade limit i (a .value) (b .value) (b .state)
 
   abbrev onOne : Taken → Out State
   onOne a = bind (takeUse limit (w .room) rt (a .state)) (onTwo a)
@@ -157,7 +157,7 @@ module _ {l p : List ℕ} {limit i lw rt : ℕ} {left : Ledger} (g : Combining l
             product-few = product-few;
           }
 
-          pub combined : {o : Out Ledger} {S : State → Ledger → Type 0} → Says (multiplied limit i (one₁ .0 .value) (two₂ .0 .value) (two₂ .0 .state)) o S
+          pub combined : {o : Out Ledger} {S : State → Ledger → Type 0} → Says (productMade limit i (one₁ .0 .value) (two₂ .0 .value) (two₂ .0 .state)) o S
               → Says (combine limit (w .room) lw rt i (w .s)) o S
           combined h = says-as h (combine-one ∙ ap (λ o. bind o (onTwo (one₁ .0))) (two₂ .1))
 
@@ -183,7 +183,7 @@ module _ {l p : List ℕ} {limit i : ℕ} {a b : Value} {left : Ledger} (g : Mul
   counts-are e = e ∙ ap₂ min (g .first .count-is) (g .second .count-is)
 
   pub dear : {B : Type 0} {S : State → B → Type 0} {small : ℕ} → small ≡ min (a .count) (b .count) → limit - left .work < small
-      → Says (multiplied limit i (g .x) (g .y) (g .s)) (refused ExpansionLimit) S
+      → Says (productMade limit i (g .x) (g .y) (g .s)) (refused ExpansionLimit) S
   dear sm lt = rw (lt-leb (g .s .work + min (size (g .x)) (size (g .y))) limit (omega (arith, work-fits, g .rep .work-is, counts-are sm))) (record { says = refl })
 
   abbrev pub operands : Operands p (left .free) (a .head) (a .count) (b .head) (b .count)
@@ -221,7 +221,7 @@ module _ {l p : List ℕ} {limit i : ℕ} {a b : Value} {left : Ledger} (g : Mul
 
     pub made : {l′ : List ℕ} {small phase : ℕ} → small ≡ min (a .count) (b .count) → small ≤ limit - left .work → phase ≡ ((a .phase + b .phase) % 4 + turn) % 4
         → l′ ≡ set l (4 * i + 2) (valueWord head many phase)
-        → Says (multiplied limit i (g .x) (g .y) (g .s)) (fine (record { free = free; spare = left .spare + (a .count + b .count) - many; work = left .work + small })) (Stands (g .count) (g .room) l′ p′)
+        → Says (productMade limit i (g .x) (g .y) (g .s)) (fine (record { free = free; spare = left .spare + (a .count + b .count) - many; work = left .work + small })) (Stands (g .count) (g .room) l′ p′)
     made {l′} {small} {phase} sm le ph e =
         rw (e, le-leb (g .s .work + min (size (g .x)) (size (g .y))) limit (omega (arith, work-fits, g .rep .work-is, counts-are sm))) (record {
           says = record {

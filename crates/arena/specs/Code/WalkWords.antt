@@ -259,8 +259,8 @@ pub record Multiplying (l p : List ℕ) (limit i : ℕ) (a b : Value) (left : Le
   pub product-few : size (multiply x y) ≤ 256
 
 -- the smaller count is charged, and the node i is the product
-abbrev pub multiplied : ℕ → ℕ → Sparse → Sparse → State → Out State
-multiplied limit i x y s = bind (charge limit (min (size x) (size y)) s) (λ t. fine (finish i (multiply x y) (size x + size y) t))
+abbrev pub productMade : ℕ → ℕ → Sparse → Sparse → State → Out State
+productMade limit i x y s = bind (charge limit (min (size x) (size y)) s) (λ t. fine (finish i (multiply x y) (size x + size y) t))
 
 -- ---- the walk at rest between two steps
 
