@@ -1,6 +1,5 @@
 -- Conversions and later calls, computed: which refusal comes first, what planes are left, which calls of a list are accepted. The theorems are not empty.
 use mathlib.Core.Path.{_≡_, refl}
-use mathlib.Core.Bool.{true, false}
 use mathlib.Core.List.{List, [], _∷_, _++_}
 use Prim.Native.Nat.{ℕ, _+_, _*_}
 use lib.ListN.{replicate}

@@ -3,16 +3,15 @@ use mathlib.Core.Path.{_≡_, refl, ap, ap₂, sym, _∙_, subst}
 use mathlib.Core.Logic.{_≢_}
 use mathlib.Core.Bool.{false}
 use mathlib.Core.List.{List, [], _∷_, map}
-use Prim.Native.Nat.{ℕ, _+_, _*_, _/_, _<_}
+use Prim.Native.Nat.{ℕ, _*_, _/_, _<_}
 use native.Mathlib.Omega.{arith}
 use borrow.Author.Tests.{leb-false}
 use lib.Dec.{leb}
-use lib.ListN.{length, getD, take}
-use lib.Seq.{getD-take, take-all, length-take-le}
-use Rattle.pauli.specs.Letters.{real}
-use Rattle.pauli.specs.Rows.{Row, Width, identity}
+use lib.ListN.{length, take}
+use lib.Seq.{take-all, length-take-le}
+use Rattle.pauli.specs.Rows.{Row, Width}
 use Rattle.pauli.specs.Gates.{act₁, act₂, forward, Gate, AllValid}
-use Rattle.pauli.specs.Table.{run, table, productOver}
+use Rattle.pauli.specs.Table.{run, table}
 use Rattle.pauli.specs.Rotations.{rotations, flush}
 use Rattle.pauli.proofs.Table.{table-rows}
 use Rattle.pauli.proofs.Theorems.{flush-as-gates, table-is-back, table-real, independent}
@@ -25,7 +24,7 @@ use Rattle.convert.specs.Types.{PbcError, Fine, Wrong}
 use Rattle.convert.specs.Records.{KindY, KindSx, KindSwap, KindCy, Cap, records, lowerAll, kindOf, Elementary, Placed, bare, AllProper}
 use Rattle.convert.specs.Plain.{plainBegin, plainRun}
 use Rattle.convert.specs.Paper.{AllHermitian}
-use Rattle.convert.specs.Frame.{Arena, frameGates, namesUnused, cliffordCheck, opened, startArena}
+use Rattle.convert.specs.Frame.{Arena, frameGates, namesUnused, cliffordCheck, opened}
 use Rattle.convert.specs.Words.{Words, decoded, meaning, opsFrom, operationsIn, wordRun, startWords}
 use Rattle.convert.specs.Conversion.{limits, Input, gatesIn, plainEnd, tableEnd, paperEnd, wordEnd, convertCheck, convertedHeader, ConvertedMade, ConvertedRefused, convertWithin, convertStep}
 use Rattle.convert.specs.Later.{Circuit, converted, LaterCall, callFrame, later, laters}
@@ -33,7 +32,7 @@ use Rattle.convert.specs.Statement.{Capped, Frame, Means, frameImages, C
 use Rattle.convert.specs.Lowering.{ruleY, ruleSx, ruleSwap, ruleCy, loweredActs}
 use Rattle.convert.specs.Circuits.{HandCircuits}
 use Rattle.convert.proofs.meaning.Nodes.{image-append}
-use Rattle.convert.proofs.meaning.FrameRows.{Under, Keeps, kept-map, Shows, shown, word-under}
+use Rattle.convert.proofs.meaning.FrameRows.{Under, Keeps, kept-map, Shows, shown}
 use Rattle.convert.proofs.meaning.Words.{Meant, meant, reads-kept}
 use Rattle.convert.proofs.meaning.Papers.{Agrees, agrees, table-run}
 use Rattle.convert.proofs.meaning.Signs.{hermitian}

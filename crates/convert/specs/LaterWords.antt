@@ -8,7 +8,7 @@ use Rattle.arena.specs.References.{axisOf}
 use Rattle.arena.specs.Operations.{measId, targetOf}
 use Rattle.convert.specs.Types.{PauliRef, PauliAxis}
 use Rattle.convert.specs.Conversion.{Input, Converted, ConvertedMade, ConvertedRefused, ConvertStep, convertStep, convertOf}
-use Rattle.convert.specs.Later.{Circuit, circuitOf, LaterCall, callFrame, callSingle, callProduct, callRotate, callMeasure, callConditional, laters}
+use Rattle.convert.specs.Later.{circuitOf, LaterCall, callFrame, callSingle, callProduct, callRotate, callMeasure, callConditional, laters}
 pub use Rattle.convert.specs.declared.later.CallWords.{CallWords}
 
 -- a 32-bit argument

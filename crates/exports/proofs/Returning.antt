@@ -1,5 +1,5 @@
 -- What a function for C returns and leaves, from what it has written.
-use mathlib.Core.Path.{_≡_, refl}
+use mathlib.Core.Path.{_≡_}
 use mathlib.Core.List.{List}
 use Prim.Native.Nat.{ℕ}
 use Rattle.exports.specs.Words.{Reply, numberIn, headerLeft, answerLeft, returned}

@@ -4,12 +4,12 @@ use mathlib.Core.List.{List, [], _∷_}
 use Prim.Native.Nat.{ℕ, zero, suc, _%_}
 use lib.IntN.{ℤ}
 use lib.Dec.{ltb}
-use lib.ListN.{length, getD}
+use lib.ListN.{getD}
 use lib.Seq.{sets}
 use Rattle.pauli.specs.Angle.{remainder8}
 use Rattle.pauli.specs.Letters.{pauliOf}
 use Rattle.arena.specs.Errors.{refusalIn}
-use Rattle.exports.specs.Types.{Pauli, PauliAngle, Header, PauliRef, PauliAxis, Target, Bit, NoTarget, PbcError}
+use Rattle.exports.specs.Types.{Pauli, PauliAngle, Header, PauliRef, PauliAxis, Target, Bit, NoTarget}
 pub use Rattle.exports.specs.declared.words.Reply.the-variants.{the-data as Reply, Accepted, Refused}
 
 -- ---- what is read

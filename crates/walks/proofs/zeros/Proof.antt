@@ -1,6 +1,5 @@
 -- `walks::zeros` is safe and ends: the count goes up to the length.
 use Prim.Native.Nat.{_≤_, _-_}
-use native.Mathlib.Omega.{arith}
 use borrow.Author.Needs.{needs}
 use lib.ListN.{length}
 use Rattle.walks.proofs.zeros.Statement.{statement}

@@ -1,7 +1,6 @@
 -- `frame_nodes` meets its contract.
 use mathlib.Core.Path.{refl}
 use mathlib.Core.List.{[], _∷_}
-use borrow.Author.Needs.{needs}
 use Rattle.convert.specs.Records.{lowerAs}
 use Rattle.convert.specs.Frame.{frameGates}
 use Rattle.convert.specs.Code.Raw.{frameNodes}
