@@ -77,20 +77,35 @@ pub(crate) fn growing_nodes(nodes: &mut Vec<u32>, call: impl FnMut(&mut [u32]) -
     growing(nodes, NODE_WORDS * MAX_NODES, PbcError::NoNodes, call)
 }
 
-pub(crate) fn growing_operations(operations: &mut Vec<u32>, call: impl FnMut(&mut [u32]) -> Answer) -> Answer {
+fn growing_operations(operations: &mut Vec<u32>, call: impl FnMut(&mut [u32]) -> Answer) -> Answer {
     growing(operations, OPERATION_WORDS * MAX_OPERATIONS, PbcError::NoOperations, call)
 }
 
 impl PbcCircuit {
-    /// Room for a new circuit of so many qubits, or of the most that there can be.
-    pub(crate) fn room(num_qubits: u32) -> Self {
+    /// Room for a new circuit of so many qubits, or of the most that there can be, with so many nodes and operations more.
+    pub(crate) fn room(num_qubits: u32, nodes: usize, operations: usize) -> Self {
         let images = 2 * num_qubits.min(MAX_QUBITS) as usize;
-        Self { header: [0; 6], nodes: vec![0; NODE_WORDS * (1 + images)], operations: Vec::new(), frame: vec![0; images] }
+        let nodes = MAX_NODES.min(1 + images + nodes);
+        let operations = MAX_OPERATIONS.min(operations);
+        Self {
+            header: [0; 6],
+            nodes: vec![0; NODE_WORDS * nodes],
+            operations: vec![0; OPERATION_WORDS * operations],
+            frame: vec![0; images],
+        }
+    }
+
+    /// Gives back the words that are not in use.
+    pub(crate) fn shrink(&mut self) {
+        self.nodes.truncate(NODE_WORDS * self.header[3] as usize);
+        self.nodes.shrink_to_fit();
+        self.operations.truncate(OPERATION_WORDS * self.header[4] as usize);
+        self.operations.shrink_to_fit();
     }
 
     /// A circuit without operations, with the identity as its output frame.
     pub fn new(num_qubits: u32, num_cbits: u32) -> Result<Self, PbcError> {
-        let mut circuit = Self::room(num_qubits);
+        let mut circuit = Self::room(num_qubits, 0, 0);
         ffi::pbc_new(num_qubits, num_cbits, next_owner(), &mut circuit.nodes, &mut circuit.frame, &mut circuit.header)?;
         Ok(circuit)
     }

@@ -1,6 +1,6 @@
 //! Gate lists, their conversion, and gates on a circuit's output.
 
-use crate::circuit::{PbcCircuit, growing_nodes, growing_operations, next_owner};
+use crate::circuit::{PbcCircuit, growing_nodes, next_owner};
 use crate::error::PbcError;
 use crate::{MAX_QUBITS, ffi};
 use std::num::NonZeroU32;
@@ -48,22 +48,70 @@ impl Gate {
             Self::Cy(a, b) => [20, a, b, 0],
         }
     }
+
+    /// The nodes and operations that it writes, then those that a flush of it writes.
+    fn needs(self) -> [u8; 4] {
+        match self {
+            Self::H(_) => [0, 0, 0, 3],
+            Self::X(_) | Self::Z(_) => [0, 0, 0, 1],
+            Self::S(_) | Self::Sdg(_) => [1, 0, 0, 1],
+            Self::T(_) | Self::Tdg(_) | Self::Measure(..) => [0, 1, 0, 0],
+            Self::Cnot(..) | Self::Cz(..) => [2, 0, 1, 3],
+            Self::Ccx(..) | Self::Ccz(..) => [4, 7, 0, 0],
+            Self::Y(_) => [0, 0, 0, 2],
+            Self::Sx(_) => [1, 0, 0, 7],
+            Self::Swap(..) => [6, 0, 3, 9],
+            Self::Cy(..) => [4, 0, 1, 5],
+        }
+    }
 }
 
-/// The circuit of a gate list. Under `max_weight` no axis has more letters other than I: pending Clifford gates are written as rotations
-/// before one would.
+/// The nodes and operations, besides the first nodes, that suffice for a conversion; without a cap they are what it needs.
+fn needs(gates: &[Gate], capped: bool) -> (usize, usize) {
+    gates.iter().fold((0, 0), |(nodes, operations), gate| {
+        let [pushed, written, flush_pushed, flush_written] = gate.needs();
+        let (flush_nodes, flush_operations) = if capped { (flush_pushed, flush_written) } else { (0, 0) };
+        (nodes + usize::from(pushed + flush_nodes), operations + usize::from(written + flush_operations))
+    })
+}
+
+/// The circuit of a gate list.
+///
+/// Under `max_weight` no axis of an odd angle or of a measurement has more letters other than I: pending Clifford gates are written as
+/// rotations before one would. Those have at most two letters, whatever the cap.
+/// Time and space are O(gates + qubits); under a cap each gate costs up to four words for 64 qubits more.
+///
+/// ```
+/// use pbc::{Gate, to_pbc};
+/// use std::num::NonZeroU32;
+///
+/// let gates = [Gate::Cnot(0, 1), Gate::T(1)];
+/// let circuit = to_pbc(2, 0, &gates, None)?;
+/// assert_eq!(circuit.operations().len(), 1);
+/// let axis = circuit.operations().next().unwrap().axis();
+/// assert_eq!(circuit.expand(axis.as_ref(), 100)?.to_string(), "+ZZ");
+///
+/// // At a cap of 1 the cnot is written as three rotations, and the t rotates along one letter.
+/// let capped = to_pbc(2, 0, &gates, NonZeroU32::new(1))?;
+/// assert_eq!(capped.operations().len(), 4);
+/// let weights = capped.max_axis_weights(100)?;
+/// assert_eq!((weights.non_clifford, weights.clifford), (1, 2));
+/// # Ok::<(), pbc::PbcError>(())
+/// ```
+///
+/// # Errors
+///
+/// `TooManyQubits`, `BrokenGateList`, then of the first faulty gate `QubitOutOfRange`, `RepeatedOperand` or `ClassicalBitOutOfRange`,
+/// then `CapTooSmall`, `NoNodes`, `NoOperations`.
 pub fn to_pbc(num_qubits: u32, num_cbits: u32, gates: &[Gate], max_weight: Option<NonZeroU32>) -> Result<PbcCircuit, PbcError> {
     let words: Vec<u32> = gates.iter().flat_map(|gate| gate.words()).collect();
     let cap = max_weight.map_or(u64::MAX, |cap| u64::from(cap.get()));
     let mut planes = vec![0; if max_weight.is_some() { plane_words(num_qubits.min(MAX_QUBITS)) } else { 0 }];
-    let mut circuit = PbcCircuit::room(num_qubits);
-    let owner = next_owner();
+    let (nodes, operations) = needs(gates, max_weight.is_some());
+    let mut circuit = PbcCircuit::room(num_qubits, nodes, operations);
     let PbcCircuit { header, nodes, operations, frame } = &mut circuit;
-    growing_nodes(nodes, |nodes| {
-        growing_operations(operations, |operations| {
-            ffi::pbc_convert(num_qubits, num_cbits, owner, cap, &words, nodes, operations, frame, &mut planes, header)
-        })
-    })?;
+    ffi::pbc_convert(num_qubits, num_cbits, next_owner(), cap, &words, nodes, operations, frame, &mut planes, header)?;
+    circuit.shrink();
     Ok(circuit)
 }
 
@@ -79,5 +127,39 @@ impl PbcCircuit {
         let Self { header, nodes, frame, .. } = self;
         growing_nodes(nodes, |nodes| ffi::pbc_push_output_clifford(header, nodes, frame, kind, a, b))?;
         Ok(())
+    }
+}
+
+#[cfg(test)]
+mod tests {
+    use super::Gate::*;
+    use super::*;
+
+    const CLIFFORDS: [Gate; 11] = [H(0), X(0), Z(0), S(0), Sdg(0), Cnot(0, 1), Cz(0, 1), Y(0), Sx(0), Swap(0, 1), Cy(0, 1)];
+
+    fn used(circuit: &PbcCircuit) -> (usize, usize) {
+        (circuit.header[3] as usize - 1 - 2 * circuit.num_qubits(), circuit.header[4] as usize)
+    }
+
+    #[test]
+    fn without_a_cap_the_needs_are_exact() {
+        for gate in CLIFFORDS.into_iter().chain([T(0), Tdg(0), Ccx(0, 1, 2), Ccz(0, 1, 2), Measure(0, 0)]) {
+            let gates = [gate, H(2), gate];
+            assert_eq!(used(&to_pbc(3, 1, &gates, None).unwrap()), needs(&gates, false), "{gate:?}");
+        }
+    }
+
+    #[test]
+    fn under_a_cap_they_suffice() {
+        // The measured axis has weight 2 whatever the gate does, so all that is pending is written.
+        for gate in CLIFFORDS {
+            let gates = [gate, Cnot(2, 3), Measure(3, 0), H(0), Cz(0, 1), S(1)];
+            let circuit = to_pbc(4, 1, &gates, NonZeroU32::new(1)).unwrap();
+            let written = needs(&gates[..3], true);
+            let pending = needs(&gates[3..], false);
+            assert_eq!(used(&circuit), (written.0 + pending.0, written.1 + pending.1), "{gate:?}");
+            let most = needs(&gates, true);
+            assert!(used(&circuit).0 <= most.0 && used(&circuit).1 <= most.1);
+        }
     }
 }

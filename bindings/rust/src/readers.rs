@@ -5,6 +5,7 @@ use crate::error::PbcError;
 use crate::ffi::{self, Answer};
 use crate::letters::{Pauli, Phase};
 use crate::reference::{PauliAxis, PauliRef};
+use std::fmt;
 
 /// Three words a record; at most so many records count.
 const POOL_WORDS: usize = 3 * 65_536;
@@ -14,6 +15,13 @@ const POOL_WORDS: usize = 3 * 65_536;
 pub struct ExpandedPauli {
     pub phase: Phase,
     pub factors: Vec<Pauli>,
+}
+
+impl fmt::Display for ExpandedPauli {
+    fn fmt(&self, f: &mut fmt::Formatter<'_>) -> fmt::Result {
+        write!(f, "{}", self.phase)?;
+        self.factors.iter().try_for_each(|factor| write!(f, "{factor}"))
+    }
 }
 
 /// Result of [`PbcCircuit::max_axis_weights`].
