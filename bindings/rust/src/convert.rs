@@ -5,24 +5,41 @@ use crate::error::PbcError;
 use crate::{MAX_QUBITS, ffi};
 use std::num::NonZeroU32;
 
-/// A gate on qubits; `Measure` is of a qubit, into a classical bit.
+/// A gate on qubits; controls come first.
 #[derive(Clone, Copy, Debug, PartialEq, Eq)]
+#[non_exhaustive]
 pub enum Gate {
+    /// Hadamard.
     H(u32),
+    /// Pauli X.
     X(u32),
+    /// Pauli Z.
     Z(u32),
+    /// The square root of Z.
     S(u32),
+    /// The inverse of S.
     Sdg(u32),
+    /// The square root of S.
     T(u32),
+    /// The inverse of T.
     Tdg(u32),
+    /// Controlled X.
     Cnot(u32, u32),
+    /// Controlled Z.
     Cz(u32, u32),
+    /// Doubly controlled X.
     Ccx(u32, u32, u32),
+    /// Doubly controlled Z.
     Ccz(u32, u32, u32),
+    /// A measurement of a qubit, into a classical bit.
     Measure(u32, u32),
+    /// Pauli Y.
     Y(u32),
+    /// The square root of X.
     Sx(u32),
+    /// Two qubits change places.
     Swap(u32, u32),
+    /// Controlled Y.
     Cy(u32, u32),
 }
 
@@ -121,7 +138,19 @@ fn plane_words(num_qubits: u32) -> usize {
 }
 
 impl PbcCircuit {
-    /// One more Clifford gate (h, x, z, s, sdg, cnot, cz) on the output frame.
+    /// One more Clifford gate (h, x, z, s, sdg, cnot, cz) on the output frame. Amortized O(1), plus a test of the frame's words.
+    ///
+    /// ```
+    /// use pbc::{Gate, PbcCircuit};
+    /// let mut circuit = PbcCircuit::new(2, 0)?;
+    /// circuit.push_output_clifford(Gate::Cnot(0, 1))?;
+    /// assert_eq!(circuit.expand(circuit.output_frame().x(0), 100)?.to_string(), "+XX");
+    /// # Ok::<(), pbc::PbcError>(())
+    /// ```
+    ///
+    /// # Errors
+    ///
+    /// `NonCliffordFrameGate`, `QubitOutOfRange`, `RepeatedOperand`, `NoNodes`.
     pub fn push_output_clifford(&mut self, gate: Gate) -> Result<(), PbcError> {
         let [kind, a, b, _] = gate.words();
         let Self { header, nodes, frame, .. } = self;
