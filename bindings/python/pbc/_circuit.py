@@ -62,6 +62,7 @@ class PbcCircuit:
         self._lock = threading.Lock()
         self._header = words(6, ctypes.c_uint64)
         self._nodes, self._operations, self._frame = nodes, operations, frame
+        self._seen_nodes, self._seen_operations = words(0), words(0)
         self._read_nodes, self._read_operations = (), ()
 
     def __copy__(self):
@@ -95,11 +96,19 @@ class PbcCircuit:
         with self._lock:
             return _until_room(attempt, self._grow)
 
-    def _walk(self, attempt):
-        """A call that reads the circuit, with scratch and pool of its own.
-        It needs no lock: calls that add write no word in use, but the frame's and the header's, which is copied."""
+    def _seen(self):
+        """Header, nodes and operations that no later call writes. A copy is made where there are more than at the last."""
         with self._lock:
-            header, nodes, operations = type(self._header).from_buffer_copy(self._header), self._nodes, self._operations
+            header = type(self._header).from_buffer_copy(self._header)
+            if len(self._seen_nodes) < NODE_WORDS * header[3]:
+                self._seen_nodes = resized(self._nodes, NODE_WORDS * header[3])
+            if len(self._seen_operations) < OPERATION_WORDS * header[4]:
+                self._seen_operations = resized(self._operations, OPERATION_WORDS * header[4])
+            return header, self._seen_nodes, self._seen_operations
+
+    def _walk(self, attempt):
+        """A call that reads the circuit as it is now, with scratch and pool of its own; others may add to it meanwhile."""
+        header, nodes, operations = self._seen()
         scratch, pool = words(_SCRATCH_WORDS * header[3]), words(_FIRST_POOL_WORDS)
 
         def grow(refusal):
