@@ -5,9 +5,9 @@
  * aligned, and no two slices of one call overlap unless both are const. A null pointer with length 0 is an empty slice; that it is never
  * read or written through is tested (test.c), not proved.
  *
- * Threads: the functions are re-entrant. They have no state of their own, take nothing from C but memset, and touch what a call lends them and
- * nothing else. Threads may call at once on different circuits, and the readers on one circuit, with letters, scratch, pool and answer of their
- * own; a call that adds to a circuit wants it alone.
+ * Threads: the functions are re-entrant. They have no state of their own, take nothing from C but what sets and copies memory, and touch
+ * what a call lends them and nothing else. Threads may call at once on different circuits, and the readers on one circuit, with letters,
+ * scratch, pool and answer of their own; a call that adds to a circuit wants it alone.
  *
  * Conventions
  *   Result   0, or the number of a refusal (enum pbc_refusal), or PBC_TOO_SHORT: then nothing is done at all.
