@@ -223,7 +223,13 @@ class PbcCircuit:
         return self._reference(values[0])
 
     def rotate(self, axis: PauliRef, eighths: int) -> None:
-        """The rotation exp(-i k pi/8 P), where k counts modulo 8. The axis should have the sign +1 or -1: hermitian_axis tells."""
+        """The rotation exp(-i k pi/8 P), where k counts modulo 8. The axis should have the sign +1 or -1: hermitian_axis tells.
+
+        >>> circuit = PbcCircuit(1, 0)
+        >>> circuit.rotate(circuit.single(0, 1), -1)
+        >>> circuit.operations[0].angle
+        7
+        """
         axis, eighths = _handle("axis", axis, PauliRef), operator.index(eighths)
         self._add(lambda answer: call("pbc_rotate", self._header, self._operations, *axis, eighths, answer))
 
@@ -239,7 +245,13 @@ class PbcCircuit:
         return MeasId(self.owner, values[0])
 
     def conditional_rotate(self, axis: PauliRef, eighths: int, measurement: MeasId) -> None:
-        """A rotation where a measurement gave 1. The axis as for rotate."""
+        """A rotation where a measurement gave 1. The axis as for rotate.
+
+        >>> circuit = PbcCircuit(1, 0)
+        >>> circuit.conditional_rotate(circuit.single(0, 1), 4, circuit.measure(circuit.single(0, 3)))
+        >>> circuit.operations[1].measurement == circuit.operations[0].measurement
+        True
+        """
         axis, eighths, measurement = _handle("axis", axis, PauliRef), operator.index(eighths), _handle("measurement", measurement, MeasId)
         self._add(lambda answer: call("pbc_conditional_rotate", self._header, self._operations, *axis, eighths, *measurement, answer))
 

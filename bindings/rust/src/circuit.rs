@@ -27,6 +27,15 @@ pub struct PbcCircuit {
 }
 
 /// The images of X and Z of each qubit under the postponed output Clifford.
+///
+/// ```
+/// use pbc::{Gate, to_pbc};
+/// let circuit = to_pbc(2, 0, &[Gate::Cnot(0, 1)], None)?;
+/// let frame = circuit.output_frame();
+/// assert_eq!(circuit.expand(frame.x(0), 100)?.to_string(), "+XX");
+/// assert_eq!(circuit.expand(frame.z(1), 100)?.to_string(), "+ZZ");
+/// # Ok::<(), pbc::PbcError>(())
+/// ```
 #[derive(Clone, Debug, PartialEq, Eq)]
 pub struct CliffordFrame {
     x: Vec<PauliRef>,
@@ -193,6 +202,15 @@ impl PbcCircuit {
 
     /// The letter on a qubit, as a new node; I is node 0. Amortized O(1).
     ///
+    /// ```
+    /// use pbc::{Pauli, PbcCircuit};
+    /// let mut circuit = PbcCircuit::new(2, 0)?;
+    /// let y = circuit.single(1, Pauli::Y)?;
+    /// assert_eq!(circuit.expand(y.as_ref(), 100)?.to_string(), "+IY");
+    /// assert_eq!(circuit.single(0, Pauli::I)?, circuit.identity());
+    /// # Ok::<(), pbc::PbcError>(())
+    /// ```
+    ///
     /// # Errors
     ///
     /// `QubitOutOfRange`, `NoNodes`.
@@ -215,6 +233,15 @@ impl PbcCircuit {
     }
 
     /// The rotation exp(-i k π/8 P). Amortized O(1).
+    ///
+    /// ```
+    /// use pbc::{PauliAngle, PbcCircuit, PbcOp};
+    /// let mut circuit = PbcCircuit::new(1, 0)?;
+    /// let (axis, angle) = (circuit.identity(), PauliAngle::new(1));
+    /// circuit.rotate(axis, angle)?;
+    /// assert_eq!(circuit.operations().next(), Some(PbcOp::Rotate { axis, angle }));
+    /// # Ok::<(), pbc::PbcError>(())
+    /// ```
     ///
     /// # Errors
     ///

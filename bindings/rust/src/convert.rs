@@ -6,6 +6,14 @@ use crate::{MAX_QUBITS, ffi};
 use std::num::NonZeroU32;
 
 /// A gate on qubits; controls come first.
+///
+/// ```
+/// use pbc::{Gate, PbcError, to_pbc};
+/// let bell = [Gate::H(0), Gate::Cnot(0, 1), Gate::Measure(0, 0), Gate::Measure(1, 1)];
+/// assert_eq!(to_pbc(2, 2, &bell, None)?.measurement_count(), 2);
+/// assert_eq!(to_pbc(1, 2, &bell, None).unwrap_err(), PbcError::QubitOutOfRange { index: 1, qubit: 1 });
+/// # Ok::<(), PbcError>(())
+/// ```
 #[derive(Clone, Copy, Debug, PartialEq, Eq)]
 #[non_exhaustive]
 pub enum Gate {

@@ -5,6 +5,16 @@ use crate::reference::{PauliAxis, PauliRef};
 use std::fmt;
 
 /// A measurement of one circuit.
+///
+/// ```
+/// use pbc::{Pauli, PbcCircuit, PbcError};
+/// let (mut circuit, mut other) = (PbcCircuit::new(1, 0)?, PbcCircuit::new(1, 0)?);
+/// let (z, y) = (circuit.single(0, Pauli::Z)?, other.single(0, Pauli::Y)?);
+/// let outcome = circuit.measure(z, None)?;
+/// assert_eq!((outcome.index(), outcome.to_string().as_str()), (0, "m0"));
+/// assert_eq!(other.conditional_pauli(y, outcome), Err(PbcError::UnknownMeasurement));
+/// # Ok::<(), PbcError>(())
+/// ```
 #[derive(Clone, Copy, Debug, PartialEq, Eq)]
 pub struct MeasId {
     pub(crate) owner: u64,

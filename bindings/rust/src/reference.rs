@@ -39,6 +39,14 @@ impl PauliRef {
 
 /// A reference known to have the sign +1 or -1: what rotations and measurements take.
 /// [`PbcCircuit::hermitian_axis`](crate::PbcCircuit::hermitian_axis) makes one of a product.
+///
+/// ```
+/// use pbc::{Pauli, PbcCircuit};
+/// let mut circuit = PbcCircuit::new(1, 0)?;
+/// let axis = circuit.single(0, Pauli::Y)?.negated();
+/// assert_eq!(circuit.expand(axis.as_ref(), 100)?.to_string(), "-Y");
+/// # Ok::<(), pbc::PbcError>(())
+/// ```
 #[derive(Clone, Copy, Debug, PartialEq, Eq)]
 pub struct PauliAxis(pub(crate) PauliRef);
 
