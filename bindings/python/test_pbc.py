@@ -1,4 +1,5 @@
 """Tests of the module, its docstrings among them: python3 bindings/python/test_pbc.py, with pbc and its library to be found."""
+import collections
 import copy
 import doctest
 import faulthandler
@@ -157,14 +158,14 @@ class Rooms(unittest.TestCase):
         for name in NAMES:
             gates = random_gates(3, 3, 5, [name])
             circuit = pbc.to_pbc(3, 1, gates)
-            self.assertEqual(_gates.needs(3, [name] * 5, False), (len(circuit.pauli_nodes), len(circuit.operations)), name)
+            self.assertEqual(_gates.needs(3, {name: 5}, False), (len(circuit.pauli_nodes), len(circuit.operations)), name)
 
     def test_under_a_cap_they_suffice(self):
         for name in ["h", "x", "z", "s", "sdg", "cnot", "cz", "y", "sx", "swap", "cy"]:
             # All is pending where the measurement of a heavy axis has it written.
             gates = [(name, *range(_gates._KINDS[name].operands)), ("cnot", 0, 1), ("measure", 1, 0)]
             circuit = pbc.to_pbc(2, 1, gates, 1)
-            nodes, operations = _gates.needs(2, [gate[0] for gate in gates], True)
+            nodes, operations = _gates.needs(2, collections.Counter(gate[0] for gate in gates), True)
             self.assertGreaterEqual(nodes, len(circuit.pauli_nodes))
             self.assertGreaterEqual(operations, len(circuit.operations))
             if circuit.max_axis_weights(1000).clifford:

@@ -328,10 +328,10 @@ def to_pbc(num_qubits: int, num_cbits: int, gates: Iterable, max_weight: Optiona
     qubits, cbits = number("num_qubits", num_qubits), number("num_cbits", num_cbits)
     # No axis has more letters than a circuit can have qubits, so a greater cap is as good as the greatest of 32 bits.
     cap = _NO_CAP if max_weight is None else min(U32, number("max_weight", max_weight, U64))
-    listed, names = list_words(gates)
-    given = (ctypes.c_uint32 * len(listed))(*listed)
+    listed, counts = list_words(gates)
+    given = (ctypes.c_uint32 * len(listed)).from_buffer(listed)
     small = min(qubits, MAX_QUBITS)
-    nodes, operations = needs(small, names, max_weight is not None)
+    nodes, operations = needs(small, counts, max_weight is not None)
     planes = words(0 if max_weight is None else 4 * small * max(1, -(-small // 64)), ctypes.c_uint64)
     made = PbcCircuit.__new__(PbcCircuit)
     made._start(words(NODE_WORDS * min(nodes, MAX_NODES)), words(OPERATION_WORDS * min(operations, MAX_OPERATIONS)), words(2 * small))

@@ -1,7 +1,11 @@
 """Gates as words of the library, and what they need."""
+from array import array
+from collections import Counter
 from typing import NamedTuple
 
 from ._library import number
+
+GATE_WORDS = 4
 
 
 class _Kind(NamedTuple):
@@ -59,28 +63,40 @@ def gate_words(name, operands, place=""):
     if len(operands) != kind.operands:
         raise ValueError(f"{place}{name} takes {kind.operands} operand{'s' * (kind.operands > 1)}, not {len(operands)}")
     numbers = [number(f"{place}operand {i} of {name}", operand) for i, operand in enumerate(operands)]
-    return [kind.number, *numbers, 0, 0, 0][:4]
+    return [kind.number, *numbers, 0, 0][:GATE_WORDS]
+
+
+def _gate_in_list(index, gate):
+    place = f"gate {index}: "
+    try:
+        name, *operands = gate
+    except (TypeError, ValueError):
+        raise ValueError(f"{place}{gate!r} is not a name and its operands") from None
+    return gate_words(name, operands, place)
 
 
 def list_words(gates):
-    """The words of a gate list, and the names of its gates."""
-    words, names = [], []
-    for index, gate in enumerate(gates):
-        place = f"gate {index}: "
-        try:
-            name, *operands = gate
-        except (TypeError, ValueError):
-            raise ValueError(f"{place}{gate!r} is not a name and its operands") from None
-        words += gate_words(name, operands, place)
-        names.append(name)
-    return words, names
+    """The words of a gate list, and how many gates there are of each name."""
+    gates, listed, names = list(gates), [], []
+    try:
+        for name, *operands in gates:
+            kind = _KINDS[name]
+            if len(operands) != kind.operands:
+                raise ValueError
+            listed += (kind.number, *operands, 0, 0)[:GATE_WORDS]
+            names.append(name)
+        return array("I", listed), Counter(names)
+    except (KeyError, OverflowError, TypeError, ValueError):
+        for index, gate in enumerate(gates):
+            _gate_in_list(index, gate)  # raises what names the first that is wrong
+        raise
 
 
-def needs(num_qubits, names, capped):
+def needs(num_qubits, counts, capped):
     """The nodes and operations that suffice for a conversion; without a cap they are what it needs."""
     nodes, operations = 1 + 2 * num_qubits, 0
-    for name in names:
+    for name, count in counts.items():
         kind = _KINDS[name]
-        nodes += kind.nodes + capped * kind.flushed_nodes
-        operations += kind.operations + capped * kind.flushed_operations
+        nodes += count * (kind.nodes + capped * kind.flushed_nodes)
+        operations += count * (kind.operations + capped * kind.flushed_operations)
     return nodes, operations
