@@ -104,7 +104,7 @@ fn needs(gates: &[Gate], capped: bool) -> (usize, usize) {
 ///
 /// Under `max_weight` no axis of an odd angle or of a measurement has more letters other than I: pending Clifford gates are written as
 /// rotations before one would. Those have at most two letters, whatever the cap.
-/// Time and space are O(gates + qubits); under a cap each gate costs up to four words for 64 qubits more.
+/// Time and space are O(gates + qubits); under a cap O(qubits / 64) more a gate, and O(qubits² / 64) more a flush.
 ///
 /// ```
 /// use pbc::{Gate, to_pbc};
