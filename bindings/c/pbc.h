@@ -2,7 +2,12 @@
  *
  * Every function here is proved to return the number and to leave the words that crates/exports/specs/Exports.antt defines,
  * whatever numbers it is passed. What stays with the caller: each pointer leads to as many words as the length beside it says,
- * aligned, and no two slices of one call overlap unless both are const. A length of 0 still wants an aligned pointer other than null.
+ * aligned, and no two slices of one call overlap unless both are const. A null pointer with length 0 is an empty slice; that it is never
+ * read or written through is tested (test.c), not proved.
+ *
+ * Threads: the functions are re-entrant. They have no state of their own, take nothing from C but what sets and copies memory, and touch
+ * what a call lends them and nothing else. Threads may call at once on different circuits, and the readers on one circuit, with letters,
+ * scratch, pool and answer of their own; a call that adds to a circuit wants it alone.
  *
  * Conventions
  *   Result   0, or the number of a refusal (enum pbc_refusal), or PBC_TOO_SHORT: then nothing is done at all.
@@ -11,8 +16,8 @@
  *            (the call answers PBC_BAD_STORE); the owner has 64 bits.
  *   answer   PBC_ANSWER_WORDS words. Accepted: the values named at each function, then zeros. Refused: the offending gate's index (or 0),
  *            the offending kind, qubit or bit (or 0), 0, 0.
- *   handle   owner and word; a word is 4 * node + phase, and the phase is a power of i.
- *   letter   I 0, X 1, Y 2, Z 3; a larger number counts modulo 4.
+ *   handle   owner and word; a word is 4 * node + phase (enum pbc_phase).
+ *   letter   enum pbc_pauli; a larger number counts modulo 4.
  *   angle    k stands for exp(-i k pi/8 P); any number, which counts modulo 8.
  *   Words past the fourth of the answer and past the sixth of the header are left alone. A refusal leaves nodes, operations, frame and letters.
  */
@@ -29,17 +34,73 @@ extern "C" {
 /* Sizes, in words. */
 #define PBC_HEADER_WORDS 6
 #define PBC_ANSWER_WORDS 4
+#define PBC_GATE_WORDS 4      /* u32: kind (enum pbc_gate), then operands, then zeros */
 #define PBC_NODE_WORDS 2      /* u32: identity (0, 0); single (1 + 4 * letter, qubit); product (2 + 4 * left word, right word) */
-#define PBC_OPERATION_WORDS 4 /* u32: kind + 4 * angle (0 rotate, 1 measure, 2 conditional), axis word, measurement, bit + 1 */
+#define PBC_OPERATION_WORDS 4 /* u32: kind (enum pbc_op) + 4 * angle, axis word, measurement, bit + 1 */
+#define PBC_RECORD_WORDS 3    /* u32: of the pool */
 
 /* Limits. */
 #define PBC_MAX_QUBITS 256
 #define PBC_MAX_CBITS 65536
+#define PBC_MAX_GATES 65536
 #define PBC_MAX_NODES 65536
 #define PBC_MAX_OPERATIONS 65536
+#define PBC_MAX_RECORDS 65536 /* that count */
+
+/* What always suffices, with any cap or none, as constant expressions where the arguments are. Where a limit cuts one of the three that are
+ * counts (nodes, operations, records), the call can still be refused (14, 15, 18), and more would not help. */
+#define PBC_LEAST_(a, b) ((a) < (b) ? (a) : (b))
+/* Nodes of a circuit of so many qubits and gates; of a new circuit with 0 gates. A swap pushes 6, and a flush of it 3. */
+#define PBC_NODES_FOR(qubits, gates) PBC_LEAST_((size_t)PBC_MAX_NODES, 1 + 2 * (size_t)(qubits) + 9 * (size_t)(gates))
+/* Operations of so many gates. A flush of a swap writes 9, a ccx 7. */
+#define PBC_OPERATIONS_FOR(gates) PBC_LEAST_((size_t)PBC_MAX_OPERATIONS, 9 * (size_t)(gates))
+/* Records of a walk over so many nodes: a node holds a factor a qubit at the most, and record 0 is never lent. */
+#define PBC_RECORDS_FOR(qubits, nodes) PBC_LEAST_((size_t)PBC_MAX_RECORDS, 1 + (size_t)(qubits) * (size_t)(nodes))
+/* Words of nodes, operations and pool, for so many of them. */
+#define PBC_NODES_WORDS(nodes) (PBC_NODE_WORDS * (size_t)(nodes))
+#define PBC_OPERATIONS_WORDS(operations) (PBC_OPERATION_WORDS * (size_t)(operations))
+#define PBC_POOL_WORDS(records) (PBC_RECORD_WORDS * (size_t)(records))
+/* Words of the frame, and of the planes under a cap, for so many qubits; of the scratch for so many nodes. */
+#define PBC_FRAME_WORDS(qubits) (2 * (size_t)(qubits))
+#define PBC_PLANE_WORDS(qubits) (4 * (size_t)(qubits) * ((qubits) > 64 ? ((size_t)(qubits) + 63) / 64 : 1))
+#define PBC_SCRATCH_WORDS(nodes) (4 * (size_t)(nodes))
+
+/* No cap, for pbc_convert; no bit, for pbc_measure. */
+#define PBC_NO_CAP UINT64_MAX
+#define PBC_NO_TARGET 0
 
 /* Places in a header. */
 enum { PBC_QUBITS, PBC_CBITS, PBC_OWNER, PBC_NODES, PBC_OPERATIONS, PBC_MEASUREMENTS };
+
+enum pbc_pauli { PBC_PAULI_I = 0, PBC_PAULI_X = 1, PBC_PAULI_Y = 2, PBC_PAULI_Z = 3 };
+
+/* Powers of i. */
+enum pbc_phase { PBC_PHASE_ONE = 0, PBC_PHASE_I = 1, PBC_PHASE_MINUS_ONE = 2, PBC_PHASE_MINUS_I = 3 };
+
+enum pbc_gate {
+    PBC_GATE_H = 0,
+    PBC_GATE_X = 1,
+    PBC_GATE_Z = 2,
+    PBC_GATE_S = 3,
+    PBC_GATE_SDG = 4,
+    PBC_GATE_T = 5,
+    PBC_GATE_TDG = 6,
+    PBC_GATE_CNOT = 8, /* control, target */
+    PBC_GATE_CZ = 9,
+    PBC_GATE_CCX = 10, /* control, control, target */
+    PBC_GATE_CCZ = 11,
+    PBC_GATE_MEASURE = 12, /* qubit, classical bit */
+    PBC_GATE_Y = 15,
+    PBC_GATE_SX = 16,
+    PBC_GATE_SWAP = 19,
+    PBC_GATE_CY = 20
+};
+
+/* The first word of an operation modulo 4; the rest of it is the angle. */
+enum pbc_op { PBC_OP_ROTATE = 0, PBC_OP_MEASURE = 1, PBC_OP_CONDITIONAL_ROTATE = 2 };
+
+/* The first word of a node modulo 4; the rest of it is the letter, or the left word. */
+enum pbc_node { PBC_NODE_IDENTITY = 0, PBC_NODE_SINGLE = 1, PBC_NODE_PRODUCT = 2 };
 
 enum pbc_refusal {
     PBC_ACCEPTED = 0,
@@ -65,6 +126,36 @@ enum pbc_refusal {
     PBC_TOO_SHORT = 255                 /* header below 6 words, or answer below 4 */
 };
 
+/* The name of an answer's number, for messages. */
+static inline const char *pbc_refusal_name(uint32_t number)
+{
+    static const char *const names[] = {
+        "Accepted",
+        "TooManyQubits",
+        "BrokenGateList",
+        "BadStore",
+        "ForeignPauli",
+        "UnsupportedGate",
+        "NonCliffordFrameGate",
+        "QubitOutOfRange",
+        "RepeatedOperand",
+        "ClassicalBitOutOfRange",
+        "UnknownMeasurement",
+        "CapTooSmall",
+        "NoPlanes",
+        "NoFrame",
+        "NoNodes",
+        "NoOperations",
+        "NoScratch",
+        "ExpansionLimit",
+        "NoPool",
+        "NonHermitianAxis",
+    };
+    if (number < sizeof names / sizeof *names)
+        return names[number];
+    return number == PBC_TOO_SHORT ? "TooShort" : "Unknown";
+}
+
 /* k modulo 8, 0 to 7. */
 uint32_t pbc_angle(int64_t k);
 
@@ -88,7 +179,8 @@ uint32_t pbc_product(uint64_t *header, size_t header_len, uint32_t *nodes, size_
 uint32_t pbc_rotate(uint64_t *header, size_t header_len, uint32_t *operations, size_t operations_len, uint64_t owner, uint32_t word, int64_t angle,
                     uint64_t *answer, size_t answer_len);
 
-/* One more measurement; target is the classical bit + 1, or 0 for none. Value: the measurement's number. Refuses with 3, 4, 9, 15. */
+/* One more measurement; target is the classical bit + 1, or 0 for none. Value: the measurement's number. Refuses with 3, 4, 9, 15.
+ * A bit over 4294967295 counts as 4294967295, which no circuit has: refusal 9 with that operand. */
 uint32_t pbc_measure(uint64_t *header, size_t header_len, uint32_t *operations, size_t operations_len, uint64_t owner, uint32_t word,
                      uint64_t target, uint64_t *answer, size_t answer_len);
 
@@ -97,7 +189,7 @@ uint32_t pbc_conditional_rotate(uint64_t *header, size_t header_len, uint32_t *o
                                 int64_t angle, uint64_t measurement_owner, uint32_t measurement, uint64_t *answer, size_t answer_len);
 
 /* ---- readers
- * scratch: 4 u32 words a used node. pool: 3 u32 words a record, of which at most 65,536 count, and record 0 is never lent.
+ * scratch: PBC_SCRATCH_WORDS of the used nodes. pool: PBC_POOL_WORDS of PBC_RECORDS_FOR records; fewer mostly do, and 18 says where they do not.
  * A reader past refusal 16 leaves both zero, as far as they count. */
 
 /* The letters of a handle, one byte a qubit. Values: phase, work. The limit of the work is max_cells less the qubits.
@@ -119,13 +211,13 @@ uint32_t pbc_max_axis_weights(const uint64_t *header, size_t header_len, const u
 
 /* ---- conversion */
 
-/* One more gate on the output frame: h 0, x 1, z 2, s 3, sdg 4 (a), cnot 8, cz 9 (a, b). No value. Refuses with 3, 6, 7, 8, 13, 14. */
+/* One more gate on the output frame: h, x, z, s, sdg (a), cnot, cz (a, b). No value. Refuses with 3, 6, 7, 8, 13, 14. */
 uint32_t pbc_push_output_clifford(uint64_t *header, size_t header_len, uint32_t *nodes, size_t nodes_len, uint32_t *frame, size_t frame_len,
                                   uint32_t kind, uint32_t a, uint32_t b, uint64_t *answer, size_t answer_len);
 
-/* The circuit of a gate list: four words a gate, its kind and its operands. Kinds: h 0, x 1, z 2, s 3, sdg 4, t 5, tdg 6, cnot 8, cz 9, ccx 10,
- * ccz 11, measure 12 (qubit, classical bit), y 15, sx 16, swap 19, cy 20. A cap over 4294967295 is none; else no axis has more letters other
- * than I than the cap, and the planes need 4 * qubits * max(1, ceil(qubits / 64)) words. No value; writes the header.
+/* The circuit of a gate list. A cap over 4294967295 is none. Under a cap no axis of an odd angle or of a measurement has more letters other than
+ * I: pending Clifford gates are written as rotations before one would, and those have at most two letters, whatever the cap. The planes then need
+ * PBC_PLANE_WORDS(qubits) words, and hold the frame's letters afterwards; without a cap they need none. No value; writes the header.
  * Refuses with 1, 2, 5, 7, 8, 9, 11, 12, 13, 14, 15. */
 uint32_t pbc_convert(uint32_t qubits, uint32_t cbits, uint64_t owner, uint64_t cap, const uint32_t *gates, size_t gates_len, uint32_t *nodes,
                      size_t nodes_len, uint32_t *operations, size_t operations_len, uint32_t *frame, size_t frame_len, uint64_t *planes,

@@ -10,10 +10,8 @@ ADDER = [
 
 def show(circuit):
     for operation in circuit.operations:
-        axis = circuit.expand(operation.axis, 100000)
-        sign = ["+", "+i", "-", "-i"][axis.phase]
         into = "" if operation.target is None else f" into {operation.target}"
-        print(operation.kind, operation.angle or 0, sign + "".join("IXYZ"[a] for a in axis.factors) + into)
+        print(operation.kind, operation.angle or 0, f"{circuit.expand(operation.axis, 100000)}{into}")
 
 
 circuit = pbc.to_pbc(6, 3, ADDER)

@@ -3,7 +3,15 @@
 use std::fmt;
 
 /// Why a call was refused. `index` is a gate's place in the list of a conversion, 0 elsewhere.
+///
+/// ```
+/// use pbc::{Gate, PbcError, to_pbc};
+/// let refusal = to_pbc(2, 0, &[Gate::H(0), Gate::Cnot(1, 1)], None).unwrap_err();
+/// assert_eq!(refusal, PbcError::RepeatedOperand { index: 1, qubit: 1 });
+/// assert_eq!(refusal.to_string(), "gate 1: qubit 1 is repeated");
+/// ```
 #[derive(Clone, Copy, Debug, PartialEq, Eq)]
+#[non_exhaustive]
 pub enum PbcError {
     /// Over 256 qubits, or over 65,536 classical bits.
     TooManyQubits,
@@ -11,41 +19,60 @@ pub enum PbcError {
     BrokenGateList,
     /// The circuit's words are damaged. No call of this crate leaves them so.
     BadStore,
+    /// A reference of another circuit.
     ForeignPauli,
+    /// A kind of gate that the library does not take. No [`Gate`](crate::Gate) is of one.
     UnsupportedGate {
+        /// The gate's place.
         index: u64,
+        /// The kind's number.
         kind: u64,
     },
+    /// A gate that the output frame does not take.
     NonCliffordFrameGate {
+        /// The kind's number.
         kind: u64,
     },
+    /// A qubit past the last.
     QubitOutOfRange {
+        /// The gate's place.
         index: u64,
+        /// The qubit.
         qubit: u64,
     },
+    /// A qubit twice among the operands of a gate.
     RepeatedOperand {
+        /// The gate's place.
         index: u64,
+        /// The qubit.
         qubit: u64,
     },
+    /// A classical bit past the last.
     ClassicalBitOutOfRange {
+        /// The gate's place.
         index: u64,
+        /// The bit.
         bit: u64,
     },
+    /// A measurement of another circuit.
     UnknownMeasurement,
     /// A cap of 1 or 2 with a ccx or ccz.
     CapTooSmall,
     /// A buffer of this crate is too short. No call leaves it so.
     NoPlanes,
+    /// The same of the frame.
     NoFrame,
     /// Over 65,536 nodes.
     NoNodes,
     /// Over 65,536 operations.
     NoOperations,
+    /// As `NoPlanes`, of the words of a walk.
     NoScratch,
     /// The work is above the limit.
     ExpansionLimit,
     /// Over 65,535 factors at once.
     NoPool,
+    /// The phase in front is i or -i.
     NonHermitianAxis,
 }
 

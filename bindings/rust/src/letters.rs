@@ -5,12 +5,22 @@ use std::fmt;
 use std::ops::{Add, Mul, Neg};
 
 /// Exact phase multiplying a Pauli expression, distinct from a rotation angle. Ordered by the power of i.
+///
+/// ```
+/// use pbc::Phase;
+/// assert_eq!(Phase::I * Phase::I, Phase::MinusOne);
+/// assert_eq!(Phase::MinusI.to_string(), "-i");
+/// ```
 #[derive(Clone, Copy, Debug, Default, PartialEq, Eq)]
 pub enum Phase {
+    /// 1.
     #[default]
     One,
+    /// i.
     I,
+    /// -1.
     MinusOne,
+    /// -i.
     MinusI,
 }
 
@@ -40,9 +50,13 @@ impl fmt::Display for Phase {
 /// A Pauli matrix of one qubit, or the identity.
 #[derive(Clone, Copy, Debug, PartialEq, Eq)]
 pub enum Pauli {
+    /// The identity.
     I,
+    /// The bit flip.
     X,
+    /// i times X times Z.
     Y,
+    /// The phase flip.
     Z,
 }
 
@@ -52,6 +66,11 @@ impl Pauli {
     }
 
     /// The product `self` times `other`, as a phase and a letter.
+    ///
+    /// ```
+    /// use pbc::{Pauli, Phase};
+    /// assert_eq!(Pauli::X.times(Pauli::Y), (Phase::I, Pauli::Z));
+    /// ```
     pub fn times(self, other: Self) -> (Phase, Self) {
         let product = ffi::pbc_times(self as u32, other as u32);
         (Phase::power(product / 4), Self::of(product % 4))
@@ -65,6 +84,13 @@ impl fmt::Display for Pauli {
 }
 
 /// Exact multiples of π/8 modulo π, ignoring global phase.
+///
+/// ```
+/// use pbc::PauliAngle;
+/// let angle = PauliAngle::new(-1) + PauliAngle::new(3);
+/// assert_eq!((angle.eighths(), angle.to_string().as_str()), (2, "pi/4"));
+/// assert_eq!((-angle).signed_eighths(), -2);
+/// ```
 #[derive(Clone, Copy, Debug, Default, PartialEq, Eq)]
 pub struct PauliAngle(u8);
 

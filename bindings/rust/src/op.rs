@@ -5,6 +5,16 @@ use crate::reference::{PauliAxis, PauliRef};
 use std::fmt;
 
 /// A measurement of one circuit.
+///
+/// ```
+/// use pbc::{Pauli, PbcCircuit, PbcError};
+/// let (mut circuit, mut other) = (PbcCircuit::new(1, 0)?, PbcCircuit::new(1, 0)?);
+/// let (z, y) = (circuit.single(0, Pauli::Z)?, other.single(0, Pauli::Y)?);
+/// let outcome = circuit.measure(z, None)?;
+/// assert_eq!((outcome.index(), outcome.to_string().as_str()), (0, "m0"));
+/// assert_eq!(other.conditional_pauli(y, outcome), Err(PbcError::UnknownMeasurement));
+/// # Ok::<(), PbcError>(())
+/// ```
 #[derive(Clone, Copy, Debug, PartialEq, Eq)]
 pub struct MeasId {
     pub(crate) owner: u64,
@@ -12,6 +22,7 @@ pub struct MeasId {
 }
 
 impl MeasId {
+    /// Its number among the measurements of its circuit.
     pub fn index(self) -> usize {
         self.index as usize
     }
@@ -24,14 +35,52 @@ impl fmt::Display for MeasId {
 }
 
 /// An operation. +1 yields 0 as a measurement's bit, -1 yields 1; a conditional rotation turns where its measurement gave 1.
+///
+/// ```
+/// use pbc::{Gate, PbcOp, to_pbc};
+/// let circuit = to_pbc(1, 1, &[Gate::H(0), Gate::T(0), Gate::Measure(0, 0)], None)?;
+/// for op in circuit.operations() {
+///     let axis = circuit.expand(op.axis().as_ref(), 100)?;
+///     match op {
+///         PbcOp::Rotate { angle, .. } => assert_eq!(format!("{angle} {axis}"), "pi/8 +X"),
+///         PbcOp::Measure { outcome, target, .. } => assert_eq!((outcome.index(), target), (0, Some(0))),
+///         _ => unreachable!("a conversion makes no other"),
+///     }
+/// }
+/// # Ok::<(), pbc::PbcError>(())
+/// ```
 #[derive(Clone, Copy, Debug, PartialEq, Eq)]
+#[non_exhaustive]
 pub enum PbcOp {
-    Rotate { axis: PauliAxis, angle: PauliAngle },
-    Measure { axis: PauliAxis, outcome: MeasId, target: Option<u32> },
-    ConditionalRotate { axis: PauliAxis, angle: PauliAngle, if_one: MeasId },
+    /// A rotation.
+    Rotate {
+        /// The axis.
+        axis: PauliAxis,
+        /// The angle.
+        angle: PauliAngle,
+    },
+    /// A measurement.
+    Measure {
+        /// The axis.
+        axis: PauliAxis,
+        /// The measurement.
+        outcome: MeasId,
+        /// The classical bit that it is written to.
+        target: Option<u32>,
+    },
+    /// A rotation where a measurement gave 1.
+    ConditionalRotate {
+        /// The axis.
+        axis: PauliAxis,
+        /// The angle.
+        angle: PauliAngle,
+        /// The measurement.
+        if_one: MeasId,
+    },
 }
 
 impl PbcOp {
+    /// The axis.
     pub fn axis(&self) -> PauliAxis {
         match *self {
             Self::Rotate { axis, .. } | Self::Measure { axis, .. } | Self::ConditionalRotate { axis, .. } => axis,
@@ -52,16 +101,25 @@ impl PbcOp {
 
 /// The kind of an operation's axis.
 #[derive(Clone, Copy, Debug, PartialEq, Eq)]
+#[non_exhaustive]
 pub enum AxisKind {
     /// A rotation by an odd multiple of π/8, conditional or not.
     Pi8,
     /// A rotation by a nonzero multiple of π/4, conditional or not.
     Clifford,
+    /// A measurement.
     Measurement,
 }
 
 impl AxisKind {
     /// The kind of `op`, or `None` for a rotation of angle 0.
+    ///
+    /// ```
+    /// use pbc::{AxisKind, Gate, to_pbc};
+    /// let circuit = to_pbc(1, 0, &[Gate::T(0)], None)?;
+    /// assert_eq!(circuit.operations().next().and_then(|op| AxisKind::of(&op)), Some(AxisKind::Pi8));
+    /// # Ok::<(), pbc::PbcError>(())
+    /// ```
     pub fn of(op: &PbcOp) -> Option<Self> {
         match op {
             PbcOp::Measure { .. } => Some(Self::Measurement),

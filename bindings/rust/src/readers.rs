@@ -5,15 +5,34 @@ use crate::error::PbcError;
 use crate::ffi::{self, Answer};
 use crate::letters::{Pauli, Phase};
 use crate::reference::{PauliAxis, PauliRef};
+use std::fmt;
 
 /// Three words a record; at most so many records count.
 const POOL_WORDS: usize = 3 * 65_536;
 
 /// The letters of an expression, by qubit, and the phase in front.
+///
+/// ```
+/// use pbc::{Pauli, PbcCircuit, Phase};
+/// let circuit = PbcCircuit::new(2, 0)?;
+/// let z = circuit.expand(circuit.output_frame().z(1), 100)?;
+/// assert_eq!((z.phase, z.factors.as_slice()), (Phase::One, &[Pauli::I, Pauli::Z][..]));
+/// assert_eq!(z.to_string(), "+IZ");
+/// # Ok::<(), pbc::PbcError>(())
+/// ```
 #[derive(Clone, Debug, PartialEq, Eq)]
 pub struct ExpandedPauli {
+    /// The phase.
     pub phase: Phase,
+    /// The letters, by qubit.
     pub factors: Vec<Pauli>,
+}
+
+impl fmt::Display for ExpandedPauli {
+    fn fmt(&self, f: &mut fmt::Formatter<'_>) -> fmt::Result {
+        write!(f, "{}", self.phase)?;
+        self.factors.iter().try_for_each(|factor| write!(f, "{factor}"))
+    }
 }
 
 /// Result of [`PbcCircuit::max_axis_weights`].
@@ -33,6 +52,20 @@ impl PbcCircuit {
     }
 
     /// The letters of one expression. The budget charges one cell a qubit plus the work of the expansion.
+    ///
+    /// ```
+    /// use pbc::{Pauli, PbcCircuit, PbcError};
+    /// let mut circuit = PbcCircuit::new(1, 0)?;
+    /// let (x, z) = (circuit.single(0, Pauli::X)?, circuit.single(0, Pauli::Z)?);
+    /// let product = circuit.product(x.as_ref(), z.as_ref())?;
+    /// assert_eq!(circuit.expand(product, 100)?.to_string(), "-iY");
+    /// assert_eq!(circuit.expand(product, 6), Err(PbcError::ExpansionLimit));
+    /// # Ok::<(), PbcError>(())
+    /// ```
+    ///
+    /// # Errors
+    ///
+    /// `ForeignPauli`, `ExpansionLimit`, `NoPool`.
     pub fn expand(&self, reference: PauliRef, max_cells: usize) -> Result<ExpandedPauli, PbcError> {
         let PauliRef { owner, word } = reference;
         let mut letters = vec![0; self.num_qubits()];
@@ -43,6 +76,20 @@ impl PbcCircuit {
     }
 
     /// The expression as an axis, if its sign is +1 or -1.
+    ///
+    /// ```
+    /// use pbc::{Pauli, PbcCircuit, PbcError, Phase};
+    /// let mut circuit = PbcCircuit::new(1, 0)?;
+    /// let (x, z) = (circuit.single(0, Pauli::X)?, circuit.single(0, Pauli::Z)?);
+    /// let product = circuit.product(x.as_ref(), z.as_ref())?;
+    /// assert_eq!(circuit.hermitian_axis(product, 100), Err(PbcError::NonHermitianAxis));
+    /// assert!(circuit.hermitian_axis(product.scaled(Phase::I), 100).is_ok());
+    /// # Ok::<(), PbcError>(())
+    /// ```
+    ///
+    /// # Errors
+    ///
+    /// `ForeignPauli`, `ExpansionLimit`, `NoPool`, `NonHermitianAxis`.
     pub fn hermitian_axis(&self, reference: PauliRef, max_cells: usize) -> Result<PauliAxis, PbcError> {
         let PauliRef { owner, word } = reference;
         self.walk(|scratch, pool| ffi::pbc_hermitian_axis(&self.header, &self.nodes, scratch, pool, owner, word, max_cells as u64))?;
@@ -50,6 +97,18 @@ impl PbcCircuit {
     }
 
     /// The largest axis weights: of non-Clifford rotations and measurements, and of Clifford rotations; 0 where there are none.
+    ///
+    /// ```
+    /// use pbc::{Gate, to_pbc};
+    /// let circuit = to_pbc(3, 0, &[Gate::Ccx(0, 1, 2)], None)?;
+    /// let weights = circuit.max_axis_weights(100)?;
+    /// assert_eq!((weights.non_clifford, weights.clifford), (3, 0));
+    /// # Ok::<(), pbc::PbcError>(())
+    /// ```
+    ///
+    /// # Errors
+    ///
+    /// `ExpansionLimit`, `NoPool`.
     pub fn max_axis_weights(&self, max_work: usize) -> Result<MaxAxisWeights, PbcError> {
         let answer = self
             .walk(|scratch, pool| ffi::pbc_max_axis_weights(&self.header, &self.nodes, &self.operations, scratch, pool, max_work as u64))?;

@@ -4,6 +4,15 @@ use crate::letters::{Pauli, Phase};
 
 /// A reference to a node of one circuit, with a phase in front. Equality is structural, not algebraic.
 /// References of different circuits cannot be mixed.
+///
+/// ```
+/// use pbc::{Pauli, PbcCircuit, PbcError, Phase};
+/// let (mut circuit, other) = (PbcCircuit::new(1, 0)?, PbcCircuit::new(1, 0)?);
+/// let y = circuit.single(0, Pauli::Y)?.as_ref();
+/// assert_eq!((y.node_index(), y.scaled(Phase::I).phase()), (3, Phase::I));
+/// assert_eq!(other.expand(y, 100), Err(PbcError::ForeignPauli));
+/// # Ok::<(), PbcError>(())
+/// ```
 #[derive(Clone, Copy, Debug, PartialEq, Eq)]
 pub struct PauliRef {
     pub(crate) owner: u64,
@@ -11,10 +20,12 @@ pub struct PauliRef {
 }
 
 impl PauliRef {
+    /// The node's place among [`PbcCircuit::pauli_nodes`](crate::PbcCircuit::pauli_nodes).
     pub fn node_index(self) -> usize {
         self.word as usize / 4
     }
 
+    /// The phase in front.
     pub fn phase(self) -> Phase {
         Phase::power(self.word)
     }
@@ -26,7 +37,16 @@ impl PauliRef {
     }
 }
 
-/// A reference known to have the sign +1 or -1.
+/// A reference known to have the sign +1 or -1: what rotations and measurements take.
+/// [`PbcCircuit::hermitian_axis`](crate::PbcCircuit::hermitian_axis) makes one of a product.
+///
+/// ```
+/// use pbc::{Pauli, PbcCircuit};
+/// let mut circuit = PbcCircuit::new(1, 0)?;
+/// let axis = circuit.single(0, Pauli::Y)?.negated();
+/// assert_eq!(circuit.expand(axis.as_ref(), 100)?.to_string(), "-Y");
+/// # Ok::<(), pbc::PbcError>(())
+/// ```
 #[derive(Clone, Copy, Debug, PartialEq, Eq)]
 pub struct PauliAxis(pub(crate) PauliRef);
 
@@ -37,16 +57,34 @@ impl PauliAxis {
         self.0
     }
 
+    /// The axis with the other sign.
     pub fn negated(self) -> Self {
         Self(self.0.scaled(Phase::MinusOne))
     }
 }
 
 /// A node. Products are ordered and refer to older nodes only.
+///
+/// ```
+/// use pbc::{Pauli, PauliNode, PbcCircuit};
+/// let circuit = PbcCircuit::new(1, 0)?;
+/// let nodes: Vec<_> = circuit.pauli_nodes().collect();
+/// assert_eq!(nodes[..2], [PauliNode::Identity, PauliNode::Single { qubit: 0, pauli: Pauli::X }]);
+/// # Ok::<(), pbc::PbcError>(())
+/// ```
 #[derive(Clone, Copy, Debug, PartialEq, Eq)]
+#[non_exhaustive]
 pub enum PauliNode {
+    /// The identity, node 0.
     Identity,
-    Single { qubit: u32, pauli: Pauli },
+    /// A letter on a qubit.
+    Single {
+        /// The qubit.
+        qubit: u32,
+        /// The letter.
+        pauli: Pauli,
+    },
+    /// The left reference times the right one.
     Product(PauliRef, PauliRef),
 }
 

@@ -45,6 +45,12 @@ fn a_cap_writes_pending_gates_first() {
 }
 
 #[test]
+fn a_cap_holds_for_odd_angles_and_measurements_alone() {
+    let weights = to_pbc(2, 0, &[Cnot(0, 1), T(1)], cap(1)).unwrap().max_axis_weights(100).unwrap();
+    assert_eq!((weights.non_clifford, weights.clifford), (1, 2));
+}
+
+#[test]
 fn ccx_is_seven_rotations() {
     let circuit = to_pbc(3, 0, &[Ccx(0, 1, 2)], None).unwrap();
     assert_eq!(circuit.pauli_nodes().len(), 11);

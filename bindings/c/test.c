@@ -1,0 +1,233 @@
+/* Tests of what pbc.h says beside the calls' own answers: sizes that suffice, names, null pointers, targets past 32 bits, caps, threads.
+ * Exits with 1 at the first call that answers something else than expected. */
+#include "pbc.h"
+
+#include <pthread.h>
+#include <stdio.h>
+#include <stdlib.h>
+#include <string.h>
+
+enum { OWNER = 7, QUBITS = 5, GATES = 60, MOST = PBC_NODES_FOR(QUBITS, GATES), THREADS = 4 };
+
+static uint32_t gates[PBC_GATE_WORDS * GATES], frame[PBC_FRAME_WORDS(QUBITS)];
+static uint32_t nodes[PBC_NODES_WORDS(MOST)], operations[PBC_OPERATIONS_WORDS(PBC_OPERATIONS_FOR(GATES))];
+static uint32_t scratch[PBC_SCRATCH_WORDS(MOST)], pool[PBC_POOL_WORDS(PBC_RECORDS_FOR(QUBITS, MOST))];
+static uint64_t planes[PBC_PLANE_WORDS(QUBITS)], header[PBC_HEADER_WORDS], answer[PBC_ANSWER_WORDS];
+
+#define LENGTH(words) (sizeof(words) / sizeof *(words))
+#define LENT(words) (words), LENGTH(words)
+#define NONE NULL, 0
+
+static void expect(const char *what, uint64_t got, uint64_t wanted)
+{
+    if (got != wanted) {
+        fprintf(stderr, "%s: %llu (%s), expected %llu\n", what, (unsigned long long)got, pbc_refusal_name((uint32_t)got),
+                (unsigned long long)wanted);
+        exit(1);
+    }
+}
+
+static uint32_t seed = 1;
+
+static uint32_t below(uint32_t most)
+{
+    seed = seed * 1664525 + 1013904223;
+    return (seed >> 8) % most;
+}
+
+/* A gate of a kind on different qubits, into bit 0. */
+static void put_gate(uint32_t *gate, uint32_t kind)
+{
+    uint32_t a = below(QUBITS), b = (a + 1 + below(QUBITS - 1)) % QUBITS, c = a;
+    while (c == a || c == b)
+        c = below(QUBITS);
+    int two = kind == PBC_GATE_CNOT || kind == PBC_GATE_CZ || kind == PBC_GATE_SWAP || kind == PBC_GATE_CY;
+    int three = kind == PBC_GATE_CCX || kind == PBC_GATE_CCZ;
+    gate[0] = kind;
+    gate[1] = a;
+    gate[2] = two || three ? b : 0;
+    gate[3] = three ? c : 0;
+}
+
+static const uint32_t kinds[] = {PBC_GATE_H,  PBC_GATE_X,   PBC_GATE_Z,   PBC_GATE_S,       PBC_GATE_SDG, PBC_GATE_T,  PBC_GATE_TDG,  PBC_GATE_CNOT,
+                                 PBC_GATE_CZ, PBC_GATE_CCX, PBC_GATE_CCZ, PBC_GATE_MEASURE, PBC_GATE_Y,   PBC_GATE_SX, PBC_GATE_SWAP, PBC_GATE_CY};
+
+static uint32_t convert(uint64_t cap, size_t count)
+{
+    return pbc_convert(QUBITS, 1, OWNER, cap, gates, PBC_GATE_WORDS * count, LENT(nodes), LENT(operations), LENT(frame), LENT(planes), LENT(header),
+                       LENT(answer));
+}
+
+static uint32_t weights(void)
+{
+    return pbc_max_axis_weights(header, LENGTH(header), nodes, LENGTH(nodes), operations, LENGTH(operations), LENT(scratch), LENT(pool), UINT64_MAX,
+                                LENT(answer));
+}
+
+/* Random lists, and lists of one kind before measurements, which have it flushed under a cap of 1. */
+static void sizes_suffice(void)
+{
+    static const uint64_t caps[] = {PBC_NO_CAP, 3, 4};
+    for (int round = 0; round < 300; round++) {
+        for (size_t i = 0; i < GATES; i++)
+            put_gate(gates + PBC_GATE_WORDS * i, kinds[below(LENGTH(kinds))]);
+        for (size_t c = 0; c < LENGTH(caps); c++) {
+            expect("convert", convert(caps[c], GATES), PBC_ACCEPTED);
+            expect("weights", weights(), PBC_ACCEPTED);
+        }
+    }
+    for (size_t k = 0; k < LENGTH(kinds); k++) {
+        for (size_t i = 0; i < GATES; i++)
+            put_gate(gates + PBC_GATE_WORDS * i, i % 4 == 3 ? (uint32_t)PBC_GATE_MEASURE : kinds[k]);
+        int doubly = kinds[k] == PBC_GATE_CCX || kinds[k] == PBC_GATE_CCZ;
+        expect("convert", convert(doubly ? 3 : 1, GATES), PBC_ACCEPTED);
+        expect("weights", weights(), PBC_ACCEPTED);
+    }
+    expect("nodes of swaps", PBC_NODES_FOR(2, 10), 1 + 2 * 2 + 90);
+    expect("the most nodes", PBC_NODES_FOR(256, 65536), PBC_MAX_NODES);
+    expect("the most operations", PBC_OPERATIONS_FOR(65536), PBC_MAX_OPERATIONS);
+    expect("the most records", PBC_RECORDS_FOR(256, 65536), PBC_MAX_RECORDS);
+    expect("planes of no qubit", PBC_PLANE_WORDS(0), 0);
+    expect("planes of 64 qubits", PBC_PLANE_WORDS(64), 4 * 64);
+    expect("planes of 65 qubits", PBC_PLANE_WORDS(65), 4 * 65 * 2);
+}
+
+/* A word less than the planes need is refused; so is a node or an operation less than a list of one swap, flushed, needs. */
+static void less_does_not_suffice(void)
+{
+    static const uint32_t list[] = {PBC_GATE_SWAP, 0, 1, 0, PBC_GATE_CNOT, 0, 1, 0, PBC_GATE_MEASURE, 1, 0, 0};
+    size_t lent = 1 + 2 * 2 + 9 + 3, written = 9 + 3 + 1;
+    for (int less = 0; less < 4; less++) {
+        uint32_t wanted = less == 1 ? PBC_NO_PLANES : less == 2 ? PBC_NO_NODES : less == 3 ? PBC_NO_OPERATIONS : PBC_ACCEPTED;
+        expect("a swap flushed",
+               pbc_convert(2, 1, OWNER, 1, list, LENGTH(list), nodes, PBC_NODES_WORDS(lent) - (less == 2), operations,
+                           PBC_OPERATIONS_WORDS(written) - (less == 3), LENT(frame), planes, PBC_PLANE_WORDS(2) - (less == 1), LENT(header),
+                           LENT(answer)),
+               wanted);
+    }
+}
+
+/* At a cap of 1, cnot 0 1 and t 1 write a Clifford rotation of weight 2. */
+static void caps_hold_for_odd_angles(void)
+{
+    static const uint32_t list[] = {PBC_GATE_CNOT, 0, 1, 0, PBC_GATE_T, 1, 0, 0};
+    memcpy(gates, list, sizeof list);
+    expect("convert", convert(1, 2), PBC_ACCEPTED);
+    expect("weights", weights(), PBC_ACCEPTED);
+    expect("non-Clifford", answer[0], 1);
+    expect("Clifford", answer[1], 2);
+}
+
+static void new_circuit(uint32_t qubits, uint32_t cbits)
+{
+    expect("new", pbc_new(qubits, cbits, OWNER, LENT(nodes), LENT(frame), LENT(header), LENT(answer)), PBC_ACCEPTED);
+}
+
+static void targets_past_32_bits(void)
+{
+    static const uint64_t targets[] = {UINT64_C(4294967297), UINT64_C(1) << 33, UINT64_MAX};
+    new_circuit(1, PBC_MAX_CBITS);
+    for (size_t i = 0; i < LENGTH(targets); i++) {
+        expect("measure", pbc_measure(LENT(header), LENT(operations), OWNER, 4, targets[i], LENT(answer)), PBC_CLASSICAL_BIT_OUT_OF_RANGE);
+        expect("its bit", answer[1], UINT64_C(4294967295));
+    }
+    expect("measure", pbc_measure(LENT(header), LENT(operations), OWNER, 4, UINT64_C(4294967296), LENT(answer)), PBC_CLASSICAL_BIT_OUT_OF_RANGE);
+    expect("its bit", answer[1], UINT64_C(4294967295));
+    expect("measure", pbc_measure(LENT(header), LENT(operations), OWNER, 4, PBC_MAX_CBITS, LENT(answer)), PBC_ACCEPTED);
+    expect("measure", pbc_measure(LENT(header), LENT(operations), OWNER, 4, PBC_NO_TARGET, LENT(answer)), PBC_ACCEPTED);
+    expect("its number", answer[0], 1);
+}
+
+/* Null slices, alone and together, are answered as empty ones. */
+static void null_is_empty(void)
+{
+    expect("new", pbc_new(1, 0, OWNER, NONE, NONE, NONE, NONE), PBC_TOO_SHORT);
+    expect("new", pbc_new(1, 0, OWNER, NONE, LENT(frame), LENT(header), LENT(answer)), PBC_NO_NODES);
+    expect("new", pbc_new(1, 0, OWNER, LENT(nodes), NONE, LENT(header), LENT(answer)), PBC_NO_FRAME);
+    expect("new", pbc_new(0, 0, OWNER, LENT(nodes), NONE, LENT(header), LENT(answer)), PBC_ACCEPTED);
+    expect("convert", pbc_convert(1, 0, OWNER, 3, NONE, NONE, NONE, NONE, NONE, NONE, NONE), PBC_TOO_SHORT);
+    expect("convert", pbc_convert(1, 0, OWNER, 3, NONE, NONE, NONE, NONE, NONE, LENT(header), LENT(answer)), PBC_NO_PLANES);
+    expect("convert", pbc_convert(1, 0, OWNER, PBC_NO_CAP, NONE, NONE, NONE, NONE, NONE, LENT(header), LENT(answer)), PBC_NO_FRAME);
+    expect("convert", pbc_convert(1, 0, OWNER, PBC_NO_CAP, NONE, NONE, NONE, LENT(frame), NONE, LENT(header), LENT(answer)), PBC_NO_NODES);
+    expect("convert", pbc_convert(0, 0, OWNER, 3, NONE, LENT(nodes), NONE, NONE, NONE, LENT(header), LENT(answer)), PBC_ACCEPTED);
+    expect("expand", pbc_expand(header, LENGTH(header), nodes, LENGTH(nodes), NONE, LENT(scratch), NONE, OWNER, 0, 100, LENT(answer)),
+           PBC_ACCEPTED);
+    expect("convert", pbc_convert(1, 0, OWNER, PBC_NO_CAP, NONE, LENT(nodes), NONE, LENT(frame), NONE, LENT(header), LENT(answer)), PBC_ACCEPTED);
+    expect("weights", pbc_max_axis_weights(header, LENGTH(header), nodes, LENGTH(nodes), NONE, LENT(scratch), NONE, 100, LENT(answer)),
+           PBC_ACCEPTED);
+    expect("weights", pbc_max_axis_weights(NONE, NONE, NONE, NONE, NONE, 100, LENT(answer)), PBC_TOO_SHORT);
+    expect("expand", pbc_expand(header, LENGTH(header), NONE, NONE, NONE, NONE, OWNER, 4, 100, LENT(answer)), PBC_BAD_STORE);
+    expect("expand", pbc_expand(header, LENGTH(header), nodes, LENGTH(nodes), NONE, NONE, NONE, OWNER, 4, 100, LENT(answer)), PBC_NO_SCRATCH);
+    uint8_t letter;
+    expect("expand", pbc_expand(header, LENGTH(header), nodes, LENGTH(nodes), &letter, 1, LENT(scratch), NONE, OWNER, 4, 100, LENT(answer)),
+           PBC_NO_POOL);
+    expect("axis", pbc_hermitian_axis(header, LENGTH(header), nodes, LENGTH(nodes), NONE, NONE, OWNER, 4, 100, LENT(answer)), PBC_NO_SCRATCH);
+    expect("single", pbc_single(LENT(header), NONE, 0, PBC_PAULI_Y, LENT(answer)), PBC_BAD_STORE);
+    expect("product", pbc_product(LENT(header), NONE, OWNER, 4, OWNER, 8, LENT(answer)), PBC_BAD_STORE);
+    expect("rotate", pbc_rotate(LENT(header), NONE, OWNER, 4, 1, LENT(answer)), PBC_NO_OPERATIONS);
+    expect("measure", pbc_measure(LENT(header), NONE, OWNER, 4, PBC_NO_TARGET, LENT(answer)), PBC_NO_OPERATIONS);
+    expect("conditional", pbc_conditional_rotate(LENT(header), NONE, OWNER, 4, 1, OWNER, 0, LENT(answer)), PBC_UNKNOWN_MEASUREMENT);
+    expect("frame gate", pbc_push_output_clifford(LENT(header), LENT(nodes), NONE, PBC_GATE_H, 0, 0, LENT(answer)), PBC_NO_FRAME);
+    expect("frame gate", pbc_push_output_clifford(LENT(header), NONE, NONE, PBC_GATE_H, 0, 0, LENT(answer)), PBC_BAD_STORE);
+}
+
+static void names(void)
+{
+    static const char *const some[] = {"Accepted", "TooManyQubits", "BrokenGateList"};
+    for (uint32_t number = 0; number < LENGTH(some); number++)
+        expect("name", (uint64_t)strcmp(pbc_refusal_name(number), some[number]), 0);
+    expect("the last name", (uint64_t)strcmp(pbc_refusal_name(PBC_NON_HERMITIAN_AXIS), "NonHermitianAxis"), 0);
+    expect("too short", (uint64_t)strcmp(pbc_refusal_name(PBC_TOO_SHORT), "TooShort"), 0);
+    expect("unknown", (uint64_t)strcmp(pbc_refusal_name(20), "Unknown"), 0);
+    expect("i", pbc_times(PBC_PAULI_X, PBC_PAULI_Y), 4 * PBC_PHASE_I + PBC_PAULI_Z);
+    expect("-i", pbc_times(PBC_PAULI_Y, PBC_PAULI_X), 4 * PBC_PHASE_MINUS_I + PBC_PAULI_Z);
+}
+
+/* The letters of every axis, with words of this thread's own. */
+static void *read_all(void *from)
+{
+    uint64_t *sum = from, mine[PBC_ANSWER_WORDS];
+    uint32_t *walk = calloc(LENGTH(scratch) + LENGTH(pool), sizeof *walk);
+    for (int round = 0; round < 20; round++)
+        for (uint64_t i = 0; i < header[PBC_OPERATIONS]; i++) {
+            uint8_t letters[QUBITS];
+            uint32_t word = operations[PBC_OPERATION_WORDS * i + 1];
+            expect("expand",
+                   pbc_expand(header, LENGTH(header), nodes, LENGTH(nodes), LENT(letters), walk, LENGTH(scratch), walk + LENGTH(scratch),
+                              LENGTH(pool), OWNER, word, UINT64_MAX, LENT(mine)),
+                   PBC_ACCEPTED);
+            for (size_t q = 0; q < QUBITS; q++)
+                *sum = *sum * 31 + letters[q];
+            *sum = *sum * 31 + mine[0];
+        }
+    free(walk);
+    return NULL;
+}
+
+static void threads_read_one_circuit(void)
+{
+    pthread_t thread[THREADS];
+    uint64_t sum[THREADS + 1] = {0};
+    for (size_t i = 0; i < GATES; i++)
+        put_gate(gates + PBC_GATE_WORDS * i, kinds[below(LENGTH(kinds))]);
+    expect("convert", convert(PBC_NO_CAP, GATES), PBC_ACCEPTED);
+    read_all(&sum[THREADS]);
+    for (int i = 0; i < THREADS; i++)
+        expect("thread", (uint64_t)pthread_create(&thread[i], NULL, read_all, &sum[i]), 0);
+    for (int i = 0; i < THREADS; i++)
+        pthread_join(thread[i], NULL);
+    for (int i = 0; i < THREADS; i++)
+        expect("letters", sum[i], sum[THREADS]);
+}
+
+int main(void)
+{
+    sizes_suffice();
+    less_does_not_suffice();
+    caps_hold_for_odd_angles();
+    targets_past_32_bits();
+    null_is_empty();
+    names();
+    threads_read_one_circuit();
+    return 0;
+}
