@@ -84,16 +84,16 @@ fn check_record(
     )
 }
 
-// Whether a record passes its checks: known at once, with no branch that a processor has to guess.
+// Whether a record passes its checks: known at once, with no branch that a processor has to guess. The shape is a number here, read from a
+// table: told apart by `has_shape`, the compiler makes a jump of it.
 fn is_sound(n: u32, cbits: u32, number: u32, a: u32, b: u32, c: u32) -> bool
     ensures { λ r. ⌜ (r ≡ true → ((checked : Checked) (i : ℕ) → recordChecked checked n cbits i (recordOf number a b c) ≡ checked)) ⌝ }
 {
-    let kind = GateKind::of(number);
-    let three = kind.has_shape(Shape::Three);
-    let first = !kind.has_shape(Shape::None) & (a < n);
-    let second = ((b < n) & !(b == a)) | !(kind.has_shape(Shape::Two) | three);
-    let third = ((c < n) & (!(c == a) & !(c == b))) | !three;
-    let target = (b < cbits) | !kind.has_shape(Shape::Measured);
+    let shape = GateKind::of(number).shape().number();
+    let first = !(shape == 0) & (a < n);
+    let second = ((b < n) & !(b == a)) | !((shape == 2) | (shape == 3));
+    let third = ((c < n) & (!(c == a) & !(c == b))) | !(shape == 3);
+    let target = (b < cbits) | !(shape == 4);
     (first & second) & (third & target)
 }
 
