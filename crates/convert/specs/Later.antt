@@ -1,7 +1,10 @@
 -- The later calls on a converted circuit, run by the definitions that the contracts cite, and the gates that they feed to the plain table.
+use mathlib.Core.Path.{_≡_}
 use mathlib.Core.List.{List, [], _∷_, _++_}
-use Prim.Native.Nat.{ℕ}
+use Prim.Native.Nat.{ℕ, _*_}
+use lib.ListN.{take}
 use Rattle.pauli.specs.Gates.{Gate}
+use Rattle.arena.specs.Limits.{operationWords}
 use Rattle.arena.specs.Builder.{singleStep, productStep, rotateStep, measureStep, conditionalStep}
 use Rattle.convert.specs.Types.{Pauli, PauliAngle, Header, PauliRef, PauliAxis, MeasId, Target, SingledMade, SingledRefused, MultipliedMade, MultipliedRefused}
 use Rattle.convert.specs.Types.{PushedMade, PushedRefused, MeasuredMade, MeasuredRefused}
@@ -84,3 +87,23 @@ gatesOf (lendOperations words) s = []
 unfoldable pub fed : List LaterCall → Circuit → List Gate
 fed [] s = []
 fed (c ∷ cs) s = gatesOf c s ++ fed cs (later c s)
+
+-- ---- the operations in use are carried along
+
+-- other operation words that a caller goes on with hold those in use
+abbrev pub Carried : LaterCall → Circuit → Type 0
+Carried (callFrame k a b) s = Unit {0}
+Carried (callSingle q a) s = Unit {0}
+Carried (callProduct l r) s = Unit {0}
+Carried (callRotate x k) s = Unit {0}
+Carried (callMeasure x t) s = Unit {0}
+Carried (callConditional x k m) s = Unit {0}
+Carried (callExpand letters scratch pool r cells) s = Unit {0}
+Carried (callHermitian scratch pool r limit) s = Unit {0}
+Carried (callWeights scratch pool limit) s = Unit {0}
+Carried (lendOperations words) s =
+    take (operationWords * s .header .operations) words ≡ take (operationWords * s .header .operations) (s .operations)
+
+unfoldable pub AllCarried : List LaterCall → Circuit → Type 0
+AllCarried [] s = Unit {0}
+AllCarried (c ∷ cs) s = Carried c s × AllCarried cs (later c s)
