@@ -1,6 +1,9 @@
 //! The library and the Rust in one process, on the same inputs, both optimised. Prints for each workload both times, their ratio, and the time per
 //! gate as the work doubles; at the end, for each kind of workload, how many meet the ratio that it is to have, and the worst. The library's
 //! buffers are made before timing and not cleared between runs; the Rust makes its own at each call, and dropping them is not timed.
+//! The Rust is timed twice: with the C library's allocator as it is, which gives pages back and asks for them again, and at the end of all with
+//! one that keeps them (`warm`). `crate` is the time of `to_pbc` of bindings/rust, which owns its buffers, as the Rust does; `copies` says
+//! how many times as long as one copy of the words written a conversion takes.
 //! A report or expansion clears the scratch and the pool that it is lent. It is lent what a caller who keeps buffers would have after growing
 //! them as they are needed: four words of scratch a used node, and the least power of two of records, from 1,024 on, with which all calls are accepted.
 //! usage: bench FOLDER [WORD]   (the adders' folder; only workloads are run whose names, as printed, contain the word)
@@ -22,7 +25,7 @@ use circuit::Circuit;
 use generate::Random;
 use pbc::{PbcCircuit, to_pbc};
 use std::hint::black_box;
-use std::num::NonZeroUsize;
+use std::num::{NonZeroU32, NonZeroUsize};
 use std::time::{Duration, Instant};
 
 #[link(name = "exports", kind = "static")]
@@ -41,6 +44,21 @@ unsafe extern "C" {
         header: *mut u64, header_len: usize, nodes: *const u32, nodes_len: usize, operations: *const u32, operations_len: usize,
         scratch: *mut u32, scratch_len: usize, pool: *mut u32, pool_len: usize, limit: u64, answer: *mut u64, answer_len: usize,
     ) -> u32;
+}
+
+// The C library's: how its allocator behaves.
+unsafe extern "C" {
+    fn mallopt(what: i32, value: i32) -> i32;
+}
+
+/// From here on the allocator keeps what it was given.
+fn keep_pages() {
+    const TRIM_THRESHOLD: i32 = -1;
+    const TOP_PAD: i32 = -2;
+    const MMAP_MAX: i32 = -4;
+    unsafe {
+        assert!(mallopt(TRIM_THRESHOLD, i32::MAX) == 1 && mallopt(TOP_PAD, 1 << 26) == 1 && mallopt(MMAP_MAX, 0) == 1);
+    }
 }
 
 struct Buffers {
@@ -125,6 +143,8 @@ impl Buffers {
 
 struct Workload {
     family: &'static str,
+    /// The name without the size that doubles.
+    form: String,
     name: String,
     qubits: u32,
     cbits: u32,
@@ -137,28 +157,19 @@ impl Workload {
         self.words.len() / 4
     }
 
-    fn named(&self, what: &str) -> String {
+    fn named(&self, what: What) -> String {
         let cap = self.cap.map_or("none".into(), |c| c.to_string());
-        format!("{what} {} cap {cap}", self.name)
-    }
-
-    /// Its kind, and the ratio that it is to meet; none for expansions.
-    fn bar(&self, what: &str) -> Option<(String, f64)> {
-        match (what, self.cap) {
-            ("convert", None) => Some((format!("conversion without a cap, {}", self.family), 0.5)),
-            ("convert", Some(_)) => Some((format!("conversion with a cap, {}", self.family), 0.7)),
-            ("report", _) => Some(("report".into(), 0.5)),
-            _ => None,
-        }
+        format!("{} {} cap {cap}", what.name(), self.name)
     }
 }
 
 /// A line of the command pbc as a workload.
-fn line(name: &str, text: &str, cap: Option<u32>) -> Workload {
+fn line(form: &str, size: u32, text: &str, cap: Option<u32>) -> Workload {
     let numbers: Vec<i64> = text.split_whitespace().skip(1).map(|t| t.parse().unwrap()).collect();
     Workload {
         family: "adders",
-        name: name.into(),
+        form: form.into(),
+        name: format!("{form} adder {size}"),
         qubits: numbers[0] as u32,
         cbits: numbers[1] as u32,
         cap,
@@ -186,7 +197,8 @@ fn random(qubits: u32, gates: usize, cap: Option<u32>) -> Workload {
             _ => [12, a, 0, 0],
         });
     }
-    Workload { family: "random circuits", name: format!("random {qubits} qubits {gates} gates"), qubits, cbits: 1, cap, words }
+    let form = format!("random {qubits} qubits");
+    Workload { family: "random circuits", name: format!("{form} {gates} gates"), form, qubits, cbits: 1, cap, words }
 }
 
 /// The least of the times of some runs, after one that is not counted.
@@ -206,13 +218,38 @@ fn timed<T>(f: impl FnOnce() -> T) -> (Duration, T) {
     (begun.elapsed(), x)
 }
 
-/// The workloads of one kind that were run.
-struct Kind {
-    name: String,
-    bar: f64,
-    run: usize,
-    met: usize,
-    worst: (f64, String),
+#[derive(Clone, Copy, PartialEq)]
+enum What {
+    Convert,
+    Report,
+    Expand,
+}
+
+impl What {
+    fn name(self) -> &'static str {
+        match self {
+            What::Convert => "convert",
+            What::Report => "report",
+            What::Expand => "expand",
+        }
+    }
+}
+
+/// A workload to be run; a reader's pool is one with which every axis can be expanded too, where `axes` says so.
+struct Job {
+    what: What,
+    axes: bool,
+    workload: Workload,
+}
+
+/// What was measured of a job, in seconds.
+struct Row {
+    ours: f64,
+    rust: f64,
+    warm: f64,
+    bound: Option<f64>,
+    copy: Option<f64>,
+    note: String,
 }
 
 fn rust_circuit(w: &Workload) -> (Circuit, Option<NonZeroUsize>) {
@@ -225,7 +262,7 @@ fn rust_circuit(w: &Workload) -> (Circuit, Option<NonZeroUsize>) {
 fn agree(b: &mut Buffers, w: &Workload) -> bool {
     let number = b.convert(w);
     if number != 0 {
-        println!("{:46} skipped: refused with {number}", w.named("convert"));
+        println!("{:46} skipped: refused with {number}", w.named(What::Convert));
         return false;
     }
     let (c, cap) = rust_circuit(w);
@@ -242,126 +279,208 @@ fn agree(b: &mut Buffers, w: &Workload) -> bool {
     true
 }
 
-struct Bench {
-    buffers: Buffers,
-    word: String,
-    run: usize,
-    kinds: Vec<Kind>,
+/// One copy of the words that the conversion wrote.
+fn copied(b: &Buffers) -> f64 {
+    let [n, _, _, nodes, operations, _] = b.header.map(|x| x as usize);
+    let words: Vec<u32> = [&b.nodes[..2 * nodes], &b.operations[..4 * operations], &b.frame[..2 * n]].concat();
+    let mut to = vec![0u32; words.len()];
+    best(|| timed(|| black_box(&mut to).copy_from_slice(black_box(&words))).0)
 }
 
-impl Bench {
-    fn wanted(&self, what: &str, w: &Workload) -> bool {
-        w.named(what).contains(&self.word)
+fn bound_gates(w: &Workload) -> Vec<bound::Gate> {
+    use bound::Gate::*;
+    w.words
+        .chunks(4)
+        .map(|g| match g[0] {
+            0 => H(g[1]),
+            1 => X(g[1]),
+            2 => Z(g[1]),
+            3 => S(g[1]),
+            4 => Sdg(g[1]),
+            5 => T(g[1]),
+            6 => Tdg(g[1]),
+            8 => Cnot(g[1], g[2]),
+            9 => Cz(g[1], g[2]),
+            10 => Ccx(g[1], g[2], g[3]),
+            _ => Measure(g[1], g[2]),
+        })
+        .collect()
+}
+
+impl Job {
+    fn name(&self) -> String {
+        self.workload.named(self.what)
     }
 
-    /// Prints a workload's line and counts it; `note` comes last.
-    fn print(&mut self, what: &str, w: &Workload, ours: f64, rust: f64, note: &str) {
-        let (name, ratio) = (w.named(what), ours / rust);
-        println!(
-            "{name:46} ours {:10.1} us  rust {:10.1} us  ratio {ratio:6.3}  {:7.1} ns a gate  {note}",
-            ours * 1e6, rust * 1e6, ours * 1e9 / w.gates().max(1) as f64
-        );
-        self.run += 1;
-        let Some((kind, bar)) = w.bar(what) else { return };
-        let place = self.kinds.iter().position(|k| k.name == kind).unwrap_or_else(|| {
-            self.kinds.push(Kind { name: kind, bar, run: 0, met: 0, worst: (0.0, String::new()) });
-            self.kinds.len() - 1
-        });
-        let kind = &mut self.kinds[place];
-        kind.run += 1;
-        kind.met += usize::from(ratio <= bar);
-        if ratio > kind.worst.0 {
-            kind.worst = (ratio, name);
+    /// Its kind, and the ratio that it is to meet; none for expansions.
+    fn bar(&self) -> (String, Option<f64>) {
+        match (self.what, self.workload.cap) {
+            (What::Convert, None) => (format!("conversion without a cap, {}", self.workload.family), Some(0.5)),
+            (What::Convert, Some(_)) => (format!("conversion with a cap, {}", self.workload.family), Some(0.7)),
+            (What::Report, _) => ("report".into(), Some(0.5)),
+            (What::Expand, _) => ("all axes, one by one".into(), None),
         }
     }
 
-    fn conversions(&mut self, list: &[Workload]) {
-        let mut last = None;
-        for w in list {
-            if !self.wanted("convert", w) || !agree(&mut self.buffers, w) {
-                continue;
-            }
-            let b = &mut self.buffers;
-            let ours = best(|| timed(|| black_box(b.convert(black_box(w)))).0);
-            let (c, cap) = rust_circuit(w);
-            let rust = best(|| timed(|| black_box(to_pbc(black_box(&c), cap).unwrap())).0);
-            let growth = match last {
-                Some((g, t)) => format!("growth {:.2}", ours / t * (2 * g) as f64 / w.gates() as f64),
-                None => String::new(),
-            };
-            last = Some((w.gates(), ours));
-            self.print("convert", w, ours, rust, &growth);
+    /// The Rust's time, with the allocator as it is now.
+    fn rust(&self) -> f64 {
+        let (c, cap) = rust_circuit(&self.workload);
+        if self.what == What::Convert {
+            return best(|| timed(|| black_box(to_pbc(black_box(&c), cap).unwrap())).0);
         }
-    }
-
-    /// The report of a workload's circuit, and where `expand` says so its axes one by one.
-    fn readers(&mut self, w: &Workload, expand: bool) {
-        let (report, axes) = (self.wanted("report", w), expand && self.wanted("expand", w));
-        if !(report || axes) || !agree(&mut self.buffers, w) {
-            return;
-        }
-        let (c, cap) = rust_circuit(w);
         let circuit = to_pbc(&c, cap).unwrap();
-        let pool = format!("pool {} records", self.buffers.fit(expand));
-        if report {
-            self.report(w, &circuit, &pool);
+        if self.what == What::Report {
+            return best(|| timed(|| black_box(circuit.max_axis_weights(usize::MAX).unwrap())).0);
         }
-        if axes {
-            self.expansions(w, &circuit, &pool);
-        }
-    }
-
-    fn report(&mut self, w: &Workload, circuit: &PbcCircuit, pool: &str) {
-        let b = &mut self.buffers;
-        assert!(b.report() == 0);
-        let m = circuit.max_axis_weights(usize::MAX).unwrap();
-        assert!(b.answer[0] == m.non_clifford as u64 && b.answer[1] == m.clifford as u64);
-        let ours = best(|| timed(|| black_box(b.report())).0);
-        let rust = best(|| timed(|| black_box(circuit.max_axis_weights(usize::MAX).unwrap())).0);
-        self.print("report", w, ours, rust, pool);
-    }
-
-    fn expansions(&mut self, w: &Workload, circuit: &PbcCircuit, pool: &str) {
-        let b = &mut self.buffers;
-        let ours = best(|| timed(|| black_box(b.expand_all())).0);
         let axes = circuit.axes();
-        let rust = best(|| timed(|| axes.iter().map(|&a| circuit.expand(a, usize::MAX).unwrap().factors.len()).sum::<usize>()).0);
-        self.print("expand", w, ours, rust, pool);
+        best(|| timed(|| axes.iter().map(|&a| circuit.expand(a, usize::MAX).unwrap().factors.len()).sum::<usize>()).0)
     }
 
-    fn summary(&self) {
-        assert!(self.run > 0, "no workload's name contains {:?}", self.word);
-        println!();
-        for Kind { name, bar, run, met, worst: (ratio, of) } in &self.kinds {
-            println!("{name}: {met} of {run} have a ratio of at most {bar}, the worst {ratio:.3} ({of})");
+    /// The crate's conversion, which owns what it makes.
+    fn bound(&self) -> f64 {
+        let (w, gates) = (&self.workload, bound_gates(&self.workload));
+        let cap = w.cap.and_then(NonZeroU32::new);
+        best(|| timed(|| black_box(bound::to_pbc(w.qubits, w.cbits, black_box(&gates), cap).unwrap())).0)
+    }
+
+    /// All but the warm time; nothing where the conversion is refused.
+    fn run(&self, b: &mut Buffers) -> Option<Row> {
+        let w = &self.workload;
+        if !agree(b, w) {
+            return None;
         }
+        let mut row = Row { ours: 0.0, rust: 0.0, warm: 0.0, bound: None, copy: None, note: String::new() };
+        if self.what == What::Convert {
+            row.ours = best(|| timed(|| black_box(b.convert(black_box(w)))).0);
+            row.bound = Some(self.bound());
+            row.copy = Some(copied(b));
+        } else {
+            row.note = format!("pool {} records", b.fit(self.axes));
+            self.reads_alike(b);
+            row.ours = if self.what == What::Report {
+                best(|| timed(|| black_box(b.report())).0)
+            } else {
+                best(|| timed(|| black_box(b.expand_all())).0)
+            };
+        }
+        row.rust = self.rust();
+        Some(row)
+    }
+
+    fn reads_alike(&self, b: &mut Buffers) {
+        let (c, cap) = rust_circuit(&self.workload);
+        let m = to_pbc(&c, cap).unwrap().max_axis_weights(usize::MAX).unwrap();
+        assert!(b.report() == 0 && b.answer[0] == m.non_clifford as u64 && b.answer[1] == m.clifford as u64);
+    }
+}
+
+/// The jobs of one kind that were run: how many, how many met the bar with the allocator as it is and warm, and the worst of both.
+struct Kind {
+    name: String,
+    bar: Option<f64>,
+    run: usize,
+    met: [usize; 2],
+    worst: [(f64, String); 2],
+}
+
+fn count(kinds: &mut Vec<Kind>, job: &Job, row: &Row) {
+    let (name, bar) = job.bar();
+    let place = kinds.iter().position(|k| k.name == name).unwrap_or_else(|| {
+        kinds.push(Kind { name, bar, run: 0, met: [0, 0], worst: Default::default() });
+        kinds.len() - 1
+    });
+    let kind = &mut kinds[place];
+    kind.run += 1;
+    for (k, ratio) in [row.ours / row.rust, row.ours / row.warm].into_iter().enumerate() {
+        kind.met[k] += usize::from(bar.is_none_or(|bar| ratio <= bar));
+        if ratio > kind.worst[k].0 {
+            kind.worst[k] = (ratio, job.name());
+        }
+    }
+}
+
+fn print(job: &Job, row: &Row, growth: &str) {
+    let gates = job.workload.gates().max(1) as f64;
+    let bound = row.bound.map_or(String::new(), |t| format!("  crate {:8.1} us {:6.3}", t * 1e6, t / row.rust));
+    let copies = row.copy.map_or(String::new(), |t| format!("  copies {:5.1}", row.ours / t));
+    println!(
+        "{:46} ours {:10.1} us  rust {:10.1} us {:6.3}  warm {:10.1} us {:6.3}{bound}{copies}  {:7.1} ns a gate  {growth}{}",
+        job.name(), row.ours * 1e6, row.rust * 1e6, row.ours / row.rust, row.warm * 1e6, row.ours / row.warm, row.ours * 1e9 / gates, row.note
+    );
+}
+
+fn summary(kinds: &[Kind]) {
+    println!();
+    for Kind { name, bar, run, met: [cold, warm], worst: [(cold_ratio, cold_of), (warm_ratio, warm_of)] } in kinds {
+        match bar {
+            Some(bar) => println!("{name}: {cold} of {run} have a ratio of at most {bar}, and {warm} with the allocator kept warm"),
+            None => println!("{name}: {run}, with no bar"),
+        }
+        println!("    the worst {cold_ratio:.3} ({cold_of}), warm {warm_ratio:.3} ({warm_of})");
     }
 }
 
 const CAPS: [Option<u32>; 4] = [None, Some(3), Some(8), Some(32)];
 
+fn jobs(folder: &str) -> Vec<Job> {
+    let adder = |form: &str, n: u32, cap| {
+        let text = std::fs::read_to_string(format!("{folder}/{form}-{n}.pbc")).unwrap();
+        line(form, n, &text, cap)
+    };
+    let mut jobs = Vec::new();
+    let mut convert = |workload| jobs.push(Job { what: What::Convert, axes: false, workload });
+    for (form, cap) in ["cuccaro", "ladder"].into_iter().flat_map(|form| CAPS.map(|cap| (form, cap))) {
+        [4, 8, 16, 32, 64, 120].map(|n| convert(adder(form, n, cap)));
+    }
+    for (qubits, cap) in [16, 64, 256].into_iter().flat_map(|qubits| CAPS.map(|cap| (qubits, cap))) {
+        [1000, 2000, 4000, 8000, 16000, 32000, 65536].map(|g| convert(random(qubits, g, cap)));
+    }
+    let mut read = |axes: bool, w: &dyn Fn() -> Workload| {
+        jobs.push(Job { what: What::Report, axes, workload: w() });
+        if axes {
+            jobs.push(Job { what: What::Expand, axes, workload: w() });
+        }
+    };
+    for (form, n) in ["cuccaro", "ladder"].into_iter().flat_map(|form| [8, 32, 120].map(|n| (form, n))) {
+        read(true, &|| adder(form, n, None));
+        read(true, &|| adder(form, n, Some(8)));
+    }
+    for (qubits, cap) in [16, 64, 256].into_iter().flat_map(|qubits| CAPS.map(|cap| (qubits, cap))) {
+        read(false, &|| random(qubits, 4000, cap));
+    }
+    read(true, &|| random(16, 1000, None));
+    jobs
+}
+
+/// How much longer than the conversion before it takes, for twice the gates, where that is the same but for its size.
+fn growth(last: Option<(&Job, &Row)>, job: &Job, row: &Row) -> String {
+    let alike = |j: &Job| j.what == What::Convert && job.what == What::Convert && j.workload.form == job.workload.form && j.workload.cap == job.workload.cap;
+    match last {
+        Some((j, r)) if alike(j) => format!("growth {:.2}", row.ours / r.ours * (2 * j.workload.gates()) as f64 / job.workload.gates() as f64),
+        _ => String::new(),
+    }
+}
+
 fn main() {
     let mut words = std::env::args().skip(1);
     let folder = words.next().expect("the folder of the adders");
-    let adder = |form: &str, n: u32, cap| {
-        let text = std::fs::read_to_string(format!("{folder}/{form}-{n}.pbc")).unwrap();
-        line(&format!("{form} adder {n}"), &text, cap)
-    };
-    let mut bench = Bench { buffers: Buffers::new(), word: words.next().unwrap_or_default(), run: 0, kinds: Vec::new() };
+    let word = words.next().unwrap_or_default();
+    let mut jobs = jobs(&folder);
+    jobs.retain(|job| job.name().contains(&word));
+    if jobs.is_empty() {
+        eprintln!("no workload's name contains {word:?}; names are as 'convert cuccaro adder 8 cap none', 'report random 64 qubits 4000 gates cap 8'");
+        std::process::exit(2);
+    }
     println!("a report or expansion is lent the least pool that serves, a power of two of records from 1,024 on, and four words of scratch a used node");
-    for (form, cap) in ["cuccaro", "ladder"].into_iter().flat_map(|form| CAPS.map(|cap| (form, cap))) {
-        bench.conversions(&[4, 8, 16, 32, 64, 120].map(|n| adder(form, n, cap)));
+    let mut buffers = Buffers::new();
+    let mut rows: Vec<(&Job, Row)> = jobs.iter().filter_map(|job| Some((job, job.run(&mut buffers)?))).collect();
+    keep_pages();
+    let (mut kinds, mut last) = (Vec::new(), None);
+    for (job, row) in &mut rows {
+        row.warm = job.rust();
+        print(job, row, &growth(last, job, row));
+        count(&mut kinds, job, row);
+        last = Some((*job, &*row));
     }
-    for (qubits, cap) in [16, 64, 256].into_iter().flat_map(|qubits| CAPS.map(|cap| (qubits, cap))) {
-        bench.conversions(&[1000, 2000, 4000, 8000, 16000, 32000, 65536].map(|g| random(qubits, g, cap)));
-    }
-    for (form, n) in ["cuccaro", "ladder"].into_iter().flat_map(|form| [8, 32, 120].map(|n| (form, n))) {
-        bench.readers(&adder(form, n, None), true);
-        bench.readers(&adder(form, n, Some(8)), true);
-    }
-    for (qubits, cap) in [16, 64, 256].into_iter().flat_map(|qubits| CAPS.map(|cap| (qubits, cap))) {
-        bench.readers(&random(qubits, 4000, cap), false);
-    }
-    bench.readers(&random(16, 1000, None), true);
-    bench.summary();
+    summary(&kinds);
 }
