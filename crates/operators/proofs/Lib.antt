@@ -7,6 +7,10 @@ pub mod Lowered
 pub mod Records
 pub mod Whole
 pub mod After
+pub mod Reading
+pub mod Decoding
+pub mod Calls
+pub mod Words
 pub mod Model
 pub mod Dyadic
 pub mod Acts
