@@ -7,7 +7,8 @@ use mathlib.Core.Nat.{ℕ, zero, suc, _+_, add-assoc, add-comm}
 use mathlib.Core.Quot.{Quot·mk, Quot·sound, Quot·lift, Quot-set, ind}
 use Rattle.operators.specs.Types.{Phase, One, PlusI, MinusOne, MinusI}
 use Rattle.pauli.specs.Letters.{phaseNumber}
-use Rattle.operators.specs.Model.{Scalars, phased, Telling}
+use Rattle.operators.specs.Model.{Scalars, phased}
+use Rattle.operators.proofs.Faithful.{Telling}
 use Rattle.operators.specs.Dyadic.{Four, plusFour, rootFour, timesTwo, Halved, Same, Dyadic, plusHalved, rootHalved, halfHalved, zeroFour, oneFour}
 
 -- ---- four integers

@@ -11,9 +11,16 @@ use Rattle.pauli.specs.Rows.{Row, Width}
 use Rattle.pauli.proofs.Finite.{turns as allPhases, phase, letter, law₁, power-number, ⊕-assoc, ⊕-one}
 use Rattle.pauli.proofs.Rows.{row-eq}
 use Rattle.operators.specs.Types.{Phase, One, PlusI, MinusOne, MinusI, Pauli, I, X, Y, Z}
-use Rattle.operators.specs.Model.{Scalars, Bits, phased, flipBy, entryOf, flipAll, entryAll, sameBits, Telling, ket}
+use Rattle.operators.specs.Model.{Scalars, BitString, phased, flipBy, entryOf, flipAll, entryAll, sameBits, ket}
 use Rattle.operators.proofs.Model.{phased-none, matrices}
-use Rattle.operators.proofs.Acts.{same-sound, same-self}
+use Rattle.operators.proofs.BitStrings.{same-sound, same-self}
+
+-- scalars in which the powers of i and nothing are told apart
+pub record Telling (S : Scalars) : Type 0 where
+  pub one : S .R
+  pub tell : S .R → ℕ
+  pub tells : (p : Phase) → tell (phased S p one) ≡ phaseNumber p
+  pub tells-none : tell (S .none) ≡ 4
 
 -- a letter from where it flips and its two entries, with a phase in front
 abbrev letterBy : Bool → Phase → Phase → Pauli
@@ -37,11 +44,11 @@ phase-back X = law₁ allPhases phase (λ p. p ⊕ One ⊕ One) (λ p. p) tt
 phase-back Y = law₁ allPhases phase (λ p. p ⊕ MinusI ⊕ PlusI) (λ p. p) tt
 phase-back Z = law₁ allPhases phase (λ p. p ⊕ One ⊕ One) (λ p. p) tt
 
-zeros : (n : ℕ) → Bits n
+zeros : (n : ℕ) → BitString n
 zeros zero = tt
 zeros (suc n) = (false, zeros n)
 
-apart : (n : ℕ) (us vs : List Pauli) → length us ≡ n → length vs ≡ n → (p q : Phase) → ((s : Bits n) → p ⊕ entryAll n us s ≡ q ⊕ entryAll n vs s) → ((s : Bits n) → flipAll n us s ≡ flipAll n vs s)
+apart : (n : ℕ) (us vs : List Pauli) → length us ≡ n → length vs ≡ n → (p q : Phase) → ((s : BitString n) → p ⊕ entryAll n us s ≡ q ⊕ entryAll n vs s) → ((s : BitString n) → flipAll n us s ≡ flipAll n vs s)
     → (us ≡ vs) × (p ≡ q)
 apart zero [] [] u v p q h k = (refl, sym (⊕-one p) ∙ h tt ∙ ⊕-one q)
 apart zero [] (b ∷ vs) u v p q h k = absurd (omega arith)
@@ -66,7 +73,7 @@ small MinusI = omega arith
 
 module _ (S : Scalars) (T : Telling S) (n : ℕ) (P Q : Row) (wP : Width n P) (wQ : Width n Q) (e : matrices S n .read P ≡ matrices S n .read Q) where
   -- at every string the two rows have the same entry in the same column
-  column : (s : Bits n) → (P .phase ⊕ entryAll n (P .letters) s ≡ Q .phase ⊕ entryAll n (Q .letters) s) × (flipAll n (P .letters) s ≡ flipAll n (Q .letters) s)
+  column : (s : BitString n) → (P .phase ⊕ entryAll n (P .letters) s ≡ Q .phase ⊕ entryAll n (Q .letters) s) × (flipAll n (P .letters) s ≡ flipAll n (Q .letters) s)
   column s = go (sameBits n (flipAll n (Q .letters) s) (flipAll n (P .letters) s)) refl
       (sym (T .tells (P .phase ⊕ entryAll n (P .letters) s)) ∙ ap (λ b. T .tell (phased S (P .phase ⊕ entryAll n (P .letters) s) (cond b (T .one) (S .none)))) (sym (same-self n (flipAll n (P .letters) s)))
       ∙ ap (λ o. T .tell (o .act (ket S (T .one) n (flipAll n (P .letters) s)) s)) e)

@@ -13,6 +13,8 @@ pub mod Calls
 pub mod Words
 pub mod Model
 pub mod Dyadic
+pub mod BitStrings
 pub mod Acts
+pub mod Kets
 pub mod Faithful
 pub mod Bits

@@ -11,7 +11,7 @@ use Rattle.pauli.specs.Rows.{Row, products, phases}
 use Rattle.pauli.proofs.Finite.{turns as allPhases, letters as allLetters, phase, truth, law₂, law₄, ⊕-assoc}
 use Rattle.operators.specs.Types.{Phase, One, PlusI, MinusOne, MinusI, Pauli, I}
 use Rattle.operators.specs.Operators.{Operators}
-use Rattle.operators.specs.Model.{Scalars, Bits, Amplitudes, Linear, phased, flipBy, entryOf, flipAll, entryAll}
+use Rattle.operators.specs.Model.{Scalars, BitString, Amplitudes, Linear, phased, flipBy, entryOf, flipAll, entryAll}
 
 -- ---- letters
 
@@ -26,13 +26,13 @@ entry-letter false = law₂ allLetters phase _ _ tt
 pub exchange : (p q r s : Phase) → (p ⊕ q) ⊕ (r ⊕ s) ≡ (p ⊕ r) ⊕ (q ⊕ s)
 exchange = law₄ allPhases phase _ _ tt
 
-pub flip-product : (n : ℕ) (us vs : List Pauli) → length us ≡ n → length vs ≡ n → (s : Bits n) → flipAll n (products us vs) s ≡ flipAll n vs (flipAll n us s)
+pub flip-product : (n : ℕ) (us vs : List Pauli) → length us ≡ n → length vs ≡ n → (s : BitString n) → flipAll n (products us vs) s ≡ flipAll n vs (flipAll n us s)
 flip-product zero us vs u v s = refl
 flip-product (suc n) [] vs u v s = absurd (omega arith)
 flip-product (suc n) (a ∷ us) [] u v s = absurd (omega arith)
 flip-product (suc n) (a ∷ us) (b ∷ vs) u v s = ap₂ (λ x t. (x, t)) (flip-letter (s .0) a b) (flip-product n us vs (omega arith) (omega arith) (s .1))
 
-pub entry-product : (n : ℕ) (us vs : List Pauli) → length us ≡ n → length vs ≡ n → (s : Bits n)
+pub entry-product : (n : ℕ) (us vs : List Pauli) → length us ≡ n → length vs ≡ n → (s : BitString n)
     → phases us vs ⊕ entryAll n (products us vs) s ≡ entryAll n us s ⊕ entryAll n vs (flipAll n us s)
 entry-product zero [] [] u v s = refl
 entry-product zero [] (b ∷ vs) u v s = absurd (omega arith)
@@ -44,11 +44,11 @@ entry-product (suc n) (a ∷ us) (b ∷ vs) u v s =
     ∙ ap₂ (λ p q. p ⊕ q) (entry-letter (s .0) a b) (entry-product n us vs (omega arith) (omega arith) (s .1))
     ∙ exchange (entryOf a (s .0)) (entryOf b (flipBy a (s .0))) (entryAll n us (s .1)) (entryAll n vs (flipAll n us (s .1)))
 
-pub flip-none : (n : ℕ) (s : Bits n) → flipAll n (replicate n I) s ≡ s
+pub flip-none : (n : ℕ) (s : BitString n) → flipAll n (replicate n I) s ≡ s
 flip-none zero s = refl
 flip-none (suc n) s = ap (λ t. (s .0, t)) (flip-none n (s .1))
 
-pub entry-none : (n : ℕ) (s : Bits n) → entryAll n (replicate n I) s ≡ One
+pub entry-none : (n : ℕ) (s : BitString n) → entryAll n (replicate n I) s ≡ One
 entry-none zero s = refl
 entry-none (suc n) s = entry-none n (s .1)
 
@@ -125,12 +125,12 @@ module _ (S : Scalars) where
     Op = Linear S n
 
     -- two operators that do the same are the same
-    pub equal : (a b : Op) → ((v : Amps) (s : Bits n) → a .act v s ≡ b .act v s) → a ≡ b
+    pub equal : (a b : Op) → ((v : Amps) (s : BitString n) → a .act v s ≡ b .act v s) → a ≡ b
     equal a b h = λ i. record {
       act = λ v s. h v s i;
-      adds = isProp→PathP (λ i. (u v : Amps) (s : Bits n) → h (λ t. S .plus (u t) (v t)) s i ≡ S .plus (h u s i) (h v s i)) (λ i. Π-prop (λ u. Π-prop (λ v. Π-prop (λ s. S .set _ _)))) (a .adds) (b .adds) i;
-      roots = isProp→PathP (λ i. (v : Amps) (s : Bits n) → h (λ t. S .root (v t)) s i ≡ S .root (h v s i)) (λ i. Π-prop (λ v. Π-prop (λ s. S .set _ _))) (a .roots) (b .roots) i;
-      halves = isProp→PathP (λ i. (v : Amps) (s : Bits n) → h (λ t. S .half (v t)) s i ≡ S .half (h v s i)) (λ i. Π-prop (λ v. Π-prop (λ s. S .set _ _))) (a .halves) (b .halves) i;
+      adds = isProp→PathP (λ i. (u v : Amps) (s : BitString n) → h (λ t. S .plus (u t) (v t)) s i ≡ S .plus (h u s i) (h v s i)) (λ i. Π-prop (λ u. Π-prop (λ v. Π-prop (λ s. S .set _ _)))) (a .adds) (b .adds) i;
+      roots = isProp→PathP (λ i. (v : Amps) (s : BitString n) → h (λ t. S .root (v t)) s i ≡ S .root (h v s i)) (λ i. Π-prop (λ v. Π-prop (λ s. S .set _ _))) (a .roots) (b .roots) i;
+      halves = isProp→PathP (λ i. (v : Amps) (s : BitString n) → h (λ t. S .half (v t)) s i ≡ S .half (h v s i)) (λ i. Π-prop (λ v. Π-prop (λ s. S .set _ _))) (a .halves) (b .halves) i;
     }
 
     abbrev pub noneOp : Op
@@ -169,7 +169,7 @@ module _ (S : Scalars) where
       halves = λ v s. sym (commuting (S .half) (λ r. sym (S .root-half r)) (P .phase ⊕ entryAll n (P .letters) s) (v (flipAll n (P .letters) s)));
     }
 
-    pub none-of : (a : Op) (s : Bits n) → a .act (λ t. S .none) s ≡ S .none
+    pub none-of : (a : Op) (s : BitString n) → a .act (λ t. S .none) s ≡ S .none
     none-of a s =
         ap (λ r. a .act (λ t. r) s) (sym (S .minus (S .none))) ∙ a .adds (λ t. S .none) (λ t. four (S .none)) s
         ∙ ap (S .plus (a .act (λ t. S .none) s)) (a .roots (λ t. S .root (S .root (S .root (S .none)))) s

@@ -3,7 +3,7 @@ use mathlib.Core.Path.{_≡_}
 use mathlib.Core.Bool.{Bool, true, false, not, cond, _&&_, Bool·beq}
 use mathlib.Core.List.{List, [], _∷_}
 use Prim.Native.Nat.{ℕ, zero, suc}
-use Rattle.pauli.specs.Letters.{_⊕_, phaseNumber}
+use Rattle.pauli.specs.Letters.{_⊕_}
 use Rattle.operators.specs.Types.{Phase, One, PlusI, MinusOne, MinusI, Pauli, I, X, Y, Z}
 
 -- what amplitudes can do: add up, be multiplied by the root, and be halved. The fourth power of the root is -1.
@@ -26,19 +26,19 @@ pub record Scalars : Type 1 where
   pub minus : (a : R) → plus a (root (root (root (root a)))) ≡ none
 
 -- strings of n bits, and their amplitudes
-abbrev pub Bits : ℕ → Type 0
-Bits zero = Unit {0}
-Bits (suc n) = Bool × Bits n
+abbrev pub BitString : ℕ → Type 0
+BitString zero = Unit {0}
+BitString (suc n) = Bool × BitString n
 
 abbrev pub Amplitudes : Scalars → ℕ → Type 0
-Amplitudes S n = Bits n → S .R
+Amplitudes S n = BitString n → S .R
 
 -- a linear operator
 pub record Linear (S : Scalars) (n : ℕ) : Type 0 where
   pub act : Amplitudes S n → Amplitudes S n
-  pub adds : (u v : Amplitudes S n) (s : Bits n) → act (λ t. S .plus (u t) (v t)) s ≡ S .plus (act u s) (act v s)
-  pub roots : (v : Amplitudes S n) (s : Bits n) → act (λ t. S .root (v t)) s ≡ S .root (act v s)
-  pub halves : (v : Amplitudes S n) (s : Bits n) → act (λ t. S .half (v t)) s ≡ S .half (act v s)
+  pub adds : (u v : Amplitudes S n) (s : BitString n) → act (λ t. S .plus (u t) (v t)) s ≡ S .plus (act u s) (act v s)
+  pub roots : (v : Amplitudes S n) (s : BitString n) → act (λ t. S .root (v t)) s ≡ S .root (act v s)
+  pub halves : (v : Amplitudes S n) (s : BitString n) → act (λ t. S .half (v t)) s ≡ S .half (act v s)
 
 -- a phase times an amplitude: i is the root twice
 abbrev pub phased : (S : Scalars) → Phase → S .R → S .R
@@ -63,32 +63,32 @@ entryOf Z true = MinusOne
 entryOf Z false = One
 
 -- their products of Kronecker
-abbrev pub flipAll : (n : ℕ) → List Pauli → Bits n → Bits n
+abbrev pub flipAll : (n : ℕ) → List Pauli → BitString n → BitString n
 flipAll zero us s = s
 flipAll (suc n) [] s = s
 flipAll (suc n) (a ∷ us) s = (flipBy a (s .0), flipAll n us (s .1))
 
-abbrev pub entryAll : (n : ℕ) → List Pauli → Bits n → Phase
+abbrev pub entryAll : (n : ℕ) → List Pauli → BitString n → Phase
 entryAll zero us s = One
 entryAll (suc n) [] s = One
 entryAll (suc n) (a ∷ us) s = entryOf a (s .0) ⊕ entryAll n us (s .1)
 
 -- ---- single bits
 
-abbrev pub bitAt : (n q : ℕ) → Bits n → Bool
+abbrev pub bitAt : (n q : ℕ) → BitString n → Bool
 bitAt zero q s = false
 bitAt (suc n) zero s = s .0
 bitAt (suc n) (suc q) s = bitAt n q (s .1)
 
-abbrev pub changeAt : (n q : ℕ) → (Bool → Bool) → Bits n → Bits n
+abbrev pub changeAt : (n q : ℕ) → (Bool → Bool) → BitString n → BitString n
 changeAt zero q f s = s
 changeAt (suc n) zero f s = (f (s .0), s .1)
 changeAt (suc n) (suc q) f s = (s .0, changeAt n q f (s .1))
 
-abbrev pub flipAt : (n q : ℕ) → Bits n → Bits n
+abbrev pub flipAt : (n q : ℕ) → BitString n → BitString n
 flipAt n q s = changeAt n q not s
 
-abbrev pub sameBits : (n : ℕ) → Bits n → Bits n → Bool
+abbrev pub sameBits : (n : ℕ) → BitString n → BitString n → Bool
 sameBits zero s t = true
 sameBits (suc n) s t = Bool·beq (s .0) (t .0) && sameBits n (s .1) (t .1)
 
@@ -101,14 +101,8 @@ signOf false = One
 abbrev pub overRootTwo : (S : Scalars) → S .R → S .R
 overRootTwo S r = S .half (S .plus (S .root r) (S .root (S .root (S .root (S .root (S .root (S .root (S .root r))))))))
 
--- ---- basis states, over scalars in which the powers of i and nothing are told apart
+-- ---- basis states
 
-pub record Telling (S : Scalars) : Type 0 where
-  pub one : S .R
-  pub tell : S .R → ℕ
-  pub tells : (p : Phase) → tell (phased S p one) ≡ phaseNumber p
-  pub tells-none : tell (S .none) ≡ 4
-
--- |t⟩
-abbrev pub ket : (S : Scalars) → S .R → (n : ℕ) → Bits n → Amplitudes S n
+-- |t⟩, where `one` is the scalar 1
+abbrev pub ket : (S : Scalars) → S .R → (n : ℕ) → BitString n → Amplitudes S n
 ket S one n t = λ s. cond (sameBits n s t) one (S .none)
