@@ -8,12 +8,13 @@ use Rattle.pauli.specs.Rotations.{Rotation, flush}
 use Rattle.convert.specs.Records.{Record, records, kindOf, Elementary, clifford, elT, elTdg, elCcx, elCcz, elMeasure, lowerAs, lower, placedFrom, lowerFrom, lowerAll, bare}
 use Rattle.convert.specs.Plain.{Operation, rotateBy, measureOf, conditionalBy, malformed, asRotation}
 use Rattle.convert.specs.Paper.{Paper, gateProducts, axes, tooHeavy, sevenAngles, rotateAll, measureFirst, writes, paperPerform, paperFlushed, paperStep, paperRun, paperBegin}
-use Rattle.convert.specs.Words.{operationsIn}
-use Rattle.convert.specs.Conversion.{Input, limits, isMeasure, gatesIn, paperEnd, convertCheck, convertedHeader, convertStep}
+use Rattle.convert.specs.Conversion.{Input, limits, isMeasure, gatesIn, paperEnd, convertCheck}
+use Rattle.convert.specs.Later.{converted}
 use Rattle.convert.proofs.Accepted.{bare-placed}
 use Rattle.convert.proofs.meaning.Words.{map-append}
 use Rattle.convert.proofs.Theorems.{converts}
 use Rattle.operators.specs.Types.{GateKind, KindH, KindX, KindZ, KindS, KindSdg, KindT, KindTdg, KindCnot, KindCz, KindCcx, KindCcz, KindMeasure, KindY, KindSx, KindSwap, KindCy, Unsupported, Target, Bit, Cap, Fine}
+use Rattle.operators.specs.Whole.{operationsOf}
 use Rattle.operators.specs.Bits.{recordBits, operationBits}
 use Rattle.operators.proofs.Records.{measures}
 
@@ -103,6 +104,6 @@ bits-records i (r ∷ rs) =
     ∙ elements-append (lower r) (bare (lowerFrom (suc i) rs))
     ∙ ap₂ _++_ (bits-kind (kindOf (r .kind)) (r .a) (r .b) (r .c) ∙ ap (λ t. cond t (Bit (r .b) ∷ []) []) (sym (measures (r .kind)))) (bits-records (suc i) rs)
 
-pub bits : (x : Input) → convertCheck limits x ≡ Fine → operationBits (operationsIn (convertedHeader x) (convertStep x .nodes) (convertStep x .operations)) ≡ recordBits (records (x .gates))
-unfolding paperEnd gatesIn lowerAll
+pub bits : (x : Input) → convertCheck limits x ≡ Fine → operationBits (operationsOf (converted x)) ≡ recordBits (records (x .gates))
+unfolding converted paperEnd gatesIn lowerAll
 bits x e = ap operationBits (converts x e .operations) ∙ bits-run (x .qubits) (x .cap) (bare (gatesIn x)) paperBegin ∙ bits-records 0 (records (x .gates))

@@ -1,20 +1,22 @@
--- Laws.
+-- Laws by subject, from the bottom up; the claims themselves are in Theorems.
 pub mod Elements
 pub mod Ring
 pub mod Eigen
 pub mod Gates
 pub mod Lowered
+pub mod Carried
 pub mod Records
 pub mod Whole
+pub mod Bits
 pub mod After
 pub mod Reading
 pub mod Decoding
 pub mod Calls
 pub mod Words
-pub mod Model
-pub mod Dyadic
 pub mod BitStrings
+pub mod Model
 pub mod Acts
 pub mod Kets
 pub mod Faithful
-pub mod Bits
+pub mod Dyadic
+pub mod Theorems

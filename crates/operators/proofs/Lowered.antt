@@ -46,7 +46,7 @@ module _ {n : ℕ} (O : Operators n) where
       ∙ sym (O .from-left u (onPlus O P) (onMinus O P ⊠ t′))
 
   -- a gate carries P to what the rules of conjugation make of it
-  by-gate : (g : Gate) → Valid n g → (P Q : Row) → Width n P → conj (inverse g) P ≡ Q → O .read P ⊠ gateOperator O g ≡ gateOperator O g ⊠ O .read Q
+  pub by-gate : (g : Gate) → Valid n g → (P Q : Row) → Width n P → conj (inverse g) P ≡ Q → O .read P ⊠ gateOperator O g ≡ gateOperator O g ⊠ O .read Q
   unfolding flush back
   by-gate g v P Q w e =
       ap (λ a. O .read P ⊠ a) (gate-turns O g v) ∙ root-past O (O .read P) (gatePhase O g) (turns O (written n g))
