@@ -9,12 +9,12 @@ use Rattle.pauli.specs.Letters.{_⊕_}
 use Rattle.pauli.specs.Bits.{_xor_}
 use Rattle.pauli.specs.Rows.{single, scaled}
 use Rattle.pauli.proofs.Finite.{turns as allPhases, phase, law₁}
-use Rattle.operators.specs.Types.{Phase, One, PlusI, MinusOne, MinusI, Pauli, I, X, Y, Z}
+use Rattle.operators.specs.Types.{One, PlusI, MinusOne, MinusI, Pauli, I, X, Y, Z}
 use Rattle.operators.specs.Operators.{Operators}
 use Rattle.operators.specs.Textbook.{seen, xOf, yOf, zOf, ifOne, hadamardOf, sxOf, swapOf}
 use Rattle.operators.specs.Model.{Scalars, BitString, Amplitudes, Linear, phased, flipBy, entryOf, flipAll, entryAll, bitAt, changeAt, flipAt, signOf, overRootTwo}
 use Rattle.operators.proofs.BitStrings.{bit-other}
-use Rattle.operators.proofs.Model.{flip-none, entry-none, phased-phased, phased-none, swapped, matrices, four}
+use Rattle.operators.proofs.Model.{flip-none, entry-none, phased-phased, swapped, matrices, four}
 
 -- ---- one letter
 

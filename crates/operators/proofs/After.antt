@@ -2,18 +2,14 @@
 use mathlib.Core.Path.{_≡_, refl, ap, sym, _∙_, subst}
 use mathlib.Core.Bool.{Bool, true, false, cond}
 use mathlib.Core.List.{List, [], _∷_, _++_, map, append-nil, append-assoc}
-use Prim.Native.Nat.{ℕ, zero, suc, _+_, _<_}
+use Prim.Native.Nat.{ℕ, _+_, _<_}
 use lib.Dec.{eqb}
-use lib.ListN.{length, getD, length-replicate}
-use Rattle.pauli.specs.Angle.{eighthsOf}
+use lib.ListN.{length, getD}
 use Rattle.pauli.specs.Rows.{Row, Width, identity}
 use Rattle.pauli.specs.Gates.{Gate, gateH, gateX, gateZ, gateS, gateSdg, gateCnot, gateCz, Valid, AllValid, forward}
 use Rattle.pauli.specs.Table.{start, run}
 use Rattle.pauli.specs.Rotations.{written, flush}
 use Rattle.pauli.proofs.Conj.{hom-forward, forward-back, back-forward}
-use Rattle.pauli.proofs.Rows.{width-★}
-use Rattle.pauli.proofs.Short.{width-single}
-use Rattle.arena.specs.Nodes.{image, imageIn, rowOf, rowsTo, values, nodeAt}
 use Rattle.arena.specs.Builder.{rotateStep, measureStep, conditionalStep}
 use Rattle.arena.proofs.Accepted.{passed-before, test-passed}
 use Rattle.convert.specs.Records.{kindOf, lowerAs}
@@ -27,12 +23,13 @@ use Rattle.convert.proofs.Accepted.{accepted, passed-operands, fits-gate}
 use Rattle.convert.proofs.meaning.Papers.{agrees}
 use Rattle.convert.proofs.calls.Table.{Good, gates-framed, good-laters, good-converted}
 use Rattle.convert.proofs.Theorems.{demand3}
-use Rattle.operators.specs.Types.{PauliNode, Identity, Single, Product, MalformedNode, PbcError, Checked, Fine, Wrong, Pushed, PushedMade, PushedRefused, Measured, MeasuredMade, MeasuredRefused}
+use Rattle.operators.specs.Types.{PbcError, Checked, Fine, Wrong, Pushed, PushedMade, PushedRefused, Measured, MeasuredMade, MeasuredRefused}
 use Rattle.operators.specs.Types.{GateKind, KindH, KindX, KindZ, KindS, KindSdg, KindT, KindTdg, KindCnot, KindCz, KindCcx, KindCcz, KindMeasure, KindY, KindSx, KindSwap, KindCy, Unsupported, Target}
 use Rattle.operators.specs.Operators.{Operators, rootTo, turn}
 use Rattle.operators.specs.Textbook.{seen, recordOperator, gateOperator}
 use Rattle.operators.specs.Whole.{operationsOf, operationOperator, operationsOperator}
-use Rattle.operators.specs.After.{imageOf, pushedBy, pushed, atEnd, callOperator, afterOperator, After}
+use Rattle.operators.specs.After.{pushedBy, pushed, atEnd, callOperator, afterOperator, After}
+use Rattle.operators.proofs.Widths.{wide}
 use Rattle.operators.proofs.Elements.{turns}
 use Rattle.operators.proofs.Ring.{root-past, root-add}
 use Rattle.operators.proofs.Eigen.{row-back, turn-back}
@@ -40,40 +37,7 @@ use Rattle.operators.proofs.Gates.{gatePhase, gate-turns, backwards, un
 use Rattle.operators.proofs.Records.{kindOperator, by-kind}
 use Rattle.operators.proofs.Whole.{ops-append, turns-append, flush-snoc, seen-back, image-back, width-place, Ends, ends}
 
--- ---- what a word stands for has the circuit's width
-
-abbrev AllWidth : ℕ → List Row → Type 0
-AllWidth n [] = Unit {0}
-AllWidth n (P ∷ Ps) = Width n P × AllWidth n Ps
-
-width-append : (n : ℕ) (Ps : List Row) (P : Row) → AllWidth n Ps → Width n P → AllWidth n (Ps ++ P ∷ [])
-width-append n [] P h w = (w, tt)
-width-append n (Q ∷ Ps) P h w = (h .0, width-append n Ps P (h .1) w)
-
-width-at : (n : ℕ) (Ps : List Row) → AllWidth n Ps → (j : ℕ) → Width n (getD Ps j (identity n))
-width-at n [] h j = length-replicate n _
-width-at n (P ∷ Ps) h zero = h .0
-width-at n (P ∷ Ps) h (suc j) = width-at n Ps (h .1) j
-
-width-row : (n : ℕ) (rows : List Row) → AllWidth n rows → (p : PauliNode) → Width n (rowOf n rows p)
-width-row n rows h Identity = length-replicate n _
-width-row n rows h (Single q a) = width-single n q a
-width-row n rows h (Product l r) = width-★ n (imageIn n rows l) (imageIn n rows r) (width-at n rows h _) (width-at n rows h _)
-width-row n rows h MalformedNode = length-replicate n _
-
-width-rows : (n : ℕ) (node : ℕ → PauliNode) (k : ℕ) → AllWidth n (rowsTo n node k)
-width-rows n node zero = tt
-width-rows n node (suc k) =
-    width-append n (rowsTo n node k) (rowOf n (rowsTo n node k) (node k)) (width-rows n node k) (width-row n (rowsTo n node k) (width-rows n node k) (node k))
-
-width-image : (n k : ℕ) (words : List ℕ) (w : ℕ) → Width n (image n k words w)
-unfolding image values
-width-image n k words w = width-at n (rowsTo n (nodeAt n words) k) (width-rows n (nodeAt n words) k) _
-
-wide : (n : ℕ) (s : Circuit) → s .header .qubits ≡ n → (w : ℕ) → Width n (imageOf s w)
-wide n s q w = subst (λ m. Width m (imageOf s w)) q (width-image (s .header .qubits) (s .header .nodes) (s .nodes) w)
-
--- the axes of operations
+-- ---- the axes of operations
 abbrev WideOperation : ℕ → Operation → Type 0
 WideOperation n (rotateBy k P) = Width n P
 WideOperation n (measureOf P m t) = Width n P

@@ -7,7 +7,7 @@ use Rattle.pauli.specs.Rows.{Row}
 use Rattle.pauli.specs.Rotations.{Rotation, flush}
 use Rattle.convert.specs.Records.{Record, records, kindOf, Elementary, clifford, elT, elTdg, elCcx, elCcz, elMeasure, lowerAs, lower, placedFrom, lowerFrom, lowerAll, bare}
 use Rattle.convert.specs.Plain.{Operation, rotateBy, measureOf, conditionalBy, malformed, asRotation}
-use Rattle.convert.specs.Paper.{Paper, gateProducts, axes, tooHeavy, sevenAngles, rotateAll, measureFirst, writes, paperPerform, paperFlushed, paperStep, paperRun, paperBegin}
+use Rattle.convert.specs.Paper.{Paper, gateProducts, axes, tooHeavy, rotateAll, writes, paperPerform, paperFlushed, paperStep, paperRun, paperBegin}
 use Rattle.convert.specs.Conversion.{Input, limits, isMeasure, gatesIn, paperEnd, convertCheck}
 use Rattle.convert.specs.Later.{converted}
 use Rattle.convert.proofs.Accepted.{bare-placed}

@@ -13,7 +13,7 @@ use Rattle.arena.specs.Operations.{rotateWords, measureWords, conditionalWords}
 use Rattle.arena.specs.Builder.{overlay, withNodes, nodePut, withOperation, operationPut, singleCheck, singleStep, productCheck, productStep, rotateCheck, rotateStep, measureCheck, measureStep, conditionalCheck, conditionalStep}
 use Rattle.arena.proofs.Accepted.{passed-before, test-passed, fits-single, fits-product, FitsOperation, fits-rotate, fits-measure, fits-conditional}
 use Rattle.convert.specs.Records.{kindOf}
-use Rattle.convert.specs.Plain.{Operation, rotateBy, measureOf, conditionalBy}
+use Rattle.convert.specs.Plain.{Operation, rotateBy, conditionalBy}
 use Rattle.convert.specs.Frame.{frameGates, frameRun, cliffordCheck, opened, cliffordStep}
 use Rattle.convert.specs.Words.{decoded, meaning}
 use Rattle.convert.specs.Later.{Circuit, circuitOf, LaterCall, callFrame, callSingle, callProduct, callRotate, callMeasure, callConditional, callExpand, callHermitian, callWeights}

@@ -5,7 +5,7 @@ use mathlib.Core.Bool.{Bool, true, false, true≢false, not, cond, _&&_, Bool·b
 use Prim.Native.Nat.{ℕ, zero, suc, _<_}
 use Rattle.pauli.specs.Bits.{_xor_}
 use Rattle.pauli.specs.Rows.{single}
-use Rattle.operators.specs.Types.{Phase, One, PlusI, MinusOne, MinusI, Z}
+use Rattle.operators.specs.Types.{Phase, One, PlusI, MinusI, Z}
 use Rattle.operators.specs.Operators.{Operators, rootTo}
 use Rattle.operators.specs.Textbook.{seen, xOf, yOf, zOf, ifOne, hadamardOf, sxOf, swapOf}
 use Rattle.operators.specs.Model.{Scalars, BitString, Amplitudes, Linear, phased, bitAt, flipAt, sameBits, signOf, overRootTwo, ket}

@@ -1,4 +1,5 @@
 -- Laws by subject, from the bottom up; the claims themselves are in Theorems.
+pub mod Widths
 pub mod Elements
 pub mod Ring
 pub mod Eigen

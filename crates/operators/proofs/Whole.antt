@@ -8,7 +8,7 @@ use native.Mathlib.Nat.{not-suc-le-zero, le-of-suc-le-suc}
 use native.Mathlib.Omega.{arith}
 use lib.ListN.{length, getD, List·getD-map}
 use Rattle.pauli.specs.Rows.{Row, Width, _★_, identity, single}
-use Rattle.pauli.specs.Gates.{Gate, Valid, AllValid, back}
+use Rattle.pauli.specs.Gates.{Gate, AllValid, back}
 use Rattle.pauli.specs.Table.{start}
 use Rattle.pauli.specs.Rotations.{Rotation, by, written, flush}
 use Rattle.pauli.proofs.Short.{width-single}
@@ -21,12 +21,14 @@ use Rattle.convert.specs.Conversion.{Input, limits, gatesIn, paperEnd, convertC
 use Rattle.convert.specs.Later.{converted}
 use Rattle.convert.specs.Statement.{Frame}
 use Rattle.convert.proofs.Accepted.{accepted}
+use Rattle.convert.proofs.meaning.Words.{valid-append}
 use Rattle.convert.proofs.packed.Deciding.{wide-start}
 use Rattle.convert.proofs.Theorems.{converts}
 use Rattle.operators.specs.Types.{Pauli, X, Z, Cap, Fine}
 use Rattle.operators.specs.Operators.{Operators, rootTo, turn}
 use Rattle.operators.specs.Textbook.{seen, controlled, circuitOperator}
 use Rattle.operators.specs.Whole.{operationsOf, operationOperator, operationsOperator, Whole}
+use Rattle.operators.proofs.Widths.{AllWidth}
 use Rattle.operators.proofs.Elements.{turns, elementOperator, givenAfter, elementsOperator}
 use Rattle.operators.proofs.Ring.{root-past, root-add, half-carried, minus-carried}
 use Rattle.operators.proofs.Eigen.{row-back, turn-back, turn-as}
@@ -69,10 +71,6 @@ module _ {n : ℕ} (O : Operators n) (outcome : ℕ → Bool) where
   ops-pairs [] Ps = refl
   ops-pairs (k ∷ ks) [] = refl
   ops-pairs (k ∷ ks) (P ∷ Ps) = ap (λ a. a ⊠ turn O k P) (ops-pairs ks Ps)
-
-  abbrev AllWidth : ℕ → List Row → Type 0
-  AllWidth n [] = Unit {0}
-  AllWidth n (P ∷ Ps) = Width n P × AllWidth n Ps
 
   pairs-back : (gs : List Gate) → AllValid n gs → (ks : List ℕ) (Ps : List Row) → AllWidth n Ps
       → turns O (pairs ks Ps) ⊠ turns O (flush n gs) ≡ turns O (flush n gs) ⊠ turns O (pairs ks (map (back gs) Ps))
@@ -150,13 +148,9 @@ module _ {n : ℕ} (O : Operators n) (outcome : ℕ → Bool) where
 
   -- ---- the whole list
 
-  valid-snoc : (n : ℕ) (gs : List Gate) (g : Gate) → AllValid n gs → Valid n g → AllValid n (gs ++ g ∷ [])
-  valid-snoc n [] g v h = (h, tt)
-  valid-snoc n (f ∷ gs) g v h = (v .0, valid-snoc n gs g (v .1) h)
-
   still-valid : (n c : ℕ) (e : Elementary) (p : Paper) → Proper n c e → AllValid n (p .since) → AllValid n (paperPerform n e p .since)
   unfolding paperPerform
-  still-valid n c (clifford g) p h v = valid-snoc n (p .since) g v h
+  still-valid n c (clifford g) p h v = valid-append n (p .since) (g ∷ []) v (h, tt)
   still-valid n c (elT q) p h v = v
   still-valid n c (elTdg q) p h v = v
   still-valid n c (elCcx a b d) p h v = v
