@@ -2,7 +2,7 @@
 use mathlib.Core.Path.{_≡_, refl, ap, sym, _∙_, subst}
 use mathlib.Core.Bool.{Bool, true, false, cond}
 use mathlib.Core.List.{List, [], _∷_, _++_, map, append-nil, append-assoc}
-use Prim.Native.Nat.{ℕ, _+_, _<_}
+use Prim.Native.Nat.{ℕ, _+_, _*_, _<_}
 use lib.Dec.{eqb}
 use lib.ListN.{length, getD}
 use Rattle.pauli.specs.Rows.{Row, Width, identity}
@@ -26,16 +26,17 @@ use Rattle.convert.proofs.Theorems.{demand3}
 use Rattle.operators.specs.Types.{PbcError, Checked, Fine, Wrong, Pushed, PushedMade, PushedRefused, Measured, MeasuredMade, MeasuredRefused}
 use Rattle.operators.specs.Types.{GateKind, KindH, KindX, KindZ, KindS, KindSdg, KindT, KindTdg, KindCnot, KindCz, KindCcx, KindCcz, KindMeasure, KindY, KindSx, KindSwap, KindCy, Unsupported, Target}
 use Rattle.operators.specs.Operators.{Operators, rootTo, turn}
-use Rattle.operators.specs.Textbook.{seen, recordOperator, gateOperator}
+use Rattle.operators.specs.Textbook.{seen, recordOperator, gateOperator, gatesOperator}
 use Rattle.operators.specs.Whole.{operationsOf, operationOperator, operationsOperator}
 use Rattle.operators.specs.After.{pushedBy, pushed, atEnd, callOperator, afterOperator, After}
 use Rattle.operators.proofs.Widths.{wide}
 use Rattle.operators.proofs.Elements.{turns}
 use Rattle.operators.proofs.Ring.{root-past, root-add}
-use Rattle.operators.proofs.Eigen.{row-back, turn-back}
-use Rattle.operators.proofs.Gates.{gatePhase, gate-turns, backwards, undone-left, undone-right}
+use Rattle.operators.proofs.Eigen.{turn-back}
+use Rattle.operators.proofs.Gates.{gatePhase, gate-turns, turns-append, flush-snoc}
+use Rattle.operators.proofs.Carried.{gatesPhase, as-gates, undo, undone-left, undone-right, row-past}
 use Rattle.operators.proofs.Records.{kindOperator, by-kind}
-use Rattle.operators.proofs.Whole.{ops-append, turns-append, flush-snoc, seen-back, image-back, width-place, Ends, ends}
+use Rattle.operators.proofs.Whole.{ops-append, seen-back, image-back, width-place, Ends, ends}
 
 -- ---- the axes of operations
 abbrev WideOperation : ℕ → Operation → Type 0
@@ -72,7 +73,7 @@ module _ {n : ℕ} (O : Operators n) (outcome : ℕ → Bool) where
   gate-after : (g : Gate) → Valid n g → (gs : List Gate) → gateOperator O g ⊠ since gs ≡ rootTo O (gatePhase O g) ⊠ since (gs ++ g ∷ [])
   gate-after g v gs =
       ap (λ a. a ⊠ since gs) (gate-turns O g v) ∙ O .times-assoc (rootTo O (gatePhase O g)) (turns O (written n g)) (since gs)
-      ∙ ap (λ a. rootTo O (gatePhase O g) ⊠ a) (sym (turns-append O outcome (flush n gs) (written n g)) ∙ ap (turns O) (sym (flush-snoc O outcome gs g)))
+      ∙ ap (λ a. rootTo O (gatePhase O g) ⊠ a) (sym (turns-append O (flush n gs) (written n g)) ∙ ap (turns O) (sym (flush-snoc O gs g)))
 
   -- what a does after the gates gs is what the operations os do, and then the gates gs′
   pub record Moved (a : O .Op) (gs gs′ : List Gate) (os : List Operation) : Type 0 where
@@ -236,17 +237,19 @@ module _ (x : Input) (e : convertCheck limits x ≡ Fine) (cs : List LaterCall) 
 
   pub after : (O : Operators (x .qubits)) (outcome : ℕ → Bool) → After x cs O outcome
   after O outcome = record {
-    rest = turns O (flush (x .qubits) gs);
-    inverse = backwards O (flush (x .qubits) gs);
+    gates = gs;
+    valid = all-valid;
+    inverse = undo O gs;
     left = undone-left O gs all-valid;
     right = undone-right O gs all-valid;
-    phase = E .phase + C .phase;
+    phase = E .phase + C .phase + 7 * gatesPhase O gs;
     same =
         ap (λ a. O .times (afterOperator O outcome (paperEnd x .since) cs (converted x)) a) (E .same)
         ∙ root-past O _ (E .phase) _ ∙ ap (λ a. O .times (rootTo O (E .phase)) a) (C .same _) ∙ root-add O (E .phase) (C .phase) _
-        ∙ ap (λ a. O .times (rootTo O (E .phase + C .phase)) (O .times (turns O (flush (x .qubits) gs)) a)) (sym (ops-append O outcome (operationsOf (converted x)) (pushed cs (converted x))));
-    framed = λ j hj. row-back O gs all-valid (getD (start (x .qubits)) j (identity (x .qubits))) (width-place (x .qubits) j)
-        ∙ ap (λ P. O .times (turns O (flush (x .qubits) gs)) (O .read P)) (image-back (x .qubits) gs _ framed j hj);
+        ∙ ap (λ a. O .times (rootTo O (E .phase + C .phase)) (O .times (turns O (flush (x .qubits) gs)) a)) (sym (ops-append O outcome (operationsOf (converted x)) (pushed cs (converted x))))
+        ∙ as-gates O gs all-valid (E .phase + C .phase) (operationsOperator O outcome (operationsOf (converted x) ++ pushed cs (converted x)));
+    framed = λ j hj. row-past O gs all-valid (getD (start (x .qubits)) j (identity (x .qubits))) (width-place (x .qubits) j)
+        ∙ ap (λ P. O .times (gatesOperator O gs) (O .read P)) (image-back (x .qubits) gs _ framed j hj);
   }
     where
       gs : List Gate

@@ -1,7 +1,7 @@
 -- The gates of a textbook are the rotations that a flush writes for them, and have inverses.
 use mathlib.Core.Path.{_≡_, refl, ap, ap₂, sym, _∙_}
 use mathlib.Core.Bool.{Bool, true, false, cond}
-use mathlib.Core.List.{List, [], _∷_}
+use mathlib.Core.List.{List, [], _∷_, _++_, append-assoc, append-nil}
 use mathlib.Core.Logic.{_≢_}
 use Prim.Native.Nat.{ℕ, zero, suc, _+_, _*_, _<_}
 use native.Mathlib.Omega.{arith}
@@ -190,6 +190,17 @@ module _ {n : ℕ} (O : Operators n) where
   gate-turns (gateCnot c t) v = plain-gate _ _ (singly (single n c Z) (single n t X) (width-single n c Z) (width-single n t X) refl refl (single-commute c t X (v .0) (v .1) (v .2)))
   gate-turns (gateCz c t) v = plain-gate _ _ (singly (single n c Z) (single n t Z) (width-single n c Z) (width-single n t Z) refl refl (single-commute c t Z (v .0) (v .1) (v .2)))
 
+  -- ---- lists
+
+  pub turns-append : (rs ss : List Rotation) → turns O (rs ++ ss) ≡ turns O ss ⊠ turns O rs
+  turns-append [] ss = sym (O .one-right (turns O ss))
+  turns-append (r ∷ rs) ss = ap (λ a. a ⊠ turn O (r .angle) (r .axis)) (turns-append rs ss) ∙ O .times-assoc (turns O ss) (turns O rs) (turn O (r .angle) (r .axis))
+
+  pub flush-snoc : (gs : List Gate) (g : Gate) → flush n (gs ++ g ∷ []) ≡ flush n gs ++ written n g
+  unfolding flush
+  flush-snoc [] g = append-nil (written n g)
+  flush-snoc (h ∷ gs) g = ap (λ l. written n h ++ l) (flush-snoc gs g) ∙ sym (append-assoc (written n h) (flush n gs) (written n g))
+
   -- ---- rotations have inverses
 
   pub turn-8 : (P : Row) (a : O .Op) → turn O 8 P ⊠ a ≡ turn O 0 P ⊠ a
@@ -226,9 +237,3 @@ module _ {n : ℕ} (O : Operators n) where
   backwards-right (r ∷ rs) h =
       O .times-assoc (turns O rs) (turn O (r .angle) (r .axis)) (turn O (7 * r .angle) (r .axis) ⊠ backwards rs)
       ∙ ap (λ a. turns O rs ⊠ a) (undo-right (r .axis) (h .0 .0) (h .0 .1) (r .angle) (backwards rs)) ∙ backwards-right rs (h .1)
-
-  pub undone-left : (gs : List Gate) → AllValid n gs → backwards (flush n gs) ⊠ turns O (flush n gs) ≡ O .one
-  undone-left gs v = backwards-left (flush n gs) (plain-flush O gs v)
-
-  pub undone-right : (gs : List Gate) → AllValid n gs → turns O (flush n gs) ⊠ backwards (flush n gs) ≡ O .one
-  undone-right gs v = backwards-right (flush n gs) (plain-flush O gs v)

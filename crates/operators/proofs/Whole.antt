@@ -1,9 +1,9 @@
 -- An accepted conversion, as an operator, is its circuit.
 use mathlib.Core.Path.{_≡_, refl, ap, ap₂, sym, _∙_}
 use mathlib.Core.Bool.{Bool, true, false, cond}
-use mathlib.Core.List.{List, [], _∷_, _++_, map, append-assoc, append-nil}
+use mathlib.Core.List.{List, [], _∷_, _++_, map}
 use mathlib.Core.Logic.{_≢_}
-use Prim.Native.Nat.{ℕ, zero, suc, _+_, _<_}
+use Prim.Native.Nat.{ℕ, zero, suc, _+_, _*_, _<_}
 use native.Mathlib.Nat.{not-suc-le-zero, le-of-suc-le-suc}
 use native.Mathlib.Omega.{arith}
 use lib.ListN.{length, getD, List·getD-map}
@@ -26,13 +26,14 @@ use Rattle.convert.proofs.packed.Deciding.{wide-start}
 use Rattle.convert.proofs.Theorems.{converts}
 use Rattle.operators.specs.Types.{Pauli, X, Z, Cap, Fine}
 use Rattle.operators.specs.Operators.{Operators, rootTo, turn}
-use Rattle.operators.specs.Textbook.{seen, controlled, circuitOperator}
+use Rattle.operators.specs.Textbook.{seen, controlled, circuitOperator, gatesOperator}
 use Rattle.operators.specs.Whole.{operationsOf, operationOperator, operationsOperator, Whole}
 use Rattle.operators.proofs.Widths.{AllWidth}
 use Rattle.operators.proofs.Elements.{turns, elementOperator, givenAfter, elementsOperator}
 use Rattle.operators.proofs.Ring.{root-past, root-add, half-carried, minus-carried}
 use Rattle.operators.proofs.Eigen.{row-back, turn-back, turn-as}
-use Rattle.operators.proofs.Gates.{single-commute, doubly, gatePhase, gate-turns, backwards, undone-left, undone-right}
+use Rattle.operators.proofs.Gates.{single-commute, doubly, gatePhase, gate-turns, turns-append, flush-snoc}
+use Rattle.operators.proofs.Carried.{gatesPhase, as-gates, undo, undone-left, undone-right, row-past}
 use Rattle.operators.proofs.Records.{AllSupported, supported-records, Lowers, lowers}
 
 module _ {n : ℕ} (O : Operators n) (outcome : ℕ → Bool) where
@@ -49,18 +50,9 @@ module _ {n : ℕ} (O : Operators n) (outcome : ℕ → Bool) where
   ops-append [] ps = sym (O .one-right (ops ps))
   ops-append (o ∷ os) ps = ap (λ a. a ⊠ operationOperator O outcome o) (ops-append os ps) ∙ O .times-assoc (ops ps) (ops os) (operationOperator O outcome o)
 
-  pub turns-append : (rs ss : List Rotation) → turns O (rs ++ ss) ≡ turns O ss ⊠ turns O rs
-  turns-append [] ss = sym (O .one-right (turns O ss))
-  turns-append (r ∷ rs) ss = ap (λ a. a ⊠ turn O (r .angle) (r .axis)) (turns-append rs ss) ∙ O .times-assoc (turns O ss) (turns O rs) (turn O (r .angle) (r .axis))
-
   ops-turns : (rs : List Rotation) → ops (map asRotation rs) ≡ turns O rs
   ops-turns [] = refl
   ops-turns (r ∷ rs) = ap (λ a. a ⊠ turn O (r .angle) (r .axis)) (ops-turns rs)
-
-  pub flush-snoc : (gs : List Gate) (g : Gate) → flush n (gs ++ g ∷ []) ≡ flush n gs ++ written n g
-  unfolding flush
-  flush-snoc [] g = append-nil (written n g)
-  flush-snoc (h ∷ gs) g = ap (λ l. written n h ++ l) (flush-snoc gs g) ∙ sym (append-assoc (written n h) (flush n gs) (written n g))
 
   abbrev pairs : List ℕ → List Row → List Rotation
   pairs [] Ps = []
@@ -139,7 +131,7 @@ module _ {n : ℕ} (O : Operators n) (outcome : ℕ → Bool) where
   performed c (clifford g) p h v =
       ap (λ a. a ⊠ value p) (gate-turns O g h) ∙ O .times-assoc (rootTo O (gatePhase O g)) (turns O (written n g)) (value p)
       ∙ ap (λ a. rootTo O (gatePhase O g) ⊠ a) (sym (O .times-assoc (turns O (written n g)) (turns O (flush n (p .since))) (ops (p .operations)))
-      ∙ ap (λ a. a ⊠ ops (p .operations)) (sym (turns-append (flush n (p .since)) (written n g)) ∙ ap (turns O) (sym (flush-snoc (p .since) g))))
+      ∙ ap (λ a. a ⊠ ops (p .operations)) (sym (turns-append O (flush n (p .since)) (written n g)) ∙ ap (turns O) (sym (flush-snoc O (p .since) g))))
   performed c (elT q) p h v = written-value p _ _ (one-turn (p .since) v 1 q)
   performed c (elTdg q) p h v = written-value p _ _ (one-turn (p .since) v 7 q)
   performed c (elCcx a b d) p h v = written-value p _ _ (seven-back (p .since) v a b d X (h .0) (h .1) (h .2) (h .3) (h .4) (h .5))
@@ -252,14 +244,15 @@ ends x e O outcome = record {
 
 pub whole : (x : Input) → convertCheck limits x ≡ Fine → (O : Operators (x .qubits)) (outcome : ℕ → Bool) → Whole x O outcome
 whole x e O outcome = record {
-  rest = turns O (flush n gs);
-  inverse = backwards O (flush n gs);
+  gates = gs;
+  valid = E .valid;
+  inverse = undo O gs;
   left = undone-left O gs (E .valid);
   right = undone-right O gs (E .valid);
-  phase = E .phase;
-  same = E .same;
-  framed = λ j hj. row-back O gs (E .valid) (getD (start n) j (identity n)) (width-place n j)
-      ∙ ap (λ P. O .times (turns O (flush n gs)) (O .read P)) (image-back n gs _ (converts x e .frame) j hj);
+  phase = E .phase + 7 * gatesPhase O gs;
+  same = E .same ∙ as-gates O gs (E .valid) (E .phase) (operationsOperator O outcome (operationsOf (converted x)));
+  framed = λ j hj. row-past O gs (E .valid) (getD (start n) j (identity n)) (width-place n j)
+      ∙ ap (λ P. O .times (gatesOperator O gs) (O .read P)) (image-back n gs _ (converts x e .frame) j hj);
 }
   where
     n : ℕ

@@ -5,6 +5,7 @@ use mathlib.Core.List.{List, [], _∷_}
 use Prim.Native.Nat.{ℕ, _+_, _<_}
 use lib.ListN.{getD}
 use Rattle.pauli.specs.Rows.{identity}
+use Rattle.pauli.specs.Gates.{Gate, AllValid}
 use Rattle.pauli.specs.Table.{start}
 use Rattle.convert.specs.Records.{records}
 use Rattle.convert.specs.Plain.{Operation, rotateBy, measureOf, conditionalBy, malformed}
@@ -13,7 +14,7 @@ use Rattle.convert.specs.Conversion.{Input}
 use Rattle.convert.specs.Later.{Circuit, converted}
 use Rattle.convert.specs.Statement.{frameImages}
 use Rattle.operators.specs.Operators.{Operators, rootTo, turn}
-use Rattle.operators.specs.Textbook.{seen, circuitOperator}
+use Rattle.operators.specs.Textbook.{seen, circuitOperator, gatesOperator}
 
 -- the used operations of a circuit, read from its words
 abbrev pub operationsOf : Circuit → List Operation
@@ -31,16 +32,18 @@ abbrev pub operationsOperator : {n : ℕ} (O : Operators n) → (ℕ → Bool) �
 operationsOperator O outcome [] = O .one
 operationsOperator O outcome (o ∷ os) = O .times (operationsOperator O outcome os) (operationOperator O outcome o)
 
--- the operator a is, up to a power of the root, the operations os in turn and then `rest`: it is invertible,
--- and carries the X or Z of each place to the image that the frame of the circuit s has there
+-- the operator a is, up to a power of the root, the operations os in turn and then some frame gates: an invertible operator,
+-- which carries the X or Z of each place to the image that the frame of the circuit s has there
 pub record Performs {n : ℕ} (O : Operators n) (outcome : ℕ → Bool) (a : O .Op) (os : List Operation) (s : Circuit) : Type 0 where
-  pub rest : O .Op
-  pub inverse : O .Op
-  pub left : O .times inverse rest ≡ O .one
-  pub right : O .times rest inverse ≡ O .one
+  pub gates : List Gate
+  pub valid : AllValid n gates
   pub phase : ℕ
-  pub same : a ≡ O .times (rootTo O phase) (O .times rest (operationsOperator O outcome os))
-  pub framed : (j : ℕ) → j < n + n → O .times (O .read (getD (start n) j (identity n))) rest ≡ O .times rest (O .read (getD (frameImages s) j (identity n)))
+  pub same : a ≡ O .times (rootTo O phase) (O .times (gatesOperator O gates) (operationsOperator O outcome os))
+  pub framed : (j : ℕ) → j < n + n
+      → O .times (O .read (getD (start n) j (identity n))) (gatesOperator O gates) ≡ O .times (gatesOperator O gates) (O .read (getD (frameImages s) j (identity n)))
+  pub inverse : O .Op
+  pub left : O .times inverse (gatesOperator O gates) ≡ O .one
+  pub right : O .times (gatesOperator O gates) inverse ≡ O .one
 
 -- the circuit is what the conversion of it performs
 abbrev pub Whole : (x : Input) → Operators (x .qubits) → (ℕ → Bool) → Type 0
