@@ -1,12 +1,12 @@
 -- A list of records is, up to a power of the root, the elementary gates that it is lowered to.
 use mathlib.Core.Path.{_≡_, refl, ap, ap₂, sym, _∙_, subst}
 use mathlib.Core.Bool.{Bool, false, cond}
-use mathlib.Core.List.{List, [], _∷_, _++_}
+use mathlib.Core.List.{List, [], _∷_, _++_, map}
 use Prim.Native.Nat.{ℕ, zero, suc, _+_}
 use native.Mathlib.Omega.{arith}
 use borrow.Author.Tests.{ne-eqb}
 use lib.Dec.{eqb}
-use lib.ListN.{getD, List·getD-map}
+use lib.ListN.{getD, replicate, List·getD-map}
 use Rattle.pauli.specs.Rows.{single}
 use Rattle.arena.proofs.Accepted.{passed-before, test-passed}
 use Rattle.convert.specs.Records.{Record, kinds, kindOf, Elementary, lowerAs, lower, placedFrom, lowerFrom, bare, AllProper}
@@ -23,34 +23,31 @@ use Rattle.operators.proofs.Lowered.{y-lowered, sx-lowered, swap-lowere
 
 -- ---- which numbers measure
 
+getD-false : (m k : ℕ) → getD (replicate m false) k false ≡ false
+getD-false zero k = refl
+getD-false (suc m) zero = refl
+getD-false (suc m) (suc k) = getD-false m k
+
 pub measures : (k : ℕ) → eqb k 12 ≡ isMeasure (kindOf k)
 unfolding kindOf
-measures zero = refl
-measures (suc zero) = refl
-measures (suc (suc zero)) = refl
-measures (suc (suc (suc zero))) = refl
-measures (suc (suc (suc (suc zero)))) = refl
-measures (suc (suc (suc (suc (suc zero))))) = refl
-measures (suc (suc (suc (suc (suc (suc zero)))))) = refl
-measures (suc (suc (suc (suc (suc (suc (suc zero))))))) = refl
-measures (suc (suc (suc (suc (suc (suc (suc (suc zero)))))))) = refl
-measures (suc (suc (suc (suc (suc (suc (suc (suc (suc zero))))))))) = refl
-measures (suc (suc (suc (suc (suc (suc (suc (suc (suc (suc zero)))))))))) = refl
-measures (suc (suc (suc (suc (suc (suc (suc (suc (suc (suc (suc zero))))))))))) = refl
-measures (suc (suc (suc (suc (suc (suc (suc (suc (suc (suc (suc (suc zero)))))))))))) = refl
-measures (suc (suc (suc (suc (suc (suc (suc (suc (suc (suc (suc (suc (suc k))))))))))))) =
-    ne-eqb (suc (suc (suc (suc (suc (suc (suc (suc (suc (suc (suc (suc (suc k))))))))))))) 12 (λ e. omega arith) ∙ after k
+measures k = go k ∙ List·getD-map isMeasure kinds k Unsupported
   where
-    after : (k : ℕ) → false ≡ isMeasure (getD (Unsupported ∷ Unsupported ∷ KindY ∷ KindSx ∷ Unsupported ∷ Unsupported ∷ KindSwap ∷ KindCy ∷ []) k Unsupported)
-    after zero = refl
-    after (suc zero) = refl
-    after (suc (suc zero)) = refl
-    after (suc (suc (suc zero))) = refl
-    after (suc (suc (suc (suc zero)))) = refl
-    after (suc (suc (suc (suc (suc zero))))) = refl
-    after (suc (suc (suc (suc (suc (suc zero)))))) = refl
-    after (suc (suc (suc (suc (suc (suc (suc zero))))))) = refl
-    after (suc (suc (suc (suc (suc (suc (suc (suc k)))))))) = refl
+    go : (k : ℕ) → eqb k 12 ≡ getD (map isMeasure kinds) k false
+    go zero = refl
+    go (suc zero) = refl
+    go (suc (suc zero)) = refl
+    go (suc (suc (suc zero))) = refl
+    go (suc (suc (suc (suc zero)))) = refl
+    go (suc (suc (suc (suc (suc zero))))) = refl
+    go (suc (suc (suc (suc (suc (suc zero)))))) = refl
+    go (suc (suc (suc (suc (suc (suc (suc zero))))))) = refl
+    go (suc (suc (suc (suc (suc (suc (suc (suc zero)))))))) = refl
+    go (suc (suc (suc (suc (suc (suc (suc (suc (suc zero))))))))) = refl
+    go (suc (suc (suc (suc (suc (suc (suc (suc (suc (suc zero)))))))))) = refl
+    go (suc (suc (suc (suc (suc (suc (suc (suc (suc (suc (suc zero))))))))))) = refl
+    go (suc (suc (suc (suc (suc (suc (suc (suc (suc (suc (suc (suc zero)))))))))))) = refl
+    go (suc (suc (suc (suc (suc (suc (suc (suc (suc (suc (suc (suc (suc k))))))))))))) =
+        ne-eqb (suc (suc (suc (suc (suc (suc (suc (suc (suc (suc (suc (suc (suc k))))))))))))) 12 (λ e. omega arith) ∙ sym (getD-false 8 k)
 
 given-kind : (k : GateKind) (a b c m : ℕ) → cond (isMeasure k) (suc m) m ≡ givenAll (lowerAs k a b c) m
 unfolding lowerAs

@@ -62,7 +62,7 @@ entryOf Y false = MinusI
 entryOf Z true = MinusOne
 entryOf Z false = One
 
--- their products of Kronecker
+-- their Kronecker products
 abbrev pub flipAll : (n : ℕ) → List Pauli → BitString n → BitString n
 flipAll zero us s = s
 flipAll (suc n) [] s = s

@@ -16,7 +16,7 @@ abbrev pub seen : {n : ℕ} (O : Operators n) → Bool → Row → O .Op
 seen O true P = onMinus O P
 seen O false P = onPlus O P
 
--- t where P is -1, nothing where it is +1
+-- t where P is -1, and one where it is +1
 abbrev pub controlled : {n : ℕ} (O : Operators n) → Row → O .Op → O .Op
 controlled O P t = O .plus (onPlus O P) (O .times (onMinus O P) t)
 
@@ -32,7 +32,7 @@ yOf {n} O q = O .read (single n q Y)
 abbrev pub zOf : {n : ℕ} (O : Operators n) → ℕ → O .Op
 zOf {n} O q = O .read (single n q Z)
 
--- t where qubit q is |1⟩
+-- t where qubit q is |1⟩, and one where it is |0⟩
 abbrev pub ifOne : {n : ℕ} (O : Operators n) → ℕ → O .Op → O .Op
 ifOne {n} O q t = controlled O (single n q Z) t
 
