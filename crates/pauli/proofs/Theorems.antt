@@ -133,19 +133,20 @@ rotate-6 = Litinski.three-quarters
 pub rotate-8 : (n : ℕ) (P : Row) → Width n P → real (P .phase) ≡ true → (Q : Row) → Width n Q → rotate 8 P Q ≡ Q
 rotate-8 = Litinski.full
 
-pub rotation-homomorphism : (n : ℕ) (P : Row) → Width n P → real (P .phase) ≡ true → (k : ℕ) (Q R : Row) → Width n Q → Width n R
+-- `rotate` is of even numbers of eighths, so these ask for one; for any number see `turn-carried` and `turns-exchanged` in operators
+pub rotation-homomorphism : (n : ℕ) (P : Row) → Width n P → real (P .phase) ≡ true → (k : ℕ) → k % 2 ≡ 0 → (Q R : Row) → Width n Q → Width n R
     → rotate k P (Q ★ R) ≡ rotate k P Q ★ rotate k P R
-rotation-homomorphism n P w r k = Litinski.hom-quarters n P w r (k / 2) .times
+rotation-homomorphism n P w r k even = Litinski.hom-quarters n P w r (k / 2) .times
 
 -- gates carry a rotation along P to the rotation by the same angle along U† P U
-pub rotation-carried : (n : ℕ) (gs : List Gate) → AllValid n gs → (k : ℕ) (P Q : Row) → Width n P → real (P .phase) ≡ true → Width n Q
+pub rotation-carried : (n : ℕ) (gs : List Gate) → AllValid n gs → (k : ℕ) → k % 2 ≡ 0 → (P Q : Row) → Width n P → real (P .phase) ≡ true → Width n Q
     → back gs (rotate k P Q) ≡ rotate k (back gs P) (back gs Q)
-rotation-carried n gs v k = Litinski.carries-quarters n (back gs) (Conj.hom-back n gs v) (k / 2)
+rotation-carried n gs v k even = Litinski.carries-quarters n (back gs) (Conj.hom-back n gs v) (k / 2)
 
 -- so does a quarter turn
-pub exchange-of-rotations : (n : ℕ) (P : Row) → Width n P → real (P .phase) ≡ true → (k : ℕ) (Q R : Row) → Width n Q → real (Q .phase) ≡ true → Width n R
+pub exchange-of-rotations : (n : ℕ) (P : Row) → Width n P → real (P .phase) ≡ true → (k : ℕ) → k % 2 ≡ 0 → (Q R : Row) → Width n Q → real (Q .phase) ≡ true → Width n R
     → rotate 2 P (rotate k Q R) ≡ rotate k (rotate 2 P Q) (rotate 2 P R)
-exchange-of-rotations n P w r k = Litinski.carries-quarters n (rotate 2 P) (Litinski.hom-quarter n P w r) (k / 2)
+exchange-of-rotations n P w r k even = Litinski.carries-quarters n (rotate 2 P) (Litinski.hom-quarter n P w r) (k / 2)
 
 -- Litinski's exchange, for an angle of any size: a quarter turn along P moves behind the rotation along Q, whose axis becomes rotate 6 P Q, that is Q or i P Q
 pub quarter-behind : (n : ℕ) (P : Row) → Width n P → real (P .phase) ≡ true → (Q : Row) → Width n Q → SameSum (quarterFirst P Q) (quarterLast P (rotate 6 P Q))

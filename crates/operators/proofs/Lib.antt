@@ -1,0 +1,23 @@
+-- Laws by subject, from the bottom up; the claims themselves are in Theorems.
+pub mod Widths
+pub mod Elements
+pub mod Ring
+pub mod Eigen
+pub mod Gates
+pub mod Lowered
+pub mod Carried
+pub mod Records
+pub mod Whole
+pub mod Bits
+pub mod After
+pub mod Reading
+pub mod Decoding
+pub mod Calls
+pub mod Words
+pub mod BitStrings
+pub mod Model
+pub mod Acts
+pub mod Kets
+pub mod Faithful
+pub mod Dyadic
+pub mod Theorems

@@ -1,0 +1,265 @@
+-- An accepted conversion, as an operator, is its circuit.
+use mathlib.Core.Path.{_≡_, refl, ap, ap₂, sym, _∙_}
+use mathlib.Core.Bool.{Bool, true, false, cond}
+use mathlib.Core.List.{List, [], _∷_, _++_, map}
+use mathlib.Core.Logic.{_≢_}
+use Prim.Native.Nat.{ℕ, zero, suc, _+_, _*_, _<_}
+use native.Mathlib.Nat.{not-suc-le-zero, le-of-suc-le-suc}
+use native.Mathlib.Omega.{arith}
+use lib.ListN.{length, getD, List·getD-map}
+use Rattle.pauli.specs.Rows.{Row, Width, _★_, identity, single}
+use Rattle.pauli.specs.Gates.{Gate, AllValid, back}
+use Rattle.pauli.specs.Table.{start}
+use Rattle.pauli.specs.Rotations.{Rotation, by, written, flush}
+use Rattle.pauli.proofs.Short.{width-single}
+use Rattle.pauli.proofs.Rows.{width-★}
+use Rattle.arena.proofs.Accepted.{passed-before}
+use Rattle.convert.specs.Records.{records, Elementary, clifford, elT, elTdg, elCcx, elCcz, elMeasure, lowerAll, bare, Proper, AllProper}
+use Rattle.convert.specs.Plain.{Operation, asRotation, seven}
+use Rattle.convert.specs.Paper.{Paper, gateProducts, axes, tooHeavy, sevenAngles, rotateAll, writes, paperPerform, paperFlushed, paperStep, paperRun, paperBegin}
+use Rattle.convert.specs.Conversion.{Input, limits, gatesIn, paperEnd, convertCheck, roomChecked, gatesCheck, gatesChecked}
+use Rattle.convert.specs.Later.{converted}
+use Rattle.convert.specs.Statement.{Frame}
+use Rattle.convert.proofs.Accepted.{accepted}
+use Rattle.convert.proofs.meaning.Words.{valid-append}
+use Rattle.convert.proofs.packed.Deciding.{wide-start}
+use Rattle.convert.proofs.Theorems.{converts}
+use Rattle.operators.specs.Types.{Pauli, X, Z, Cap, Fine}
+use Rattle.operators.specs.Operators.{Operators, rootTo, turn}
+use Rattle.operators.specs.Textbook.{seen, controlled, circuitOperator, gatesOperator}
+use Rattle.operators.specs.Whole.{operationsOf, operationOperator, operationsOperator, Whole}
+use Rattle.operators.proofs.Widths.{AllWidth}
+use Rattle.operators.proofs.Elements.{turns, elementOperator, givenAfter, elementsOperator}
+use Rattle.operators.proofs.Ring.{root-past, root-add, half-carried, minus-carried}
+use Rattle.operators.proofs.Eigen.{row-back, turn-back, turn-as}
+use Rattle.operators.proofs.Gates.{single-commute, doubly, gatePhase, gate-turns, turns-append, flush-snoc}
+use Rattle.operators.proofs.Carried.{gatesPhase, as-gates, undo, undone-left, undone-right, row-past}
+use Rattle.operators.proofs.Records.{AllSupported, supported-records, Lowers, lowers}
+
+module _ {n : ℕ} (O : Operators n) (outcome : ℕ → Bool) where
+  infixl 65 _⊠_
+  abbrev _⊠_ : O .Op → O .Op → O .Op
+  a ⊠ b = O .times a b
+
+  abbrev ops : List Operation → O .Op
+  ops os = operationsOperator O outcome os
+
+  -- ---- lists
+
+  pub ops-append : (os ps : List Operation) → ops (os ++ ps) ≡ ops ps ⊠ ops os
+  ops-append [] ps = sym (O .one-right (ops ps))
+  ops-append (o ∷ os) ps = ap (λ a. a ⊠ operationOperator O outcome o) (ops-append os ps) ∙ O .times-assoc (ops ps) (ops os) (operationOperator O outcome o)
+
+  ops-turns : (rs : List Rotation) → ops (map asRotation rs) ≡ turns O rs
+  ops-turns [] = refl
+  ops-turns (r ∷ rs) = ap (λ a. a ⊠ turn O (r .angle) (r .axis)) (ops-turns rs)
+
+  abbrev pairs : List ℕ → List Row → List Rotation
+  pairs [] Ps = []
+  pairs (k ∷ ks) [] = []
+  pairs (k ∷ ks) (P ∷ Ps) = by P k ∷ pairs ks Ps
+
+  ops-pairs : (ks : List ℕ) (Ps : List Row) → ops (rotateAll ks Ps) ≡ turns O (pairs ks Ps)
+  ops-pairs [] Ps = refl
+  ops-pairs (k ∷ ks) [] = refl
+  ops-pairs (k ∷ ks) (P ∷ Ps) = ap (λ a. a ⊠ turn O k P) (ops-pairs ks Ps)
+
+  pairs-back : (gs : List Gate) → AllValid n gs → (ks : List ℕ) (Ps : List Row) → AllWidth n Ps
+      → turns O (pairs ks Ps) ⊠ turns O (flush n gs) ≡ turns O (flush n gs) ⊠ turns O (pairs ks (map (back gs) Ps))
+  pairs-back gs v [] Ps w = O .one-left _ ∙ sym (O .one-right _)
+  pairs-back gs v (k ∷ ks) [] w = O .one-left _ ∙ sym (O .one-right _)
+  pairs-back gs v (k ∷ ks) (P ∷ Ps) w =
+      O .times-assoc (turns O (pairs ks Ps)) (turn O k P) (turns O (flush n gs)) ∙ ap (λ a. turns O (pairs ks Ps) ⊠ a) (turn-back O gs v k P (w .0))
+      ∙ sym (O .times-assoc (turns O (pairs ks Ps)) (turns O (flush n gs)) (turn O k (back gs P))) ∙ ap (λ a. a ⊠ turn O k (back gs P)) (pairs-back gs v ks Ps (w .1))
+      ∙ O .times-assoc (turns O (flush n gs)) (turns O (pairs ks (map (back gs) Ps))) (turn O k (back gs P))
+
+  pub seen-back : (gs : List Gate) → AllValid n gs → (x : Bool) (P : Row) → Width n P → seen O x P ⊠ turns O (flush n gs) ≡ turns O (flush n gs) ⊠ seen O x (back gs P)
+  seen-back gs v true P w = half-carried O (turns O (flush n gs)) _ _ (minus-carried O (turns O (flush n gs)) P (back gs P) (row-back O gs v P w))
+  seen-back gs v false P w = half-carried O (turns O (flush n gs)) _ _ (row-back O gs v P w)
+
+  -- ---- a state: what is written, and then the gates since the last flush
+
+  abbrev value : Paper → O .Op
+  value p = turns O (flush n (p .since)) ⊠ ops (p .operations)
+
+  flushed-value : (p : Paper) → value p ≡ value (paperFlushed flush n p)
+  unfolding flush
+  flushed-value p = sym (O .one-left _ ∙ ops-append (p .operations) (map asRotation (flush n (p .since))) ∙ ap (λ a. a ⊠ ops (p .operations)) (ops-turns (flush n (p .since))))
+
+  -- an operator in front of the gates that is a list of operations behind them
+  written-value : (p : Paper) (a : O .Op) (os : List Operation) → a ⊠ turns O (flush n (p .since)) ≡ turns O (flush n (p .since)) ⊠ ops os
+      → a ⊠ value p ≡ O .one ⊠ (turns O (flush n (p .since)) ⊠ ops (p .operations ++ os))
+  written-value p a os e =
+      sym (O .times-assoc a _ _) ∙ ap (λ b. b ⊠ ops (p .operations)) e ∙ O .times-assoc _ (ops os) (ops (p .operations))
+      ∙ ap (λ b. turns O (flush n (p .since)) ⊠ b) (sym (ops-append (p .operations) os)) ∙ sym (O .one-left _)
+
+  seven-width : (n a b d : ℕ) (l : Pauli) → AllWidth n (seven (single n a Z) (single n b Z) (single n d l))
+  seven-width n a b d l =
+      let A = single n a Z in
+      let B = single n b Z in
+      let D = single n d l in
+      let wA = width-single n a Z in
+      let wB = width-single n b Z in
+      let wD = width-single n d l in
+      (wA, (wB, (wD, (width-★ n A B wA wB, (width-★ n A D wA wD, (width-★ n B D wB wD, (width-★ n (A ★ B) D (width-★ n A B wA wB) wD, tt)))))))
+
+  seven-back : (gs : List Gate) → AllValid n gs → (a b d : ℕ) (l : Pauli) → a < n → b < n → d < n → a ≢ b → a ≢ d → b ≢ d → controlled O (single n a Z) (controlled O (single n b Z) (O .read (single n d l))) ⊠ turns O (flush n gs)
+      ≡ turns O (flush n gs) ⊠ ops (rotateAll sevenAngles (map (back gs) (seven (single n a Z) (single n b Z) (single n d l))))
+  seven-back gs v a b d l ha hb hd ab ad bd =
+      ap (λ c. c ⊠ turns O (flush n gs)) (doubly O (single n a Z) (single n b Z) (width-single n a Z) (width-single n b Z) refl refl (single-commute O a b Z ha hb ab)
+      (single n d l) (width-single n d l) refl (single-commute O a d l ha hd ad) (single-commute O b d l hb hd bd))
+      ∙ pairs-back gs v sevenAngles (seven (single n a Z) (single n b Z) (single n d l)) (seven-width n a b d l)
+      ∙ ap (λ c. turns O (flush n gs) ⊠ c) (sym (ops-pairs sevenAngles (map (back gs) (seven (single n a Z) (single n b Z) (single n d l)))))
+
+  abbrev elementPhase : Elementary → ℕ
+  elementPhase (clifford g) = gatePhase O g
+  elementPhase (elT q) = 0
+  elementPhase (elTdg q) = 0
+  elementPhase (elCcx a b d) = 0
+  elementPhase (elCcz a b d) = 0
+  elementPhase (elMeasure q k) = 0
+
+  one-turn : (gs : List Gate) → AllValid n gs → (k q : ℕ) → controlled O (single n q Z) (rootTo O k) ⊠ turns O (flush n gs)
+      ≡ turns O (flush n gs) ⊠ (O .one ⊠ turn O k (back gs (single n q Z)))
+  one-turn gs v k q =
+      ap (λ a. a ⊠ turns O (flush n gs)) (sym (turn-as O k (single n q Z))) ∙ turn-back O gs v k (single n q Z) (width-single n q Z)
+      ∙ ap (λ a. turns O (flush n gs) ⊠ a) (sym (O .one-left _))
+
+  performed : (c : ℕ) (e : Elementary) (p : Paper) → Proper n c e → AllValid n (p .since)
+      → elementOperator O outcome (p .given) e ⊠ value p ≡ rootTo O (elementPhase e) ⊠ value (paperPerform n e p)
+  unfolding paperPerform writes axes gateProducts
+  performed c (clifford g) p h v =
+      ap (λ a. a ⊠ value p) (gate-turns O g h) ∙ O .times-assoc (rootTo O (gatePhase O g)) (turns O (written n g)) (value p)
+      ∙ ap (λ a. rootTo O (gatePhase O g) ⊠ a) (sym (O .times-assoc (turns O (written n g)) (turns O (flush n (p .since))) (ops (p .operations)))
+      ∙ ap (λ a. a ⊠ ops (p .operations)) (sym (turns-append O (flush n (p .since)) (written n g)) ∙ ap (turns O) (sym (flush-snoc O (p .since) g))))
+  performed c (elT q) p h v = written-value p _ _ (one-turn (p .since) v 1 q)
+  performed c (elTdg q) p h v = written-value p _ _ (one-turn (p .since) v 7 q)
+  performed c (elCcx a b d) p h v = written-value p _ _ (seven-back (p .since) v a b d X (h .0) (h .1) (h .2) (h .3) (h .4) (h .5))
+  performed c (elCcz a b d) p h v = written-value p _ _ (seven-back (p .since) v a b d Z (h .0) (h .1) (h .2) (h .3) (h .4) (h .5))
+  performed c (elMeasure q k) p h v = written-value p _ _ (seen-back (p .since) v (outcome (p .given)) (single n q Z) (width-single n q Z) ∙ ap (λ a. turns O (flush n (p .since)) ⊠ a) (sym (O .one-left _)))
+
+  -- ---- the whole list
+
+  still-valid : (n c : ℕ) (e : Elementary) (p : Paper) → Proper n c e → AllValid n (p .since) → AllValid n (paperPerform n e p .since)
+  unfolding paperPerform
+  still-valid n c (clifford g) p h v = valid-append n (p .since) (g ∷ []) v (h, tt)
+  still-valid n c (elT q) p h v = v
+  still-valid n c (elTdg q) p h v = v
+  still-valid n c (elCcx a b d) p h v = v
+  still-valid n c (elCcz a b d) p h v = v
+  still-valid n c (elMeasure q k) p h v = v
+
+  given-after : (n : ℕ) (e : Elementary) (p : Paper) → paperPerform n e p .given ≡ givenAfter e (p .given)
+  unfolding paperPerform
+  given-after n (clifford g) p = refl
+  given-after n (elT q) p = refl
+  given-after n (elTdg q) p = refl
+  given-after n (elCcx a b d) p = refl
+  given-after n (elCcz a b d) p = refl
+  given-after n (elMeasure q k) p = refl
+
+  record Run (m : ℕ) (es : List Elementary) (p p′ : Paper) : Type 0 where
+    phase : ℕ
+    valid : AllValid n (p′ .since)
+    same : elementsOperator O outcome m es ⊠ value p ≡ rootTo O phase ⊠ value p′
+
+  -- a gate from a state that may have been flushed
+  next : (c : ℕ) (e : Elementary) (es : List Elementary) (p p₁ p′ : Paper) → Proper n c e → AllValid n (p₁ .since) → p₁ .given ≡ p .given → value p ≡ value p₁
+      → Run (paperPerform n e p₁ .given) es (paperPerform n e p₁) p′ → Run (p .given) (e ∷ es) p p′
+  next c e es p p₁ p′ h v g f r = record {
+    phase = elementPhase e + r .phase;
+    valid = r .valid;
+    same =
+        ap (λ a. elementsOperator O outcome (p .given) (e ∷ es) ⊠ a) f
+        ∙ O .times-assoc (elementsOperator O outcome (givenAfter e (p .given)) es) (elementOperator O outcome (p .given) e) (value p₁)
+        ∙ ap₂ (λ m a. elementsOperator O outcome m es ⊠ a) (ap (givenAfter e) (sym g) ∙ sym (given-after n e p₁))
+        (ap (λ m. elementOperator O outcome m e ⊠ value p₁) (sym g) ∙ performed c e p₁ h v)
+        ∙ root-past O (elementsOperator O outcome (paperPerform n e p₁ .given) es) (elementPhase e) (value (paperPerform n e p₁))
+        ∙ ap (λ a. rootTo O (elementPhase e) ⊠ a) (r .same) ∙ root-add O (elementPhase e) (r .phase) (value p′);
+  }
+
+  run-value : (c : ℕ) (cap : Cap) (es : List Elementary) (p : Paper) → AllProper n c es → AllValid n (p .since) → Run (p .given) es p (paperRun flush n cap es p)
+  unfolding paperRun paperStep
+  run-value c cap [] p h v = record { phase = 0; valid = v; same = refl }
+  run-value c cap (e ∷ es) p h v =
+      go (λ p₁ v₁. run-value c cap es (paperPerform n e p₁) (h .1) (still-valid n c e p₁ (h .0) v₁)) (tooHeavy n cap (p .since) e)
+    where
+      go : ((p₁ : Paper) → AllValid n (p₁ .since) → Run (paperPerform n e p₁ .given) es (paperPerform n e p₁) (paperRun flush n cap es (paperPerform n e p₁)))
+          → (b : Bool) → Run (p .given) (e ∷ es) p (paperRun flush n cap es (paperPerform n e (cond b (paperFlushed flush n p) p)))
+      go from true = next c e es p (paperFlushed flush n p) _ (h .0) tt refl (flushed-value p) (from (paperFlushed flush n p) tt)
+      go from false = next c e es p p _ (h .0) v refl refl (from p v)
+
+-- ---- the image of a place is U† P U
+
+getD-any : (l : List Row) (i : ℕ) (d d′ : Row) → i < length l → getD l i d ≡ getD l i d′
+getD-any [] i d d′ lt = absurd (not-suc-le-zero lt)
+getD-any (x ∷ l) zero d d′ lt = refl
+getD-any (x ∷ l) (suc i) d d′ lt = getD-any l i d d′ (le-of-suc-le-suc lt)
+
+pub image-back : (n : ℕ) (gs : List Gate) (t : List Row) → Frame n gs t → (j : ℕ) → j < n + n → back gs (getD (start n) j (identity n)) ≡ getD t j (identity n)
+image-back n gs t F j hj =
+    sym (List·getD-map (back gs) (start n) j (identity n)) ∙ ap (λ l. getD l j (back gs (identity n))) (sym (F .conjugated))
+    ∙ getD-any t j (back gs (identity n)) (identity n) (omega (arith, F .size))
+
+pub width-place : (n j : ℕ) → Width n (getD (start n) j (identity n))
+width-place n j = wide-start n .widths j
+
+-- ---- an accepted conversion
+
+supported : (x : Input) → convertCheck limits x ≡ Fine → AllSupported (records (x .gates))
+unfolding convertCheck roomChecked gatesCheck gatesChecked
+supported x e₁₅ =
+    supported-records _ (x .qubits) (x .cbits) 0 (records (x .gates))
+    (passed-before _ _ _ (passed-before _ _ _ (passed-before _ _ _ (passed-before _ _ _ (passed-before _ _ _ e₁₅)))))
+
+-- the operators of an accepted conversion, with the gates since its last flush
+pub record Ends (x : Input) (O : Operators (x .qubits)) (outcome : ℕ → Bool) : Type 0 where
+  pub valid : AllValid (x .qubits) (paperEnd x .since)
+  pub phase : ℕ
+  pub same : circuitOperator O outcome 0 (records (x .gates))
+      ≡ O .times (rootTo O phase) (O .times (turns O (flush (x .qubits) (paperEnd x .since))) (operationsOperator O outcome (operationsOf (converted x))))
+
+pub ends : (x : Input) → convertCheck limits x ≡ Fine → (O : Operators (x .qubits)) (outcome : ℕ → Bool) → Ends x O outcome
+unfolding paperEnd flush gatesIn lowerAll converted
+ends x e O outcome = record {
+  valid = R .valid;
+  phase = L .phase + R .phase;
+  same =
+      L .same ∙ ap (λ a. O .times (rootTo O (L .phase)) a) lowered ∙ root-add O (L .phase) (R .phase) _
+      ∙ ap (λ os. O .times (rootTo O (L .phase + R .phase)) (O .times (turns O (flush (x .qubits) (paperEnd x .since))) (operationsOperator O outcome os))) (sym (converts x e .operations));
+}
+  where
+    R : Run O outcome 0 (bare (gatesIn x)) paperBegin (paperEnd x)
+    R = run-value O outcome (x .cbits) (x .cap) (bare (gatesIn x)) paperBegin (accepted limits x e .proper) tt
+
+    start-value : value O outcome paperBegin ≡ O .one
+    start-value = O .one-left (O .one)
+
+    L : Lowers O outcome 0 (records (x .gates)) (bare (gatesIn x))
+    L = lowers O outcome (x .cbits) 0 0 (records (x .gates)) (supported x e) (accepted limits x e .proper)
+
+    lowered : elementsOperator O outcome 0 (bare (gatesIn x))
+        ≡ O .times (rootTo O (R .phase)) (O .times (turns O (flush (x .qubits) (paperEnd x .since))) (operationsOperator O outcome (paperEnd x .operations)))
+    lowered = sym (O .one-right _) ∙ ap (λ a. O .times (elementsOperator O outcome 0 (bare (gatesIn x))) a) (sym start-value) ∙ R .same
+
+pub whole : (x : Input) → convertCheck limits x ≡ Fine → (O : Operators (x .qubits)) (outcome : ℕ → Bool) → Whole x O outcome
+whole x e O outcome = record {
+  gates = gs;
+  valid = E .valid;
+  inverse = undo O gs;
+  left = undone-left O gs (E .valid);
+  right = undone-right O gs (E .valid);
+  phase = E .phase + 7 * gatesPhase O gs;
+  same = E .same ∙ as-gates O gs (E .valid) (E .phase) (operationsOperator O outcome (operationsOf (converted x)));
+  framed = λ j hj. row-past O gs (E .valid) (getD (start n) j (identity n)) (width-place n j)
+      ∙ ap (λ P. O .times (gatesOperator O gs) (O .read P)) (image-back n gs _ (converts x e .frame) j hj);
+}
+  where
+    n : ℕ
+    n = x .qubits
+
+    gs : List Gate
+    gs = paperEnd x .since
+
+    E : Ends x O outcome
+    E = ends x e O outcome
