@@ -6,7 +6,7 @@ use mathlib.Core.List.{List, map}
 use Prim.Native.Nat.{ℕ, _+_, _/_, _<_, _≤_, _%_}
 use lib.ListN.{length, getD}
 use lib.IntN.{ℤ, pos, _+ℤ_, _*ℤ_}
-use Rattle.pauli.specs.Letters.{Pauli, PlusI, MinusOne, MinusI, _·_, phaseOf, real}
+use Rattle.pauli.specs.Letters.{Pauli, One, PlusI, MinusOne, MinusI, _·_, phaseOf, real}
 use Rattle.pauli.specs.Angle.{remainder8}
 use Rattle.pauli.specs.Rows.{Row, Width, _★_, scaled, identity, present, weight, antiPlaces, anticommute, minusIf}
 use Rattle.pauli.specs.Gates.{Gate, gateH, gateS, gateCnot, Valid, AllValid, conj, inverse, direct, back, forward}
@@ -115,7 +115,7 @@ pub flush-as-gates : (n : ℕ) (gs : List Gate) (Q : Row) → AllValid n gs → 
 flush-as-gates = Quarters.flush-forward
 
 pub flush-light : (n : ℕ) (gs : List Gate) → AllValid n gs
-    → Each (λ r. (weight (r .axis .letters) ≤ 2) × (real (r .axis .phase) ≡ true) × (r .angle % 2 ≡ 0)) (flush n gs)
+    → Each (λ r. (weight (r .axis .letters) ≤ 2) × (r .axis .phase ≡ One) × (r .angle % 2 ≡ 0)) (flush n gs)
 flush-light = Weight.flush-light
 
 -- ---- 7. rotations, along a row of sign +1 or -1

@@ -6,7 +6,7 @@ use mathlib.Core.List.{List, [], _∷_, _++_}
 use Prim.Native.Nat.{ℕ, zero, suc, _<_, _≤_, _%_}
 use native.Mathlib.Omega.{arith}
 use lib.ListN.{set, replicate}
-use Rattle.pauli.specs.Letters.{Pauli, I, X, Z, real}
+use Rattle.pauli.specs.Letters.{Pauli, One, I, X, Z}
 use Rattle.pauli.specs.Rows.{_★_, single, tally, present, weight}
 use Rattle.pauli.specs.Gates.{Gate, gateH, gateX, gateZ, gateS, gateSdg, gateCnot, gateCz, Valid, AllValid}
 use Rattle.pauli.specs.Rotations.{Rotation, Each, written, flush}
@@ -40,15 +40,15 @@ pub weight-pair : (n c t : ℕ) (a b : Pauli) → weight (pair n c t a b .letter
 weight-pair n c t a b = omega (arith, weight-set (set (replicate n I) c a) t b, weight-single n c a)
 
 abbrev Light : Rotation → Type 0
-Light r = (weight (r .axis .letters) ≤ 2) × (real (r .axis .phase) ≡ true) × (r .angle % 2 ≡ 0)
+Light r = (weight (r .axis .letters) ≤ 2) × (r .axis .phase ≡ One) × (r .angle % 2 ≡ 0)
 
 light-single : (n q : ℕ) (a : Pauli) → weight (single n q a .letters) ≤ 2
 light-single n q a = omega (arith, weight-single n q a)
 
-light-pair : (n c t : ℕ) (b : Pauli) → c < n → t < n → c ≢ t → (weight ((single n c Z ★ single n t b) .letters) ≤ 2) × (real ((single n c Z ★ single n t b) .phase) ≡ true)
+light-pair : (n c t : ℕ) (b : Pauli) → c < n → t < n → c ≢ t → (weight ((single n c Z ★ single n t b) .letters) ≤ 2) × ((single n c Z ★ single n t b) .phase ≡ One)
 light-pair n c t b hc ht ne =
     let e = pair-of n c t Z b hc ht ne in
-    (subst (λ R. weight (R .letters) ≤ 2) (sym e) (weight-pair n c t Z b), ap (λ R. real (R .phase)) e)
+    (subst (λ R. weight (R .letters) ≤ 2) (sym e) (weight-pair n c t Z b), ap (λ R. R .phase) e)
 
 light-written : (n : ℕ) (g : Gate) → Valid n g → Each Light (written n g)
 light-written n (gateH q) v = ((light-single n q Z, refl, refl), ((light-single n q X, refl, refl), ((light-single n q Z, refl, refl), tt)))
@@ -65,7 +65,7 @@ each-++ : (A : Rotation → Type 0) (rs ss : List Rotation) → Each A rs → Ea
 each-++ A [] ss a b = b
 each-++ A (r ∷ rs) ss a b = (a .0, each-++ A rs ss (a .1) b)
 
-pub flush-light : (n : ℕ) (gs : List Gate) → AllValid n gs → Each (λ r. (weight (r .axis .letters) ≤ 2) × (real (r .axis .phase) ≡ true) × (r .angle % 2 ≡ 0)) (flush n gs)
+pub flush-light : (n : ℕ) (gs : List Gate) → AllValid n gs → Each (λ r. (weight (r .axis .letters) ≤ 2) × (r .axis .phase ≡ One) × (r .angle % 2 ≡ 0)) (flush n gs)
 unfolding flush
 flush-light n [] v = tt
 flush-light n (g ∷ gs) v = each-++ Light (written n g) (flush n gs) (light-written n g (v .0)) (flush-light n gs (v .1))

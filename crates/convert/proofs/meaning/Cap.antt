@@ -6,13 +6,13 @@ use Prim.Native.Nat.{ℕ, suc, _+_, _%_, _≤_, _<_}
 use native.Mathlib.Omega.{arith}
 use borrow.Author.Tests.{ltb-false, leb-false, eqb-false}
 use lib.Dec.{ltb, leb, eqb}
-use Rattle.pauli.specs.Letters.{real, _·_}
+use Rattle.pauli.specs.Letters.{_·_}
 use Rattle.pauli.specs.Rows.{Row, products, _★_, single, tally, present, weight}
 use Rattle.pauli.specs.Gates.{Gate, AllValid, back}
 use Rattle.pauli.specs.Rotations.{Rotation, Each, flush}
 use Rattle.pauli.proofs.Weight.{weight-single, flush-light}
 use Rattle.arena.proofs.Accepted.{left-false, right-false}
-use Rattle.convert.specs.Types.{Pauli, I, X, Y, Z, Target, Bit}
+use Rattle.convert.specs.Types.{Pauli, One, I, X, Y, Z, Target, Bit}
 use Rattle.convert.specs.Records.{GateKind, KindH, KindX, KindZ, KindS, KindSdg, KindT, KindTdg, KindCnot, KindCz, KindCcx, KindCcz, KindMeasure, KindY, KindSx, KindSwap, KindCy, Unsupported, Cap, NoCap, AtMost, Record, kindOf, Elementary, clifford, elT, elTdg, elCcx, elCcz, elMeasure, lowerAs, lower, placedFrom, lowerFrom, bare, Proper, AllProper}
 use Rattle.convert.specs.Plain.{Operation, anyAbove, seven, asRotation}
 use Rattle.convert.specs.Paper.{Paper, axes, tooHeavy, sevenAngles, rotateAll, measureFirst, writes, paperPerform, paperFlushed, paperStep, paperRun, paperBegin}
@@ -119,7 +119,7 @@ within-writes cap n gs m (elCcz a b d) u = within-rotated cap sevenAngles (axes 
 within-writes cap n gs m (elMeasure q k) u = within-measured cap m (Bit k) (axes n gs (elMeasure q k)) u
 
 -- a flush writes even angles
-even-within : (cap : ℕ) (rs : List Rotation) → Each (λ r. (weight (r .axis .letters) ≤ 2) × (real (r .axis .phase) ≡ true) × (r .angle % 2 ≡ 0)) rs
+even-within : (cap : ℕ) (rs : List Rotation) → Each (λ r. (weight (r .axis .letters) ≤ 2) × (r .axis .phase ≡ One) × (r .angle % 2 ≡ 0)) rs
     → AllWithin cap (map asRotation rs)
 even-within cap [] h = tt
 even-within cap (r ∷ rs) h = ((λ e. absurd (omega (arith, h .0 .2))), even-within cap rs (h .1))
