@@ -1,5 +1,5 @@
 -- For what a walk is refused, and a refusal of the checks read from the end of their chain.
-use mathlib.Core.Path.{_≡_, refl, sym, _∙_}
+use mathlib.Core.Path.{_≡_, refl, ap, sym, _∙_}
 use mathlib.Core.Logic.{_≢_, _⊎_, inl, inr}
 use mathlib.Core.Bool.{Bool, true, false, cond}
 use mathlib.Core.List.{List, [], _∷_}
@@ -7,7 +7,7 @@ use Prim.Native.Nat.{ℕ, zero, suc, _+_, min}
 use native.Mathlib.Omega.{arith}
 use lib.Dec.{leb, eqb}
 use lib.ListN.{length}
-use Rattle.arena.specs.Errors.{PbcError, ExpansionLimit, NoPool, Checked, Fine, Wrong, _⟫_⇒_}
+use Rattle.arena.specs.Errors.{PbcError, BadStore, ExpansionLimit, NoPool, refusalIn, Checked, Fine, Wrong, _⟫_⇒_}
 use Rattle.arena.specs.References.{nodeIn, phaseIn}
 use Rattle.arena.specs.Nodes.{PauliNode, Identity, Single, Product, Malformed, nodeAt}
 use Rattle.arena.specs.Sparse.{Sparse, turned, size}
@@ -86,6 +86,15 @@ module _ (limit room : ℕ) where
   unfolding walk
   limited-walk n count words roots = limited-bind (walkNodes limit room (nodeAt n words) count roots) _ (limited-nodes (nodeAt n words) count roots) (λ r. tt)
 
+pub errors-differ : (e f : PbcError) → refusalIn e .number ≢ refusalIn f .number → e ≢ f
+errors-differ e f ne p = ne (ap (λ x. refusalIn x .number) p)
+
+pub bad-limit : BadStore ≢ ExpansionLimit
+bad-limit = errors-differ BadStore ExpansionLimit (λ q. omega arith)
+
+pub bad-pool : BadStore ≢ NoPool
+bad-pool = errors-differ BadStore NoPool (λ q. omega arith)
+
 -- an error that is neither is not the walk's
 pub limited-not : {A : Type 0} (o : Out A) (e : PbcError) → Limited o → e ≢ ExpansionLimit → e ≢ NoPool → o ≢ refused e
 limited-not (fine a) e l p q = λ r. let z : _≡_ {A = ℕ} 0 1 = cc in zero-is-one z
@@ -94,7 +103,7 @@ limited-not (refused d) e (inr r) p q = λ s. q (let x : d ≡ e = cc in sym x �
 
 -- ---- a refusal of the checks, read from the end of the chain
 
-pub never-fine : (e : PbcError) → Fine ≢ Wrong e
+never-fine : (e : PbcError) → Fine ≢ Wrong e
 never-fine e p = let z : _≡_ {A = ℕ} 0 1 = cc in zero-is-one z
 
 pub refused-before : (c : Checked) (b : Bool) (e f : PbcError) → e ≢ f → (c ⟫ b ⇒ e) ≡ Wrong f → c ≡ Wrong f
@@ -107,3 +116,6 @@ pub test-failed : (b : Bool) (e f : PbcError) → (Fine ⟫ b ⇒ e) ≡ Wrong f
 unfolding _⟫_⇒_
 test-failed true e f p = refl
 test-failed false e f p = absurd (never-fine f p)
+
+pub test-error : (b : Bool) (e f : PbcError) → e ≢ f → (Fine ⟫ b ⇒ e) ≢ Wrong f
+test-error b e f ne p = never-fine f (refused-before Fine b e f ne p)
