@@ -1,3 +1,4 @@
 -- Laws of the later calls: the table after them, and calls given as words.
 pub mod Table
+pub mod Readable
 pub mod Words
