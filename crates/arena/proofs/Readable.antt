@@ -30,8 +30,14 @@ pub unbroken : (h : Header) → Sound h → breaksLimit h ≡ false
 unfolding breaksLimit
 unbroken h s =
     let some : h .nodes ≡ 0 → ⊥ = λ e. omega (arith, s .some) in
-    rw (le-ltb maxQubits (h .qubits) (s .qubits), le-ltb maxCbits (h .cbits) (s .cbits), ne-eqb (h .nodes) 0 some, le-ltb maxNodes (h .nodes) (s .nodes),
-    le-ltb maxOperations (h .operations) (s .operations), le-ltb (h .operations) (h .measurements) (s .measurements))
+    rw (
+      le-ltb maxQubits (h .qubits) (s .qubits),
+      le-ltb maxCbits (h .cbits) (s .cbits),
+      ne-eqb (h .nodes) 0 some,
+      le-ltb maxNodes (h .nodes) (s .nodes),
+      le-ltb maxOperations (h .operations) (s .operations),
+      le-ltb (h .operations) (h .measurements) (s .measurements),
+    )
 
 -- ---- nodes
 

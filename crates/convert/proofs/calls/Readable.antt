@@ -1,35 +1,33 @@
--- What a conversion and later calls leave can be read: no limit is broken, no used node is malformed, no used operation is bad.
-use mathlib.Core.Path.{_≡_, refl, ap, ap₂, sym, _∙_, subst}
+-- Later calls keep the nodes of a circuit readable: no limit is broken, and no used node is malformed.
+use mathlib.Core.Path.{_≡_, refl, _∙_}
 use mathlib.Core.Bool.{false, true}
 use mathlib.Core.List.{List, [], _∷_, map}
 use Prim.Native.Nat.{ℕ, _+_, _*_, _/_, _≤_, _<_}
 use native.Mathlib.Numerals.{add-one}
-use native.Mathlib.Decide.{ℕ-discrete}
 use native.Mathlib.Omega.{arith}
 use borrow.Author.Tests.{leb-false}
 use lib.Dec.{leb}
-use lib.ListN.{length, getD, take, drop, length-take, length-map}
-use lib.Seq.{sets, length-sets, length-take-le, getD-take}
+use lib.ListN.{length, take, drop}
+use lib.Seq.{length-sets, length-take-le}
 use Rattle.pauli.specs.Rows.{Row, present}
-use Rattle.pauli.specs.Gates.{Gate, AllValid}
-use Rattle.arena.specs.Limits.{maxNodes, maxOperations, nodeWords, operationWords}
+use Rattle.pauli.specs.Gates.{Gate}
+use Rattle.arena.specs.Limits.{maxNodes, maxOperations}
 use Rattle.arena.specs.Nodes.{singleWord, productWord, decode, nodeAt, image}
-use Rattle.arena.specs.Builder.{overlay, withNodes, withOperation, nodePut, singleCheck, singleStep, productCheck, productStep, rotateCheck, rotateStep, measureCheck, measureStep, conditionalCheck, conditionalStep}
-use Rattle.arena.specs.Expansion.{isMalformed, anyMalformed, opAt, isBadOp}
+use Rattle.arena.specs.Builder.{withNodes, withOperation, nodePut, singleCheck, singleStep, productCheck, productStep, rotateCheck, rotateStep, measureCheck, measureStep, conditionalCheck, conditionalStep}
+use Rattle.arena.specs.Expansion.{isMalformed, anyMalformed}
 use Rattle.arena.proofs.Overlay.{length-overlay}
-use Rattle.arena.proofs.Accepted.{left-false, right-false, Sound, NodeRoom, FitsOperation, fits-single, fits-product, fits-rotate, fits-measure, fits-conditional}
-use Rattle.arena.proofs.Readable.{both-false, owned, given, Grows, good-more, formed-over, formed-taken, formed-put, product-formed, single-formed}
-use Rattle.arena.proofs.Written.{op-older, rotate-read, rotate-older, measure-read, measure-older, known, conditional-read, conditional-older}
-use Rattle.convert.specs.Types.{Pauli, I, X, Y, Z, PauliAngle, Header, PauliRef, PauliAxis, MeasId, Target, PbcOp, Checked, Fine, Wrong, PushedMade, MeasuredMade}
+use Rattle.arena.proofs.Accepted.{left-false, right-false, Sound, NodeRoom, fits-single, fits-product, fits-rotate, fits-measure, fits-conditional}
+use Rattle.arena.proofs.Readable.{formed-over, formed-taken, formed-put, product-formed, single-formed}
+use Rattle.convert.specs.Types.{Pauli, I, X, Y, Z, PauliAngle, Header, PauliRef, PauliAxis, MeasId, Target, Checked, Fine, Wrong}
 use Rattle.convert.specs.Records.{kindOf}
 use Rattle.convert.specs.Frame.{Arena, gateNodes, total, frameGates, frameRun, namesUnused, cliffordCheck, opened, cliffordStep}
 use Rattle.convert.specs.Later.{Circuit, circuitOf, LaterCall, callFrame, callSingle, callProduct, callRotate, callMeasure, callConditional, callExpand, callHermitian, callWeights}
-use Rattle.convert.specs.Later.{lendOperations, later, laters, Carried, AllCarried}
+use Rattle.convert.specs.Later.{lendOperations, later, laters}
 use Rattle.convert.proofs.Accepted.{FitsGate, fits-gate}
 use Rattle.convert.proofs.buffers.Words.{count-run}
 use Rattle.convert.proofs.meaning.FrameRows.{Under, Shows}
 use Rattle.convert.proofs.meaning.Formed.{Formed, formed-run}
-use Rattle.convert.proofs.calls.Table.{framed, later-framed}
+use Rattle.convert.proofs.calls.Table.{framed}
 
 -- ---- an accepted frame gate: its words name used nodes
 
