@@ -3,9 +3,10 @@ use mathlib.Core.Path.{_≡_, refl, ap, ap₂, sym, _∙_}
 use mathlib.Core.Bool.{Bool, true, false, _||_, not}
 use mathlib.Core.List.{List, [], _∷_, _++_, append-assoc}
 use Prim.Native.Nat.{ℕ, zero, suc, _+_, _*_, _≤_, _<_}
+use native.Mathlib.Decide.{ℕ-discrete}
 use native.Mathlib.Omega.{arith}
-use borrow.Author.Tests.{le-ltb, lt-leb, leb-false, eq-eqb, ne-eqb, eqb-true, not-false}
-use lib.Dec.{ltb, leb, eqb}
+use borrow.Author.Tests.{le-ltb, ltb-false, lt-leb, leb-false, eq-eqb, ne-eqb, eqb-true, not-false}
+use lib.Dec.{ltb, eqb}
 use lib.ListN.{length, getD, take, drop, length-append}
 use lib.Seq.{sets, sets-eq, take-all, take-at, take-take, getD-at, getD-append-add, length-take-le}
 use Rattle.pauli.specs.Rows.{present}
@@ -15,11 +16,12 @@ use Rattle.arena.specs.References.{PauliRef, nodeIn}
 use Rattle.arena.specs.Nodes.{PauliNode, singleWord, productWord, decode, nodeAt}
 use Rattle.arena.specs.Operations.{MeasId, PbcOp, Rotate, Measure, ConditionalRotate, Malformed}
 use Rattle.arena.specs.Store.{Header, breaksLimit, exceedsNodes, exceedsOperations, foreign, unknown}
-use Rattle.arena.specs.Builder.{qubitNodes, startNodes}
+use Rattle.arena.specs.Errors.{Checked, Fine, Wrong}
+use Rattle.arena.specs.Builder.{Step, stepOf, decided, qubitNodes, startNodes, startFrame, overlay, NodesAndFrame, Created, CreatedMade, CreatedRefused, newHeader, newCheck, newStep}
 use Rattle.arena.specs.Expansion.{isMalformed, anyMalformed, badNodes, opAt, isBadOp, anyBadOp, badOperations}
-use Rattle.arena.proofs.Accepted.{left-false, right-false, Sound, Own, own}
+use Rattle.arena.proofs.Accepted.{passed-before, test-passed, left-false, right-false, Sound, sound, Own, own, fits-new}
 use Rattle.arena.proofs.NodeRows.{node-older, single-decodes, product-decodes}
-use Rattle.arena.proofs.Overlay.{length-qubitNodes}
+use Rattle.arena.proofs.Overlay.{length-overlay, length-qubitNodes}
 
 pub both-false : (a b : Bool) → a ≡ false → b ≡ false → (a || b) ≡ false
 both-false a b p q = rw (p, q)
@@ -93,9 +95,58 @@ formed-qubits n (suc q) m le e =
 pub formed-start : (n : ℕ) → anyMalformed (nodeAt n (startNodes n)) (1 + 2 * n) ≡ false
 formed-start n = formed-qubits n n (1 + 2 * n) (omega arith) refl
 
+new-cbits : (qubits cbits nodes frame : ℕ) → newCheck qubits cbits nodes frame ≡ Fine → cbits ≤ maxCbits
+unfolding newCheck
+new-cbits qubits cbits nodes frame e =
+    ltb-false maxCbits cbits (right-false (ltb maxQubits qubits) _ (test-passed _ _ _ (passed-before _ _ _ (passed-before _ _ _ e))))
+
+-- ---- all of it
+
 pub nodes-read : (h : Header) (nodes : List ℕ) → Sound h → 2 * h .nodes ≤ length nodes → anyMalformed (nodeAt (h .qubits) nodes) (h .nodes) ≡ false → badNodes h nodes ≡ false
 unfolding exceedsNodes
 nodes-read h nodes s used formed = rw (unbroken h s, le-ltb (length nodes) (2 * h .nodes) used, formed)
+
+-- and back
+pub nodes-used : (h : Header) (nodes : List ℕ) → badNodes h nodes ≡ false → Sound h × (2 * h .nodes ≤ length nodes) × (anyMalformed (nodeAt (h .qubits) nodes) (h .nodes) ≡ false)
+unfolding exceedsNodes
+nodes-used h nodes e =
+    let first = left-false (breaksLimit h || exceedsNodes h (length nodes)) _ e in
+    (sound h (left-false (breaksLimit h) _ first), ltb-false (length nodes) (2 * h .nodes) (right-false (breaksLimit h) _ first), right-false (breaksLimit h || exceedsNodes h (length nodes)) _ e)
+
+-- a new circuit
+pub new-read : (qubits cbits owner : ℕ) (nodes frame : List ℕ) (h : Header) → newStep qubits cbits owner nodes frame .answer ≡ CreatedMade h
+    → badNodes h (newStep qubits cbits owner nodes frame .words .nodes) ≡ false
+unfolding newStep
+new-read qubits cbits owner nodes frame h = go (newCheck qubits cbits (length nodes) (length frame)) refl
+  where
+    lent : NodesAndFrame
+    lent = record { nodes = nodes; frame = frame }
+
+    made : Step Created NodesAndFrame
+    made = stepOf (CreatedMade (newHeader qubits cbits owner)) (record { nodes = overlay (startNodes qubits) nodes; frame = overlay (startFrame qubits) frame })
+
+    read : newCheck qubits cbits (length nodes) (length frame) ≡ Fine → badNodes (newHeader qubits cbits owner) (overlay (startNodes qubits) nodes) ≡ false
+    read p =
+        let f = fits-new qubits cbits (length nodes) (length frame) p in
+        let even : length (startNodes qubits) ≡ 2 * (1 + 2 * qubits) = omega (arith, length-qubitNodes qubits) in
+        nodes-read (newHeader qubits cbits owner) (overlay (startNodes qubits) nodes)
+        (record {
+          qubits = f .qubits-fit;
+          cbits = new-cbits qubits cbits (length nodes) (length frame) p;
+          some = omega arith;
+          nodes = omega (arith, f .qubits-fit);
+          operations = omega arith;
+          measurements = omega arith;
+        })
+        (rw (length-overlay (startNodes qubits) nodes (omega (arith, even, f .nodes-fit))) (omega (arith, f .nodes-fit)))
+        (formed-over qubits (1 + 2 * qubits) (startNodes qubits) (drop (length (startNodes qubits)) nodes) even ∙ formed-start qubits)
+
+    go : (c : Checked) → newCheck qubits cbits (length nodes) (length frame) ≡ c → decided c CreatedRefused lent made .answer ≡ CreatedMade h
+        → badNodes h (decided c CreatedRefused lent made .words .nodes) ≡ false
+    go Fine p e =
+        let eh : newHeader qubits cbits owner ≡ h = cc in
+        rw (← eh) (read p)
+    go (Wrong w) p e = let z : _≡_ {A = ℕ} 0 1 = cc in absurd (omega arith)
 
 -- ---- operations
 
@@ -136,3 +187,20 @@ none-bad h op (suc k) all = both-false _ _ (none-bad h op k (λ i lt. all i (ome
 pub operations-read : (h : Header) (ops : List ℕ) → 4 * h .operations ≤ length ops → ((i : ℕ) → i < h .operations → isBadOp h (opAt h ops i) ≡ false) → badOperations h ops ≡ false
 unfolding exceedsOperations
 operations-read h ops used good = rw (le-ltb (length ops) (4 * h .operations) used) (none-bad h (opAt h ops) (h .operations) good)
+
+each-good : (h : Header) (op : ℕ → PbcOp) (k : ℕ) → anyBadOp h op k ≡ false → (i : ℕ) → i < k → isBadOp h (op i) ≡ false
+each-good h op zero e i lt = absurd (omega arith)
+each-good h op (suc k) e i lt = go (ℕ-discrete i k) (λ l. each-good h op k (left-false (anyBadOp h op k) _ e) i l)
+  where
+    go : Dec (i ≡ k) → (i < k → isBadOp h (op i) ≡ false) → isBadOp h (op i) ≡ false
+    go (yes p) before = rw p (right-false (anyBadOp h op k) _ e)
+    go (no ne) before = before (omega arith)
+
+-- and back
+pub operations-used : (h : Header) (ops : List ℕ) → badOperations h ops ≡ false
+    → (4 * h .operations ≤ length ops) × ((i : ℕ) → i < h .operations → isBadOp h (opAt h ops i) ≡ false)
+unfolding exceedsOperations
+operations-used h ops e = (
+  ltb-false (length ops) (4 * h .operations) (left-false (exceedsOperations h (length ops)) _ e),
+  each-good h (opAt h ops) (h .operations) (right-false (exceedsOperations h (length ops)) _ e),
+)

@@ -10,7 +10,7 @@ use Rattle.pauli.specs.Rows.{_★_, scaled, single, present, weight}
 use Rattle.pauli.specs.Table.{start}
 use Rattle.arena.specs.Types.{Pauli, Phase, PauliAngle}
 use Rattle.arena.specs.Errors.{PbcError, BadStore, NonHermitianAxis, Fine, Wrong}
-use Rattle.arena.specs.References.{PauliRef, PauliAxis, nodeIn, scaledWord}
+use Rattle.arena.specs.References.{PauliRef, PauliAxis, axisOf, nodeIn, scaledWord}
 use Rattle.arena.specs.Nodes.{nodeAt, image}
 use Rattle.arena.specs.Operations.{MeasId, measId, Target, Rotate, Measure, ConditionalRotate}
 use Rattle.arena.specs.Store.{Header}
@@ -18,7 +18,7 @@ use Rattle.arena.specs.Builder.{CreatedMade, SingledMade, MultipliedMade
 use Rattle.arena.specs.Sparse.{size, dense}
 use Rattle.arena.specs.Walk.{Named, fine, refused, State, Walked, charge, walkNodes, Answer, walk}
 use Rattle.arena.specs.Readers.{Expanded, expandWalk, hermitianWalk, Weighed, largest, wordsOf, Report, reportWalk}
-use Rattle.arena.specs.Expansion.{opAt, badNodes, badOperations, expandStep, hermitianStep, axesTo, reportStep}
+use Rattle.arena.specs.Expansion.{ExpansionMade, HermitianMade, WeightsMade, expansionOf, hermitianOf, maxWeightsOf, opAt, badNodes, badOperations, expandStep, hermitianStep, axesTo, reportStep}
 use Rattle.arena.specs.Stats.{Within, Refused, workAfter, chargeAnswer}
 use Rattle.arena.specs.Calls.{Call, Slices, checked, after, KeptSlices}
 use Rattle.arena.specs.Pool.{Lendable}
@@ -26,6 +26,7 @@ use Rattle.arena.specs.PoolRuns.{Held, World, factorsHeld, Without, Run,
 use Rattle.arena.proofs.NodeRows
 use Rattle.arena.proofs.Answers
 use Rattle.arena.proofs.Written
+use Rattle.arena.proofs.Readable
 use Rattle.arena.proofs.Spans
 use Rattle.arena.proofs.walk.Means
 use Rattle.arena.proofs.walk.Ends
@@ -108,6 +109,11 @@ pub conditional-older : (h : Header) (ops : List ℕ) (x : PauliAxis) (k : Pauli
     → (i : ℕ) → i < h .operations → opAt h′ (conditionalStep h ops x k m .words) i ≡ opAt h ops i
 conditional-older = Written.conditional-older
 
+-- the nodes of a new circuit can be read
+pub new-readable : (qubits cbits owner : ℕ) (nodes frame : List ℕ) (h : Header) → newStep qubits cbits owner nodes frame .answer ≡ CreatedMade h
+    → badNodes h (newStep qubits cbits owner nodes frame .words .nodes) ≡ false
+new-readable = Readable.new-read
+
 -- ---- the factor pool, after any sequence of its operations
 
 -- no record is in two chains
@@ -183,7 +189,7 @@ report-means = Reports.report-means
 
 -- ---- readers, from their contract alone
 
--- an accepted expansion is the image, and its letters are written by number over the first words lent
+-- an accepted expansion is the image, and its letters stand by their numbers in the first of the letters lent
 pub expand-reads : (h : Header) (nodes letters scratch pool : List ℕ) (r : PauliRef) (cells : ℕ) (x : Expanded) → expandStep h nodes letters scratch pool r cells .answer ≡ fine x
     → (x .row ≡ image (h .qubits) (h .nodes) nodes (r .word))
     × (expandStep h nodes letters scratch pool r cells .letters ≡ map pauliNumber (image (h .qubits) (h .nodes) nodes (r .word) .letters) ++ drop (h .qubits) letters)
@@ -203,6 +209,23 @@ pub report-reads : (h : Header) (nodes ops scratch pool : List ℕ) (limit : ℕ
     → let axes = axesTo (opAt h ops) (h .operations) in
     x .weights ≡ largest axes (map (λ w. weight (image (h .qubits) (h .nodes) nodes w .letters)) (wordsOf axes))
 report-reads = Readers.report-reads
+
+-- what a caller gets of these: the phase of the image, the reference itself as an axis, and the two largest weights
+pub expand-answers : (h : Header) (nodes letters scratch pool : List ℕ) (r : PauliRef) (cells : ℕ) (phase : Phase) (work : ℕ)
+    → expansionOf (expandStep h nodes letters scratch pool r cells .answer) ≡ ExpansionMade phase work
+    → (phase ≡ image (h .qubits) (h .nodes) nodes (r .word) .phase)
+    × (expandStep h nodes letters scratch pool r cells .letters ≡ map pauliNumber (image (h .qubits) (h .nodes) nodes (r .word) .letters) ++ drop (h .qubits) letters)
+expand-answers = Readers.expand-answers
+
+pub hermitian-answers : (h : Header) (nodes scratch pool : List ℕ) (r : PauliRef) (limit : ℕ) (x : PauliAxis) (work : ℕ)
+    → hermitianOf r (hermitianStep h nodes scratch pool r limit .answer) ≡ HermitianMade x work
+    → (x ≡ axisOf r) × (real (image (h .qubits) (h .nodes) nodes (r .word) .phase) ≡ true)
+hermitian-answers = Readers.hermitian-answers
+
+pub report-answers : (h : Header) (nodes ops scratch pool : List ℕ) (limit a b work : ℕ) → maxWeightsOf (reportStep h nodes ops scratch pool limit .answer) ≡ WeightsMade a b work
+    → let axes = axesTo (opAt h ops) (h .operations) in
+    largest axes (map (λ w. weight (image (h .qubits) (h .nodes) nodes w .letters)) (wordsOf axes)) ≡ record { nonClifford = a; clifford = b }
+report-answers = Readers.report-answers
 
 -- 3 is answered for a bad store alone
 pub expand-bad : (h : Header) (nodes letters scratch pool : List ℕ) (r : PauliRef) (cells : ℕ) → expandStep h nodes letters scratch pool r cells .answer ≡ refused BadStore

@@ -13,14 +13,14 @@ use lib.Seq.{sets, sets-eq, getD-append-add, length-take-le}
 use Rattle.pauli.specs.Angle.{angleOf, eighthsOf}
 use Rattle.arena.specs.Types.{PauliAngle}
 use Rattle.arena.specs.Limits.{operationWords}
-use Rattle.arena.specs.Errors.{Checked, Fine, Wrong, _⟫_⇒_}
-use Rattle.arena.specs.References.{PauliRef, PauliAxis, axisOf}
-use Rattle.arena.specs.Operations.{MeasId, measId, Target, Bit, NoTarget, targetWord, targetOf, Rotate, Measure, ConditionalRotate, rotateWords, measureWords, conditionalWords, decodeOp}
+use Rattle.arena.specs.Errors.{Checked, Fine, Wrong}
+use Rattle.arena.specs.References.{PauliAxis, axisOf}
+use Rattle.arena.specs.Operations.{MeasId, measId, Target, Bit, NoTarget, targetWord, Rotate, Measure, ConditionalRotate, decodeOp}
 use Rattle.arena.specs.Store.{Header, unknown, targetOutside}
-use Rattle.arena.specs.Builder.{Step, stepOf, decided, withOperation, operationPut, Pushed, PushedMade, PushedRefused, Measured, MeasuredMade, MeasuredRefused, rotateCheck, rotateStep, measureCheck, measureStep, conditionalCheck, conditionalStep}
+use Rattle.arena.specs.Builder.{stepOf, decided, withOperation, PushedMade, PushedRefused, MeasuredMade, MeasuredRefused, rotateCheck, rotateStep, measureCheck, measureStep, conditionalCheck, conditionalStep}
 use Rattle.arena.specs.Calls.{callRotate, callMeasure, callConditional, Slices, checked, after}
 use Rattle.arena.specs.Expansion.{opAt}
-use Rattle.arena.proofs.Accepted.{passed-before, test-passed, left-false, right-false, Own, FitsOperation, fits-rotate, fits-measure, fits-conditional}
+use Rattle.arena.proofs.Accepted.{passed-before, test-passed, left-false, Own, fits-rotate, fits-measure, fits-conditional}
 use Rattle.arena.proofs.Spans.{accepted-used-only}
 
 zero-is-one : _≡_ {A = ℕ} 0 1 → ⊥

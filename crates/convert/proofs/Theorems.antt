@@ -19,7 +19,7 @@ use Rattle.arena.specs.Walk.{fine, refused as refusedWith}
 use Rattle.arena.specs.Readers.{Report}
 use Rattle.arena.specs.Expansion.{badNodes, opAt, badOperations, expandStep, hermitianStep, reportStep}
 use Rattle.arena.proofs.NodeRows.{image-older}
-use Rattle.arena.proofs.Readable.{both-false, nodes-read, operations-read as operations-read-by}
+use Rattle.arena.proofs.Readable.{both-false}
 use Rattle.arena.proofs.Theorems.{expand-bad, hermitian-bad, report-bad}
 use Rattle.convert.specs.Types.{Header, PauliRef, PbcError, BadStore, Fine, Wrong}
 use Rattle.convert.specs.Records.{KindY, KindSx, KindSwap, KindCy, Cap, AtMost, records, lowerAll, kindOf, Elementary, Placed, bare, AllProper}
@@ -43,8 +43,8 @@ use Rattle.convert.proofs.calls.Table.{framed, shows-framed, later-fram
 use Rattle.convert.proofs.meaning.Lowered.{y-acts, sx-acts, swap-acts, cy-acts}
 use Rattle.convert.proofs.HandCircuits.{hand-circuits}
 use Rattle.convert.proofs.meaning.Operations.{ops-read}
-use Rattle.convert.proofs.calls.Readable.{rowsOpened, gate-shows, reads-laters}
-use Rattle.convert.proofs.calls.Operations.{operates-laters}
+use Rattle.convert.proofs.calls.Readable.{rowsOpened, gate-shows, reads-nodes, reads-back, reads-laters}
+use Rattle.convert.proofs.calls.Operations.{operates-on, operates-back, operates-laters}
 use Rattle.convert.proofs.calls.Converted.{four-words, reads-converted, operates-converted, report-within, converted-made}
 
 -- ---- Means
@@ -205,21 +205,25 @@ refused x error e = rw e (refl, refl, refl, refl)
 pub made-back : (x : Input) (h : Header) → convertStep x .answer ≡ ConvertedMade h → (convertCheck limits x ≡ Fine) × (h ≡ convertedHeader x)
 made-back = converted-made
 
--- after an accepted conversion and any later calls no limit is broken, the nodes in use are lent, and none of them is malformed
+-- no later call makes a circuit unreadable: limits hold, the nodes in use are lent, and none of them is malformed
+pub nodes-stay-readable : (cs : List LaterCall) (s : Circuit) → badNodes (s .header) (s .nodes) ≡ false → badNodes (laters cs s .header) (laters cs s .nodes) ≡ false
+nodes-stay-readable cs s e = reads-nodes (laters cs s) (reads-laters cs s (reads-back s e))
+
+-- nor its operations, where the caller carries those in use along: each is well formed and names nodes and measurements in use
+pub operations-stay-readable : (cs : List LaterCall) (s : Circuit) → AllCarried cs s → badOperations (s .header) (s .operations) ≡ false
+    → badOperations (laters cs s .header) (laters cs s .operations) ≡ false
+operations-stay-readable cs s a e = operates-on (laters cs s) (operates-laters cs s a (operates-back s e))
+
+-- so what an accepted conversion and any later calls leave can be read
 pub nodes-readable : (x : Input) → convertCheck limits x ≡ Fine → (cs : List LaterCall)
     → badNodes (laters cs (converted x) .header) (laters cs (converted x) .nodes) ≡ false
-nodes-readable x e cs =
-    let R = reads-laters cs (converted x) (reads-converted x e) in
-    nodes-read (laters cs (converted x) .header) (laters cs (converted x) .nodes) (R .sound) (R .used) (R .formed)
+nodes-readable x e cs = reads-nodes (laters cs (converted x)) (reads-laters cs (converted x) (reads-converted x e))
 
--- the operations in use are lent where the caller carries them along, and each is well formed and names nodes and measurements in use
 pub operations-readable : (x : Input) → convertCheck limits x ≡ Fine → (cs : List LaterCall) → AllCarried cs (converted x)
     → badOperations (laters cs (converted x) .header) (laters cs (converted x) .operations) ≡ false
-operations-readable x e cs a =
-    let O = operates-laters cs (converted x) a (operates-converted x e) in
-    operations-read-by (laters cs (converted x) .header) (laters cs (converted x) .operations) (O .used) (O .good)
+operations-readable x e cs a = operates-on (laters cs (converted x)) (operates-laters cs (converted x) a (operates-converted x e))
 
--- so no reader is refused with 3
+-- and no reader is refused with 3
 pub expand-never-bad-store : (x : Input) → convertCheck limits x ≡ Fine → (cs : List LaterCall) (letters scratch pool : List ℕ) (r : PauliRef) (cells : ℕ)
     → expandStep (laters cs (converted x) .header) (laters cs (converted x) .nodes) letters scratch pool r cells .answer ≢ refusedWith BadStore
 expand-never-bad-store x e cs letters scratch pool r cells p =

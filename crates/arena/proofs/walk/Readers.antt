@@ -3,22 +3,22 @@ use mathlib.Core.Path.{_≡_, refl, ap, sym, _∙_}
 use mathlib.Core.Logic.{_≢_, inl}
 use mathlib.Core.Bool.{Bool, true, false, cond, _||_}
 use mathlib.Core.List.{List, [], _∷_, _++_, map}
-use Prim.Native.Nat.{ℕ, zero, suc, _-_, _*_, _<_}
+use Prim.Native.Nat.{ℕ, zero, suc, _-_, _<_}
 use native.Mathlib.Omega.{arith}
 use lib.Dec.{leb, eqb}
 use lib.ListN.{length, drop}
 use Rattle.pauli.specs.Letters.{pauliNumber, real}
 use Rattle.pauli.specs.Rows.{Row, weight}
-use Rattle.arena.specs.Types.{I}
+use Rattle.arena.specs.Types.{I, Phase}
 use Rattle.arena.specs.Errors.{PbcError, BadStore, ForeignPauli, NoScratch, ExpansionLimit, NoPool, NonHermitianAxis, Checked, Fine, Wrong, _⟫_⇒_}
-use Rattle.arena.specs.References.{PauliRef, nodeIn}
+use Rattle.arena.specs.References.{PauliRef, PauliAxis, axisOf, nodeIn}
 use Rattle.arena.specs.Nodes.{image}
 use Rattle.arena.specs.Operations.{PbcOp, Rotate, Measure, ConditionalRotate, Malformed as MalformedOp}
 use Rattle.arena.specs.Store.{Header, foreign, exceedsOperations}
 use Rattle.arena.specs.Sparse.{Factor, spread, dense}
 use Rattle.arena.specs.Walk.{Named, Out, fine, refused, bind, Answer, walk}
 use Rattle.arena.specs.Readers.{firstOf, Expanded, expandWalk, hermitianWalk, Weighed, Weights, largest, wordsOf, Report, reportWalk}
-use Rattle.arena.specs.Expansion.{badNodes, badOperations, opAt, isBadOp, anyBadOp, weighedOf, axesTo, roomIn, lettersLeft, expandBy, expandCheck, expandStep, walkBy, hermitianCheck, hermitianStep, reportCheck, reportStep}
+use Rattle.arena.specs.Expansion.{ExpansionMade, HermitianMade, WeightsMade, expansionOf, hermitianOf, maxWeightsOf, badNodes, badOperations, opAt, isBadOp, anyBadOp, weighedOf, axesTo, roomIn, lettersLeft, expandBy, expandCheck, expandStep, walkBy, hermitianCheck, hermitianStep, reportCheck, reportStep}
 use Rattle.arena.proofs.Accepted.{passed-before, test-passed, left-false, right-false, own}
 use Rattle.arena.proofs.walk.Reports.{expand-means, hermitian-means, report-means}
 use Rattle.arena.proofs.walk.Refusals.{Limited, limited-bind, limited-walk, limited-not, errors-differ, bad-limit, bad-pool, refused-before, test-error, test-failed}
@@ -263,3 +263,45 @@ module _ (h : Header) (nodes ops scratch pool : List ℕ) (limit : ℕ) where
           → (badNodes h nodes || badOperations h ops) ≡ true
       go Fine p e = absurd (limited-not reports BadStore limited-report bad-limit bad-pool e)
       go (Wrong k) p e = let same : k ≡ BadStore = cc in report-failed (p ∙ ap Wrong same)
+
+-- ---- the same of the answers that a caller gets
+
+module _ (h : Header) (nodes letters scratch pool : List ℕ) (r : PauliRef) (cells : ℕ) where
+  pub expand-answers : (phase : Phase) (work : ℕ) → expansionOf (expandStep h nodes letters scratch pool r cells .answer) ≡ ExpansionMade phase work
+      → (phase ≡ image (h .qubits) (h .nodes) nodes (r .word) .phase)
+      × (expandStep h nodes letters scratch pool r cells .letters ≡ map pauliNumber (image (h .qubits) (h .nodes) nodes (r .word) .letters) ++ drop (h .qubits) letters)
+  expand-answers phase work = go (expandStep h nodes letters scratch pool r cells .answer) refl
+    where
+      go : (y : Out Expanded) → expandStep h nodes letters scratch pool r cells .answer ≡ y → expansionOf y ≡ ExpansionMade phase work
+          → (phase ≡ image (h .qubits) (h .nodes) nodes (r .word) .phase)
+          × (expandStep h nodes letters scratch pool r cells .letters ≡ map pauliNumber (image (h .qubits) (h .nodes) nodes (r .word) .letters) ++ drop (h .qubits) letters)
+      go (fine x) q e =
+          let same : x .row .phase ≡ phase = cc in
+          let reads = expand-reads h nodes letters scratch pool r cells x q in
+          (sym same ∙ ap (λ (P : Row). P .phase) (reads .0), reads .1)
+      go (refused k) q e = let z : _≡_ {A = ℕ} 0 1 = cc in absurd (zero-is-one z)
+
+module _ (h : Header) (nodes scratch pool : List ℕ) (r : PauliRef) (limit : ℕ) where
+  pub hermitian-answers : (x : PauliAxis) (work : ℕ) → hermitianOf r (hermitianStep h nodes scratch pool r limit .answer) ≡ HermitianMade x work
+      → (x ≡ axisOf r) × (real (image (h .qubits) (h .nodes) nodes (r .word) .phase) ≡ true)
+  hermitian-answers x work = go (hermitianStep h nodes scratch pool r limit .answer) refl
+    where
+      go : (y : Out ℕ) → hermitianStep h nodes scratch pool r limit .answer ≡ y → hermitianOf r y ≡ HermitianMade x work
+          → (x ≡ axisOf r) × (real (image (h .qubits) (h .nodes) nodes (r .word) .phase) ≡ true)
+      go (fine w) q e = let same : axisOf r ≡ x = cc in (sym same, hermitian-real h nodes scratch pool r limit w q)
+      go (refused k) q e = let z : _≡_ {A = ℕ} 0 1 = cc in absurd (zero-is-one z)
+
+module _ (h : Header) (nodes ops scratch pool : List ℕ) (limit : ℕ) where
+  pub report-answers : (a b work : ℕ) → maxWeightsOf (reportStep h nodes ops scratch pool limit .answer) ≡ WeightsMade a b work
+      → largest (axesTo (opAt h ops) (h .operations)) (map (λ w. weight (image (h .qubits) (h .nodes) nodes w .letters)) (wordsOf (axesTo (opAt h ops) (h .operations))))
+      ≡ record { nonClifford = a; clifford = b }
+  report-answers a b work = go (reportStep h nodes ops scratch pool limit .answer) refl
+    where
+      go : (y : Out Report) → reportStep h nodes ops scratch pool limit .answer ≡ y → maxWeightsOf y ≡ WeightsMade a b work
+          → largest (axesTo (opAt h ops) (h .operations)) (map (λ w. weight (image (h .qubits) (h .nodes) nodes w .letters)) (wordsOf (axesTo (opAt h ops) (h .operations))))
+          ≡ record { nonClifford = a; clifford = b }
+      go (fine x) q e =
+          let p : x .weights .nonClifford ≡ a = cc in
+          let s : x .weights .clifford ≡ b = cc in
+          sym (report-reads h nodes ops scratch pool limit x q) ∙ (λ i. record { nonClifford = p i; clifford = s i })
+      go (refused k) q e = let z : _≡_ {A = ℕ} 0 1 = cc in absurd (zero-is-one z)

@@ -11,9 +11,9 @@ use Rattle.pauli.specs.Gates.{Gate}
 use Rattle.pauli.specs.Angle.{angleOf, eighthsOf}
 use Rattle.arena.specs.Operations.{measId, rotateWords, measureWords, conditionalWords}
 use Rattle.arena.specs.Builder.{withNodes, withOperation, singleCheck, singleStep, productCheck, productStep, rotateCheck, rotateStep, measureCheck, measureStep, conditionalCheck, conditionalStep}
-use Rattle.arena.specs.Expansion.{opAt, isBadOp}
+use Rattle.arena.specs.Expansion.{opAt, isBadOp, badOperations}
 use Rattle.arena.proofs.Accepted.{fits-rotate, fits-measure, fits-conditional}
-use Rattle.arena.proofs.Readable.{both-false, owned, given, Grows, good-more}
+use Rattle.arena.proofs.Readable.{both-false, owned, given, Grows, good-more, operations-read, operations-used}
 use Rattle.arena.proofs.Written.{op-older, rotate-read, rotate-older, measure-read, measure-older, known, conditional-read, conditional-older}
 use Rattle.convert.specs.Types.{Pauli, I, X, Y, Z, PauliAngle, Header, PauliRef, PauliAxis, MeasId, Target, Rotate, ConditionalRotate, Checked, Fine, Wrong, PushedMade, MeasuredMade}
 use Rattle.convert.specs.Records.{kindOf}
@@ -26,6 +26,12 @@ use Rattle.convert.proofs.calls.Table.{framed}
 pub record Operates (s : Circuit) : Type 0 where
   pub used : 4 * s .header .operations ≤ length (s .operations)
   pub good : (i : ℕ) → i < s .header .operations → isBadOp (s .header) (opAt (s .header) (s .operations) i) ≡ false
+
+pub operates-on : (s : Circuit) → Operates s → badOperations (s .header) (s .operations) ≡ false
+operates-on s O = operations-read (s .header) (s .operations) (O .used) (O .good)
+
+pub operates-back : (s : Circuit) → badOperations (s .header) (s .operations) ≡ false → Operates s
+operates-back s e = let u = operations-used (s .header) (s .operations) e in record { used = u .0; good = u .1 }
 
 module _ (s : Circuit) (O : Operates s) where
   -- more nodes

@@ -14,11 +14,11 @@ use Rattle.pauli.specs.Gates.{Gate}
 use Rattle.arena.specs.Limits.{maxNodes, maxOperations}
 use Rattle.arena.specs.Nodes.{singleWord, productWord, decode, nodeAt, image}
 use Rattle.arena.specs.Builder.{withNodes, withOperation, nodePut, singleCheck, singleStep, productCheck, productStep, rotateCheck, rotateStep, measureCheck, measureStep, conditionalCheck, conditionalStep}
-use Rattle.arena.specs.Expansion.{isMalformed, anyMalformed}
+use Rattle.arena.specs.Expansion.{isMalformed, anyMalformed, badNodes}
 use Rattle.arena.proofs.Overlay.{length-overlay}
 use Rattle.arena.proofs.Accepted.{left-false, right-false, Sound, NodeRoom, fits-single, fits-product, fits-rotate, fits-measure, fits-conditional}
-use Rattle.arena.proofs.Readable.{formed-over, formed-taken, formed-put, product-formed, single-formed}
-use Rattle.convert.specs.Types.{Pauli, I, X, Y, Z, PauliAngle, Header, PauliRef, PauliAxis, MeasId, Target, Checked, Fine, Wrong}
+use Rattle.arena.proofs.Readable.{formed-over, formed-taken, formed-put, product-formed, single-formed, nodes-read, nodes-used}
+use Rattle.convert.specs.Types.{Pauli, I, X, Y, Z, PauliAngle, PauliRef, PauliAxis, MeasId, Target, Checked, Fine, Wrong}
 use Rattle.convert.specs.Records.{kindOf}
 use Rattle.convert.specs.Frame.{Arena, gateNodes, total, frameGates, frameRun, namesUnused, cliffordCheck, opened, cliffordStep}
 use Rattle.convert.specs.Later.{Circuit, circuitOf, LaterCall, callFrame, callSingle, callProduct, callRotate, callMeasure, callConditional, callExpand, callHermitian, callWeights}
@@ -56,6 +56,12 @@ pub record Reads (s : Circuit) : Type 0 where
   pub sound : Sound (s .header)
   pub used : 2 * s .header .nodes ≤ length (s .nodes)
   pub formed : anyMalformed (nodeAt (s .header .qubits) (s .nodes)) (s .header .nodes) ≡ false
+
+pub reads-nodes : (s : Circuit) → Reads s → badNodes (s .header) (s .nodes) ≡ false
+reads-nodes s R = nodes-read (s .header) (s .nodes) (R .sound) (R .used) (R .formed)
+
+pub reads-back : (s : Circuit) → badNodes (s .header) (s .nodes) ≡ false → Reads s
+reads-back s e = let u = nodes-used (s .header) (s .nodes) e in record { sound = u .0; used = u .1; formed = u .2 }
 
 module _ (s : Circuit) (R : Reads s) where
   -- more nodes within the limit

@@ -1,14 +1,13 @@
 -- The measurements of a conversion are numbered in order, and no operation that it writes is malformed or bad.
-use mathlib.Core.Path.{_≡_, refl, ap, sym, _∙_}
+use mathlib.Core.Path.{_≡_, refl}
 use mathlib.Core.Bool.{Bool, true, false, cond, _&&_}
 use mathlib.Core.List.{List, [], _∷_, _++_, map}
-use Prim.Native.Nat.{ℕ, zero, suc, _+_, _*_, _/_, _%_, _≤_, _<_}
+use Prim.Native.Nat.{ℕ, zero, suc, _+_, _/_, _%_, _≤_, _<_}
 use native.Mathlib.Decide.{ℕ-discrete}
 use native.Mathlib.Omega.{arith}
 use lib.Dec.{ltb, leb, eqb}
 use lib.ListN.{length, getD, length-append}
 use Rattle.pauli.specs.Angle.{angleOf}
-use Rattle.pauli.specs.Gates.{Gate}
 use Rattle.pauli.specs.Rotations.{Rotation, flush}
 use Rattle.arena.specs.References.{axisOf}
 use Rattle.arena.specs.Operations.{measId, targetOf, decodeOpAs, decodeOp}
