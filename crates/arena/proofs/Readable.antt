@@ -204,3 +204,17 @@ operations-used h ops e = (
   ltb-false (length ops) (4 * h .operations) (left-false (exceedsOperations h (length ops)) _ e),
   each-good h (opAt h ops) (h .operations) (right-false (exceedsOperations h (length ops)) _ e),
 )
+
+-- a new circuit has none
+pub new-none : (qubits cbits owner : ℕ) (nodes frame : List ℕ) (h : Header) → newStep qubits cbits owner nodes frame .answer ≡ CreatedMade h → (ops : List ℕ) → badOperations h ops ≡ false
+unfolding newStep
+new-none qubits cbits owner nodes frame h e ops = go (newCheck qubits cbits (length nodes) (length frame)) e
+  where
+    made : Step Created NodesAndFrame
+    made = stepOf (CreatedMade (newHeader qubits cbits owner)) (record { nodes = overlay (startNodes qubits) nodes; frame = overlay (startFrame qubits) frame })
+
+    go : (c : Checked) → decided c CreatedRefused (record { nodes = nodes; frame = frame }) made .answer ≡ CreatedMade h → badOperations h ops ≡ false
+    go Fine p =
+        let eh : newHeader qubits cbits owner ≡ h = cc in
+        rw (← eh) (operations-read (newHeader qubits cbits owner) ops (omega arith) (λ i lt. absurd (omega arith)))
+    go (Wrong w) p = let z : _≡_ {A = ℕ} 0 1 = cc in absurd (omega arith)

@@ -109,10 +109,10 @@ pub conditional-older : (h : Header) (ops : List ℕ) (x : PauliAxis) (k : Pauli
     → (i : ℕ) → i < h .operations → opAt h′ (conditionalStep h ops x k m .words) i ≡ opAt h ops i
 conditional-older = Written.conditional-older
 
--- the nodes of a new circuit can be read
+-- a new circuit can be read, and needs no operation words
 pub new-readable : (qubits cbits owner : ℕ) (nodes frame : List ℕ) (h : Header) → newStep qubits cbits owner nodes frame .answer ≡ CreatedMade h
-    → badNodes h (newStep qubits cbits owner nodes frame .words .nodes) ≡ false
-new-readable = Readable.new-read
+    → (badNodes h (newStep qubits cbits owner nodes frame .words .nodes) ≡ false) × ((ops : List ℕ) → badOperations h ops ≡ false)
+new-readable q c o nodes frame h e = (Readable.new-read q c o nodes frame h e, Readable.new-none q c o nodes frame h e)
 
 -- ---- the factor pool, after any sequence of its operations
 

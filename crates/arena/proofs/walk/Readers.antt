@@ -21,7 +21,7 @@ use Rattle.arena.specs.Readers.{firstOf, Expanded, expandWalk, hermitian
 use Rattle.arena.specs.Expansion.{ExpansionMade, HermitianMade, WeightsMade, expansionOf, hermitianOf, maxWeightsOf, badNodes, badOperations, opAt, isBadOp, anyBadOp, weighedOf, axesTo, roomIn, lettersLeft, expandBy, expandCheck, expandStep, walkBy, hermitianCheck, hermitianStep, reportCheck, reportStep}
 use Rattle.arena.proofs.Accepted.{passed-before, test-passed, left-false, right-false, own}
 use Rattle.arena.proofs.walk.Reports.{expand-means, hermitian-means, report-means}
-use Rattle.arena.proofs.walk.Refusals.{Limited, limited-bind, limited-walk, limited-not, errors-differ, bad-limit, bad-pool, refused-before, test-error, test-failed}
+use Rattle.arena.proofs.walk.Errors.{Limited, limited-bind, limited-walk, limited-not, errors-differ, bad-limit, bad-pool, refused-before, test-error, test-failed}
 
 zero-is-one : _≡_ {A = ℕ} 0 1 → ⊥
 zero-is-one z = omega arith
