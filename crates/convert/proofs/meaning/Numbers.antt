@@ -1,4 +1,4 @@
--- The measurements of a conversion are numbered in order, and no operation that it writes is malformed or bad.
+-- No operation that a conversion writes is malformed, and each names nodes and measurements that are in use.
 use mathlib.Core.Path.{_≡_, refl}
 use mathlib.Core.Bool.{Bool, true, false, cond, _&&_}
 use mathlib.Core.List.{List, [], _∷_, _++_, map}
@@ -50,7 +50,7 @@ numbered-rotations : (m : ℕ) (rs : List Rotation) → AllNumbered m (map asRot
 numbered-rotations m [] = tt
 numbered-rotations m (r ∷ rs) = (tt, numbered-rotations m rs)
 
--- as many measurements as are given, and no more than operations
+-- each measurement that is named is given, and no more are given than there are operations
 pub record Given (p : Plain) : Type 0 where
   pub numbered : AllNumbered (p .given) (p .operations)
   pub few : p .given ≤ length (p .operations)
