@@ -6,6 +6,8 @@ pub mod NodeRows
 pub mod Spans
 pub mod Images
 pub mod Answers
+pub mod Written
+pub mod Readable
 pub mod walk
 pub mod DecodedNodes
 pub mod SparseProducts

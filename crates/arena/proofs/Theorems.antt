@@ -1,31 +1,37 @@
 -- What is proved of the arena, in the words of specs/ alone.
-use mathlib.Core.Path.{_≡_}
-use mathlib.Core.Bool.{true, cond}
-use mathlib.Core.List.{List, [], _∷_, map}
+use mathlib.Core.Path.{_≡_, sym}
+use mathlib.Core.Bool.{true, false, cond, _||_}
+use mathlib.Core.List.{List, [], _∷_, _++_, map}
 use Prim.Native.Nat.{ℕ, _+_, _-_, _*_, _≤_, _<_}
-use lib.ListN.{length, take}
-use Rattle.pauli.specs.Letters.{real}
+use lib.ListN.{length, take, drop}
+use Rattle.pauli.specs.Letters.{pauliNumber, real}
+use Rattle.pauli.specs.Angle.{angleOf, eighthsOf}
 use Rattle.pauli.specs.Rows.{_★_, scaled, single, present, weight}
 use Rattle.pauli.specs.Table.{start}
-use Rattle.arena.specs.Types.{Pauli, Phase}
-use Rattle.arena.specs.Errors.{PbcError, NonHermitianAxis, Fine, Wrong}
-use Rattle.arena.specs.References.{PauliRef, PauliAxis, nodeIn, scaledWord}
+use Rattle.arena.specs.Types.{Pauli, Phase, PauliAngle}
+use Rattle.arena.specs.Errors.{PbcError, BadStore, NonHermitianAxis, Fine, Wrong}
+use Rattle.arena.specs.References.{PauliRef, PauliAxis, axisOf, nodeIn, scaledWord}
 use Rattle.arena.specs.Nodes.{nodeAt, image}
+use Rattle.arena.specs.Operations.{MeasId, measId, Target, Rotate, Measure, ConditionalRotate}
 use Rattle.arena.specs.Store.{Header}
-use Rattle.arena.specs.Builder.{CreatedMade, SingledMade, MultipliedMade, newStep, singleStep, productStep}
+use Rattle.arena.specs.Builder.{CreatedMade, SingledMade, MultipliedMade, PushedMade, MeasuredMade, newStep, singleStep, productStep, rotateStep, measureStep, conditionalStep}
 use Rattle.arena.specs.Sparse.{size, dense}
 use Rattle.arena.specs.Walk.{Named, fine, refused, State, Walked, charge, walkNodes, Answer, walk}
-use Rattle.arena.specs.Readers.{Expanded, expandWalk, hermitianWalk, Weighed, largest, wordsOf, reportWalk}
+use Rattle.arena.specs.Readers.{Expanded, expandWalk, hermitianWalk, Weighed, largest, wordsOf, Report, reportWalk}
+use Rattle.arena.specs.Expansion.{ExpansionMade, HermitianMade, WeightsMade, expansionOf, hermitianOf, maxWeightsOf, opAt, badNodes, badOperations, expandStep, hermitianStep, axesTo, reportStep}
 use Rattle.arena.specs.Stats.{Within, Refused, workAfter, chargeAnswer}
 use Rattle.arena.specs.Calls.{Call, Slices, checked, after, KeptSlices}
 use Rattle.arena.specs.Pool.{Lendable}
 use Rattle.arena.specs.PoolRuns.{Held, World, factorsHeld, Without, Run, lentIn, backIn, Once, InChain, InFree}
 use Rattle.arena.proofs.NodeRows
 use Rattle.arena.proofs.Answers
+use Rattle.arena.proofs.Written
+use Rattle.arena.proofs.Readable
 use Rattle.arena.proofs.Spans
 use Rattle.arena.proofs.walk.Means
 use Rattle.arena.proofs.walk.Ends
 use Rattle.arena.proofs.walk.Reports
+use Rattle.arena.proofs.walk.Readers
 use Rattle.arena.proofs.walk.Charges
 use Rattle.arena.proofs.chains.Safe
 use Rattle.arena.specs.Limits.{capOf}
@@ -73,6 +79,40 @@ scaled-image = NodeRows.image-scaled
 pub new-images : (qubits cbits owner : ℕ) (nodes frame : List ℕ) (h : Header) → newStep qubits cbits owner nodes frame .answer ≡ CreatedMade h
     → map (image (h .qubits) (h .nodes) (newStep qubits cbits owner nodes frame .words .nodes)) (take (2 * h .qubits) (newStep qubits cbits owner nodes frame .words .frame)) ≡ start (h .qubits)
 new-images = Answers.new-answer
+
+-- ---- what is written is what is read
+
+-- the operation that a call adds reads, at the next place, as it was asked for; angles count modulo 8
+pub rotate-read : (h : Header) (ops : List ℕ) (x : PauliAxis) (k : PauliAngle) (h′ : Header) → rotateStep h ops x k .answer ≡ PushedMade h′
+    → opAt h′ (rotateStep h ops x k .words) (h .operations) ≡ Rotate x (angleOf (eighthsOf k))
+rotate-read = Written.rotate-read
+
+-- with the number of the next measurement, which the call answers
+pub measure-read : (h : Header) (ops : List ℕ) (x : PauliAxis) (t : Target) (h′ : Header) (m : MeasId) → measureStep h ops x t .answer ≡ MeasuredMade h′ m
+    → (m ≡ measId (h .owner) (h .measurements)) × (opAt h′ (measureStep h ops x t .words) (h .operations) ≡ Measure x m t)
+measure-read h ops x t h′ m e = (sym (Written.measure-made h ops x t h′ m e .2), Written.measure-read h ops x t h′ m e)
+
+pub conditional-read : (h : Header) (ops : List ℕ) (x : PauliAxis) (k : PauliAngle) (m : MeasId) (h′ : Header) → conditionalStep h ops x k m .answer ≡ PushedMade h′
+    → opAt h′ (conditionalStep h ops x k m .words) (h .operations) ≡ ConditionalRotate x (angleOf (eighthsOf k)) m
+conditional-read = Written.conditional-read
+
+-- older operations read as before
+pub rotate-older : (h : Header) (ops : List ℕ) (x : PauliAxis) (k : PauliAngle) (h′ : Header) → rotateStep h ops x k .answer ≡ PushedMade h′
+    → (i : ℕ) → i < h .operations → opAt h′ (rotateStep h ops x k .words) i ≡ opAt h ops i
+rotate-older = Written.rotate-older
+
+pub measure-older : (h : Header) (ops : List ℕ) (x : PauliAxis) (t : Target) (h′ : Header) (m : MeasId) → measureStep h ops x t .answer ≡ MeasuredMade h′ m
+    → (i : ℕ) → i < h .operations → opAt h′ (measureStep h ops x t .words) i ≡ opAt h ops i
+measure-older = Written.measure-older
+
+pub conditional-older : (h : Header) (ops : List ℕ) (x : PauliAxis) (k : PauliAngle) (m : MeasId) (h′ : Header) → conditionalStep h ops x k m .answer ≡ PushedMade h′
+    → (i : ℕ) → i < h .operations → opAt h′ (conditionalStep h ops x k m .words) i ≡ opAt h ops i
+conditional-older = Written.conditional-older
+
+-- a new circuit can be read, and needs no operation words
+pub new-readable : (qubits cbits owner : ℕ) (nodes frame : List ℕ) (h : Header) → newStep qubits cbits owner nodes frame .answer ≡ CreatedMade h
+    → (badNodes h (newStep qubits cbits owner nodes frame .words .nodes) ≡ false) × ((ops : List ℕ) → badOperations h ops ≡ false)
+new-readable q c o nodes frame h e = (Readable.new-read q c o nodes frame h e, Readable.new-none q c o nodes frame h e)
 
 -- ---- the factor pool, after any sequence of its operations
 
@@ -146,6 +186,59 @@ pub report-means : (limit room n count : ℕ) (words : List ℕ) (axes : List We
     → reportWalk limit room n count words axes
     ≡ fine (record { weights = largest axes (map (λ w. weight (image n count words w .letters)) (wordsOf axes)); work = a .work })
 report-means = Reports.report-means
+
+-- ---- readers, from their contract alone
+
+-- an accepted expansion is the image, and its letters stand by their numbers in the first of the letters lent
+pub expand-reads : (h : Header) (nodes letters scratch pool : List ℕ) (r : PauliRef) (cells : ℕ) (x : Expanded) → expandStep h nodes letters scratch pool r cells .answer ≡ fine x
+    → (x .row ≡ image (h .qubits) (h .nodes) nodes (r .word))
+    × (expandStep h nodes letters scratch pool r cells .letters ≡ map pauliNumber (image (h .qubits) (h .nodes) nodes (r .word) .letters) ++ drop (h .qubits) letters)
+expand-reads = Readers.expand-reads
+
+-- an accepted axis has an image of phase 1 or -1, one refused as not Hermitian has not
+pub hermitian-reads : (h : Header) (nodes scratch pool : List ℕ) (r : PauliRef) (limit work : ℕ) → hermitianStep h nodes scratch pool r limit .answer ≡ fine work
+    → real (image (h .qubits) (h .nodes) nodes (r .word) .phase) ≡ true
+hermitian-reads = Readers.hermitian-real
+
+pub hermitian-refuses : (h : Header) (nodes scratch pool : List ℕ) (r : PauliRef) (limit : ℕ) → hermitianStep h nodes scratch pool r limit .answer ≡ refused NonHermitianAxis
+    → real (image (h .qubits) (h .nodes) nodes (r .word) .phase) ≡ false
+hermitian-refuses = Readers.hermitian-unreal
+
+-- an accepted report has the largest weights among the images of the axes
+pub report-reads : (h : Header) (nodes ops scratch pool : List ℕ) (limit : ℕ) (x : Report) → reportStep h nodes ops scratch pool limit .answer ≡ fine x
+    → let axes = axesTo (opAt h ops) (h .operations) in
+    x .weights ≡ largest axes (map (λ w. weight (image (h .qubits) (h .nodes) nodes w .letters)) (wordsOf axes))
+report-reads = Readers.report-reads
+
+-- what a caller gets of these: the phase of the image, the reference itself as an axis, and the two largest weights
+pub expand-answers : (h : Header) (nodes letters scratch pool : List ℕ) (r : PauliRef) (cells : ℕ) (phase : Phase) (work : ℕ)
+    → expansionOf (expandStep h nodes letters scratch pool r cells .answer) ≡ ExpansionMade phase work
+    → (phase ≡ image (h .qubits) (h .nodes) nodes (r .word) .phase)
+    × (expandStep h nodes letters scratch pool r cells .letters ≡ map pauliNumber (image (h .qubits) (h .nodes) nodes (r .word) .letters) ++ drop (h .qubits) letters)
+expand-answers = Readers.expand-answers
+
+pub hermitian-answers : (h : Header) (nodes scratch pool : List ℕ) (r : PauliRef) (limit : ℕ) (x : PauliAxis) (work : ℕ)
+    → hermitianOf r (hermitianStep h nodes scratch pool r limit .answer) ≡ HermitianMade x work
+    → (x ≡ axisOf r) × (real (image (h .qubits) (h .nodes) nodes (r .word) .phase) ≡ true)
+hermitian-answers = Readers.hermitian-answers
+
+pub report-answers : (h : Header) (nodes ops scratch pool : List ℕ) (limit a b work : ℕ) → maxWeightsOf (reportStep h nodes ops scratch pool limit .answer) ≡ WeightsMade a b work
+    → let axes = axesTo (opAt h ops) (h .operations) in
+    largest axes (map (λ w. weight (image (h .qubits) (h .nodes) nodes w .letters)) (wordsOf axes)) ≡ record { nonClifford = a; clifford = b }
+report-answers = Readers.report-answers
+
+-- 3 is answered for a bad store alone
+pub expand-bad : (h : Header) (nodes letters scratch pool : List ℕ) (r : PauliRef) (cells : ℕ) → expandStep h nodes letters scratch pool r cells .answer ≡ refused BadStore
+    → badNodes h nodes ≡ true
+expand-bad = Readers.expand-bad
+
+pub hermitian-bad : (h : Header) (nodes scratch pool : List ℕ) (r : PauliRef) (limit : ℕ) → hermitianStep h nodes scratch pool r limit .answer ≡ refused BadStore
+    → badNodes h nodes ≡ true
+hermitian-bad = Readers.hermitian-bad
+
+pub report-bad : (h : Header) (nodes ops scratch pool : List ℕ) (limit : ℕ) → reportStep h nodes ops scratch pool limit .answer ≡ refused BadStore
+    → (badNodes h nodes || badOperations h ops) ≡ true
+report-bad = Readers.report-bad
 
 -- ---- a charge is the walk's charge
 

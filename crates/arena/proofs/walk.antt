@@ -11,4 +11,6 @@ pub mod Ends
 pub mod Loops
 pub mod Bounds
 pub mod Reports
+pub mod Errors
+pub mod Readers
 pub mod Charges

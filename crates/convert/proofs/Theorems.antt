@@ -1,14 +1,12 @@
 -- What is claimed of the conversion and of the later calls, in the words of specs/.
 use mathlib.Core.Path.{_≡_, refl, ap, ap₂, sym, _∙_, subst}
 use mathlib.Core.Logic.{_≢_}
-use mathlib.Core.Bool.{false}
+use mathlib.Core.Bool.{false, true≢false}
 use mathlib.Core.List.{List, [], _∷_, map}
-use Prim.Native.Nat.{ℕ, _*_, _/_, _<_}
+use Prim.Native.Nat.{ℕ, _*_, _≤_, _<_}
 use native.Mathlib.Omega.{arith}
-use borrow.Author.Tests.{leb-false}
-use lib.Dec.{leb}
 use lib.ListN.{length, take}
-use lib.Seq.{take-all, length-take-le}
+use lib.Seq.{take-all}
 use Rattle.pauli.specs.Rows.{Row, Width}
 use Rattle.pauli.specs.Gates.{act₁, act₂, forward, Gate, AllValid}
 use Rattle.pauli.specs.Table.{run, table}
@@ -17,22 +15,25 @@ use Rattle.pauli.proofs.Table.{table-rows}
 use Rattle.pauli.proofs.Theorems.{flush-as-gates, table-is-back, table-real, independent}
 use Rattle.arena.specs.Nodes.{image}
 use Rattle.arena.specs.Builder.{overlay}
-use Rattle.arena.specs.Expansion.{opAt}
+use Rattle.arena.specs.Walk.{fine, refused as refusedWith}
+use Rattle.arena.specs.Readers.{Report}
+use Rattle.arena.specs.Expansion.{badNodes, opAt, badOperations, expandStep, hermitianStep, reportStep}
 use Rattle.arena.proofs.NodeRows.{image-older}
-use Rattle.arena.proofs.Accepted.{left-false, right-false}
-use Rattle.convert.specs.Types.{PbcError, Fine, Wrong}
-use Rattle.convert.specs.Records.{KindY, KindSx, KindSwap, KindCy, Cap, records, lowerAll, kindOf, Elementary, Placed, bare, AllProper}
+use Rattle.arena.proofs.Readable.{both-false}
+use Rattle.arena.proofs.Theorems.{expand-bad, hermitian-bad, report-bad}
+use Rattle.convert.specs.Types.{Header, PauliRef, PbcError, BadStore, Fine, Wrong}
+use Rattle.convert.specs.Records.{KindY, KindSx, KindSwap, KindCy, Cap, AtMost, records, lowerAll, kindOf, Elementary, Placed, bare, AllProper}
 use Rattle.convert.specs.Plain.{plainBegin, plainRun}
 use Rattle.convert.specs.Paper.{AllHermitian}
-use Rattle.convert.specs.Frame.{Arena, frameGates, namesUnused, cliffordCheck, opened}
+use Rattle.convert.specs.Frame.{Arena, frameGates, cliffordCheck, opened}
 use Rattle.convert.specs.Words.{Words, decoded, meaning, opsFrom, operationsIn, wordRun, startWords}
 use Rattle.convert.specs.Conversion.{limits, Input, gatesIn, plainEnd, tableEnd, paperEnd, wordEnd, convertCheck, convertedHeader, ConvertedMade, ConvertedRefused, convertWithin, convertStep}
-use Rattle.convert.specs.Later.{Circuit, converted, LaterCall, callFrame, later, laters}
-use Rattle.convert.specs.Statement.{Capped, Frame, Means, frameImages, Converts, endTable, endGates, Demand3}
+use Rattle.convert.specs.Later.{Circuit, converted, LaterCall, callFrame, later, laters, AllCarried}
+use Rattle.convert.specs.Statement.{AllWithin, Capped, Frame, Means, frameImages, Converts, endTable, endGates, Demand3}
 use Rattle.convert.specs.Lowering.{ruleY, ruleSx, ruleSwap, ruleCy, loweredActs}
 use Rattle.convert.specs.Circuits.{HandCircuits}
 use Rattle.convert.proofs.meaning.Nodes.{image-append}
-use Rattle.convert.proofs.meaning.FrameRows.{Under, Keeps, kept-map, Shows, shown}
+use Rattle.convert.proofs.meaning.FrameRows.{Keeps, kept-map, Shows, shown}
 use Rattle.convert.proofs.meaning.Words.{Meant, meant, reads-kept}
 use Rattle.convert.proofs.meaning.Papers.{Agrees, agrees, table-run}
 use Rattle.convert.proofs.meaning.Signs.{hermitian}
@@ -41,7 +42,10 @@ use Rattle.convert.proofs.meaning.Cap.{capped}
 use Rattle.convert.proofs.calls.Table.{framed, shows-framed, later-framed, Good, good-laters, made-step, meant-input, good-converted}
 use Rattle.convert.proofs.meaning.Lowered.{y-acts, sx-acts, swap-acts, cy-acts}
 use Rattle.convert.proofs.HandCircuits.{hand-circuits}
-use Rattle.convert.proofs.meaning.Operations.{AllFour, four-run, ops-read}
+use Rattle.convert.proofs.meaning.Operations.{ops-read}
+use Rattle.convert.proofs.calls.Readable.{rowsOpened, gate-shows, reads-nodes, reads-back, reads-laters}
+use Rattle.convert.proofs.calls.Operations.{operates-on, operates-back, operates-laters}
+use Rattle.convert.proofs.calls.Converted.{four-words, reads-converted, operates-converted, report-within, converted-made}
 
 -- ---- Means
 
@@ -109,19 +113,13 @@ module _ (n : ℕ) (s : Circuit) (t : List Row) (q : s .header .qubits ≡ n) (S
 
 -- ---- a frame gate by itself, on whatever words it is lent
 
-under-named : (k : ℕ) (ws : List ℕ) → namesUnused k ws ≡ false → Under k ws
-under-named k [] e = tt
-under-named k (w ∷ ws) e =
-    let h : w / 4 < k = leb-false k (w / 4) (left-false _ (namesUnused k ws) e) in
-    (omega arith, under-named k ws (right-false (leb k (w / 4)) _ e))
-
 -- each row of images is rewritten by the rule of the gate
 pub frame-gate : (s : Circuit) (k a b : ℕ) → cliffordCheck (s .header) (length (s .nodes)) (s .frame) k a b ≡ Fine
     → frameImages (later (callFrame k a b) s) ≡ run (s .header .qubits) (frameGates (kindOf k) a b) (frameImages s)
 frame-gate s k a b e =
     ap frameImages (later-framed s k a b e)
-    ∙ images-are n (framed (frameGates (kindOf k) a b) s) _ refl (shows-framed s t (frameGates (kindOf k) a b) (f .valid) S)
-    ∙ ap (run n (frameGates (kindOf k) a b)) (sym (images-are n s t refl S))
+    ∙ images-are n (framed (frameGates (kindOf k) a b) s) _ refl (shows-framed s (rowsOpened s) (frameGates (kindOf k) a b) (f .valid) S)
+    ∙ ap (run n (frameGates (kindOf k) a b)) (sym (images-are n s (rowsOpened s) refl S))
   where
     n : ℕ
     n = s .header .qubits
@@ -129,23 +127,10 @@ frame-gate s k a b e =
     f : FitsGate (s .header) (length (s .nodes)) (s .frame) k a b
     f = fits-gate (s .header) (length (s .nodes)) (s .frame) k a b e
 
-    t : List Row
-    t = map (image n (s .header .nodes) (take (2 * s .header .nodes) (s .nodes))) (take (2 * n) (s .frame))
-
-    S : Shows n (opened (s .header) (s .nodes) (s .frame)) t
-    S = record {
-      even = length-take-le (2 * s .header .nodes) (s .nodes) (f .used);
-      some = f .some;
-      size = length-take-le (2 * n) (s .frame) (f .places) ∙ omega arith;
-      under = under-named (s .header .nodes) (take (2 * n) (s .frame)) (f .named);
-      rows = refl;
-    }
+    S : Shows n (opened (s .header) (s .nodes) (s .frame)) (rowsOpened s)
+    S = gate-shows s k a b f
 
 -- ---- an accepted conversion is that of the papers
-
-four-words : (x : Input) → AllFour (wordEnd x .ops)
-unfolding wordEnd startWords
-four-words x = four-run (x .qubits) (x .cap) (gatesIn x) (plainBegin (x .qubits)) (startWords (x .qubits)) tt
 
 operations-read : (x : Input) → convertCheck limits x ≡ Fine
     → operationsIn (convertedHeader x) (convertStep x .nodes) (convertStep x .operations) ≡ paperEnd x .operations
@@ -213,6 +198,53 @@ pub refused : (x : Input) (error : PbcError) → convertCheck limits x ≡ Wrong
     → (convertStep x .answer ≡ ConvertedRefused error) × (convertStep x .nodes ≡ x .nodes) × (convertStep x .operations ≡ x .operations) × (convertStep x .frame ≡ x .frame)
 unfolding convertStep convertWithin
 refused x error e = rw e (refl, refl, refl, refl)
+
+-- ---- every result can be read
+
+-- a conversion answers a header where no check refuses, and that of the definition
+pub made-back : (x : Input) (h : Header) → convertStep x .answer ≡ ConvertedMade h → (convertCheck limits x ≡ Fine) × (h ≡ convertedHeader x)
+made-back = converted-made
+
+-- no later call makes a circuit unreadable: limits hold, the nodes in use are lent, and none of them is malformed
+pub nodes-stay-readable : (cs : List LaterCall) (s : Circuit) → badNodes (s .header) (s .nodes) ≡ false → badNodes (laters cs s .header) (laters cs s .nodes) ≡ false
+nodes-stay-readable cs s e = reads-nodes (laters cs s) (reads-laters cs s (reads-back s e))
+
+-- nor its operations, where the caller carries those in use along: each is well formed and names nodes and measurements in use
+pub operations-stay-readable : (cs : List LaterCall) (s : Circuit) → AllCarried cs s → badOperations (s .header) (s .operations) ≡ false
+    → badOperations (laters cs s .header) (laters cs s .operations) ≡ false
+operations-stay-readable cs s a e = operates-on (laters cs s) (operates-laters cs s a (operates-back s e))
+
+-- so what an accepted conversion and any later calls leave can be read
+pub nodes-readable : (x : Input) → convertCheck limits x ≡ Fine → (cs : List LaterCall)
+    → badNodes (laters cs (converted x) .header) (laters cs (converted x) .nodes) ≡ false
+nodes-readable x e cs = reads-nodes (laters cs (converted x)) (reads-laters cs (converted x) (reads-converted x e))
+
+pub operations-readable : (x : Input) → convertCheck limits x ≡ Fine → (cs : List LaterCall) → AllCarried cs (converted x)
+    → badOperations (laters cs (converted x) .header) (laters cs (converted x) .operations) ≡ false
+operations-readable x e cs a = operates-on (laters cs (converted x)) (operates-laters cs (converted x) a (operates-converted x e))
+
+-- and no reader is refused with 3
+pub expand-never-bad-store : (x : Input) → convertCheck limits x ≡ Fine → (cs : List LaterCall) (letters scratch pool : List ℕ) (r : PauliRef) (cells : ℕ)
+    → expandStep (laters cs (converted x) .header) (laters cs (converted x) .nodes) letters scratch pool r cells .answer ≢ refusedWith BadStore
+expand-never-bad-store x e cs letters scratch pool r cells p =
+    true≢false (sym (expand-bad (laters cs (converted x) .header) (laters cs (converted x) .nodes) letters scratch pool r cells p) ∙ nodes-readable x e cs)
+
+pub hermitian-never-bad-store : (x : Input) → convertCheck limits x ≡ Fine → (cs : List LaterCall) (scratch pool : List ℕ) (r : PauliRef) (limit : ℕ)
+    → hermitianStep (laters cs (converted x) .header) (laters cs (converted x) .nodes) scratch pool r limit .answer ≢ refusedWith BadStore
+hermitian-never-bad-store x e cs scratch pool r limit p =
+    true≢false (sym (hermitian-bad (laters cs (converted x) .header) (laters cs (converted x) .nodes) scratch pool r limit p) ∙ nodes-readable x e cs)
+
+pub report-never-bad-store : (x : Input) → convertCheck limits x ≡ Fine → (cs : List LaterCall) → AllCarried cs (converted x) → (scratch pool : List ℕ) (limit : ℕ)
+    → reportStep (laters cs (converted x) .header) (laters cs (converted x) .nodes) (laters cs (converted x) .operations) scratch pool limit .answer ≢ refusedWith BadStore
+report-never-bad-store x e cs a scratch pool limit p =
+    true≢false (sym (report-bad (laters cs (converted x) .header) (laters cs (converted x) .nodes) (laters cs (converted x) .operations) scratch pool limit p)
+    ∙ both-false _ _ (nodes-readable x e cs) (operations-readable x e cs a))
+
+-- a report on an accepted conversion under a cap answers no larger weight, but for Clifford rotations
+pub report-capped : (x : Input) → convertCheck limits x ≡ Fine → (cap : ℕ) → x .cap ≡ AtMost cap → (scratch pool : List ℕ) (limit : ℕ) (r : Report)
+    → reportStep (convertedHeader x) (convertStep x .nodes) (convertStep x .operations) scratch pool limit .answer ≡ fine r → r .weights .nonClifford ≤ cap
+report-capped x e cap c scratch pool limit r p = report-within (convertedHeader x) (convertStep x .nodes) (convertStep x .operations) scratch pool limit r cap p
+    (subst (AllWithin cap) (sym (converts x e .operations)) (subst (λ k. Capped k (paperEnd x .operations)) c (converts x e .capped)))
 
 -- ---- lowering: the lowered gates act by conjugation as the gate does
 

@@ -3,6 +3,8 @@ pub mod Nodes
 pub mod FrameRows
 pub mod StartRows
 pub mod Words
+pub mod Formed
+pub mod Numbers
 pub mod Papers
 pub mod Signs
 pub mod Pending

@@ -268,7 +268,7 @@ valid-append n (g ∷ gs) hs vs v = (vs .0, valid-append n gs hs (vs .1) v)
 pub bare-snoc : {A : Type 0} (gs : List (Placed A)) (i j : ℕ) (g : A) → bare (gs ++ placed i j g ∷ []) ≡ bare gs ++ g ∷ []
 bare-snoc gs i j g = map-append _ gs (placed i j g ∷ [])
 
-meant-begin : (n o c : ℕ) → Meant n o c (plainBegin n) (startWords n)
+pub meant-begin : (n o c : ℕ) → Meant n o c (plainBegin n) (startWords n)
 unfolding plainBegin startWords table run
 meant-begin n o c = record {
   core = record { shows = shows-begin n; leaves = leaves-start n; written = record { below = tt; reads = refl } };
@@ -276,7 +276,7 @@ meant-begin n o c = record {
   table-of = refl;
 }
 
-meant-flushed : (n o c : ℕ) (p : Plain) (w : Words) → Meant n o c p w → Meant n o c (flushed flush n p) (flushWords n (bare (p .pending)) w)
+pub meant-flushed : (n o c : ℕ) (p : Plain) (w : Words) → Meant n o c p w → Meant n o c (flushed flush n p) (flushWords n (bare (p .pending)) w)
 unfolding flushed flushWords table run
 meant-flushed n o c p w M = record {
   core = core-restarted n o c (flushGates (bare (p .pending)) w) (p .table) _ (flush-gates n o c (bare (p .pending)) w (p .table) (p .operations) (M .core) (M .valid));
@@ -339,7 +339,7 @@ module _ (n o c : ℕ) (i j : ℕ) (p : Plain) (w : Words) (M : Meant n o c p w)
     table-of = M .table-of;
   }
 
-meant-step : (n o c : ℕ) (cap : Cap) (e : Placed Elementary) (p : Plain) (w : Words) → Proper n c (e .gate) → Meant n o c p w
+pub meant-step : (n o c : ℕ) (cap : Cap) (e : Placed Elementary) (p : Plain) (w : Words) → Proper n c (e .gate) → Meant n o c p w
     → Meant n o c (plainStep flush n cap e p) (wordStep n cap e p w)
 unfolding plainStep wordStep flushed
 meant-step n o c cap e p w v M = go (exceeds n cap (p .table) (e .gate))

@@ -1,0 +1,173 @@
+-- An operation that a call adds is read back as it was asked for, and the older ones read as before.
+use mathlib.Core.Path.{_≡_, refl, ap, ap₂, sym, _∙_}
+use mathlib.Core.Logic.{inl}
+use mathlib.Core.Bool.{false}
+use mathlib.Core.List.{List, [], _∷_, _++_, append-assoc}
+use Prim.Native.Nat.{ℕ, suc, _+_, _*_, _/_, _%_, _≤_, _<_}
+use native.Mathlib.Numerals.{add-one}
+use native.Mathlib.Omega.{arith}
+use borrow.Author.Tests.{lt-ltb, le-leb, leb-false, eqb-true, not-false}
+use lib.Dec.{eqb, leb}
+use lib.ListN.{length, getD, take, drop, List·getD-append}
+use lib.Seq.{sets, sets-eq, getD-append-add, length-take-le}
+use Rattle.pauli.specs.Angle.{angleOf, eighthsOf}
+use Rattle.arena.specs.Types.{PauliAngle}
+use Rattle.arena.specs.Limits.{operationWords}
+use Rattle.arena.specs.Errors.{Checked, Fine, Wrong}
+use Rattle.arena.specs.References.{PauliAxis, axisOf}
+use Rattle.arena.specs.Operations.{MeasId, measId, Target, Bit, NoTarget, targetWord, Rotate, Measure, ConditionalRotate, decodeOp}
+use Rattle.arena.specs.Store.{Header, unknown, targetOutside}
+use Rattle.arena.specs.Builder.{stepOf, decided, withOperation, PushedMade, PushedRefused, MeasuredMade, MeasuredRefused, rotateCheck, rotateStep, measureCheck, measureStep, conditionalCheck, conditionalStep}
+use Rattle.arena.specs.Calls.{callRotate, callMeasure, callConditional, Slices, checked, after}
+use Rattle.arena.specs.Expansion.{opAt}
+use Rattle.arena.proofs.Accepted.{passed-before, test-passed, left-false, Own, fits-rotate, fits-measure, fits-conditional}
+use Rattle.arena.proofs.Spans.{accepted-used-only}
+
+zero-is-one : _≡_ {A = ℕ} 0 1 → ⊥
+zero-is-one z = omega arith
+
+-- ---- the four words of an operation
+
+module _ (ws : List ℕ) (k : ℕ) (vs : List ℕ) (room : 4 * k + length vs ≤ length ws) where
+  word-put : (j m : ℕ) → m ≡ 4 * k + j → j < length vs → getD (sets ws (4 * k) vs) m 0 ≡ getD vs j 0
+  word-put j m at lt =
+      let size : length (take (4 * k) ws) ≡ 4 * k = length-take-le (4 * k) ws (omega arith) in
+      ap₂ (λ l p. getD l p 0) (sets-eq vs ws (4 * k) room ∙ append-assoc (take (4 * k) ws) vs (drop (4 * k + length vs) ws)) (at ∙ ap (λ i. i + j) (sym size))
+      ∙ getD-append-add (take (4 * k) ws) (vs ++ drop (4 * k + length vs) ws) j 0
+      ∙ List·getD-append vs (drop (4 * k + length vs) ws) 0 j lt
+
+op-put : (h : Header) (ws : List ℕ) (k a b c d : ℕ) → k + 1 ≤ length ws / operationWords
+    → opAt h (sets ws (4 * k) (a ∷ b ∷ c ∷ d ∷ [])) k ≡ decodeOp (h .owner) (h .cbits) a b c d
+unfolding opAt
+op-put h ws k a b c d lent = λ t. decodeOp (h .owner) (h .cbits) (word 0 (4 * k) (omega arith) (omega arith) t) (word 1 (4 * k + 1) (omega arith) (omega arith) t)
+    (word 2 (4 * k + 2) (omega arith) (omega arith) t) (word 3 (4 * k + 3) (omega arith) (omega arith) t)
+  where
+    word : (j m : ℕ) → m ≡ 4 * k + j → j < 4 → getD (sets ws (4 * k) (a ∷ b ∷ c ∷ d ∷ [])) m 0 ≡ getD (a ∷ b ∷ c ∷ d ∷ []) j 0
+    word j m at lt = word-put ws k (a ∷ b ∷ c ∷ d ∷ []) (omega arith) j m at lt
+
+-- words that agree below operation k give the older ones the same meaning
+pub op-older : (h : Header) (k : ℕ) (ws vs : List ℕ) → ((j : ℕ) → j < 4 * k → getD vs j 0 ≡ getD ws j 0) → (i : ℕ) → i < k → opAt h vs i ≡ opAt h ws i
+unfolding opAt
+op-older h k ws vs same i lt = λ t. decodeOp (h .owner) (h .cbits) (same (4 * i) (omega arith) t) (same (4 * i + 1) (omega arith) t)
+    (same (4 * i + 2) (omega arith) t) (same (4 * i + 3) (omega arith) t)
+
+-- ---- decoding what was encoded
+
+own-axis : (h : Header) (x : PauliAxis) → Own h (x .0) → axisOf (record { owner = h .owner; word = x .0 .word }) ≡ x
+own-axis h x o = ap (λ owner. axisOf (record { owner = owner; word = x .0 .word })) (sym (o .owner))
+
+own-outcome : (h : Header) (m : MeasId) → unknown h m ≡ false → measId (h .owner) (m .1) ≡ m
+unfolding unknown
+own-outcome h m e = ap (λ owner. measId owner (m .1)) (sym (eqb-true (m .0) (h .owner) (not-false (eqb (m .0) (h .owner)) (left-false _ (leb (h .measurements) (m .1)) e))))
+
+rotate-decodes : (owner cbits w a : ℕ) → a < 8 → decodeOp owner cbits (4 * a) w 0 0 ≡ Rotate (axisOf (record { owner = owner; word = w })) (angleOf a)
+unfolding decodeOp
+rotate-decodes owner cbits w a lt =
+    let kind : 4 * a % 4 ≡ 0 = omega arith in
+    let rest : 4 * a / 4 ≡ a = omega arith in
+    rw (kind, rest, lt-ltb a 8 lt)
+
+conditional-decodes : (owner cbits w a m : ℕ) → a < 8
+    → decodeOp owner cbits (2 + 4 * a) w m 0 ≡ ConditionalRotate (axisOf (record { owner = owner; word = w })) (angleOf a) (measId owner m)
+unfolding decodeOp
+conditional-decodes owner cbits w a m lt =
+    let kind : (2 + 4 * a) % 4 ≡ 2 = omega arith in
+    let rest : (2 + 4 * a) / 4 ≡ a = omega arith in
+    rw (kind, rest, lt-ltb a 8 lt)
+
+measure-decodes : (h : Header) (w m : ℕ) (t : Target) → targetOutside h t ≡ false
+    → decodeOp (h .owner) (h .cbits) 1 w m (targetWord t) ≡ Measure (axisOf (record { owner = h .owner; word = w })) (measId (h .owner) m) t
+unfolding decodeOp
+measure-decodes h w m (Bit b) e =
+    let fits = le-leb (suc b) (h .cbits) (leb-false (h .cbits) b e) in
+    rw (add-one b, fits)
+measure-decodes h w m NoTarget e = rw (le-leb 0 (h .cbits) (omega arith))
+
+-- ---- the three calls
+
+pushed-made : (c : Checked) (ops ws : List ℕ) (g h′ : Header) → decided c PushedRefused ops (stepOf (PushedMade g) ws) .answer ≡ PushedMade h′ → (c ≡ Fine) × (g ≡ h′)
+pushed-made Fine ops ws g h′ e = (refl, cc)
+pushed-made (Wrong w) ops ws g h′ e = let z : _≡_ {A = ℕ} 0 1 = cc in absurd (zero-is-one z)
+
+measured-made : (c : Checked) (ops ws : List ℕ) (g h′ : Header) (i m : MeasId) → decided c MeasuredRefused ops (stepOf (MeasuredMade g i) ws) .answer ≡ MeasuredMade h′ m
+    → (c ≡ Fine) × (g ≡ h′) × (i ≡ m)
+measured-made Fine ops ws g h′ i m e = (refl, cc, cc)
+measured-made (Wrong w) ops ws g h′ i m e = let z : _≡_ {A = ℕ} 0 1 = cc in absurd (zero-is-one z)
+
+module _ (h : Header) (ops : List ℕ) (x : PauliAxis) where
+  lent : Slices
+  lent = record { nodes = []; operations = ops; frame = [] }
+
+  pub rotate-made : (k : PauliAngle) (h′ : Header) → rotateStep h ops x k .answer ≡ PushedMade h′
+      → (rotateCheck h (length ops) x ≡ Fine) × (withOperation (h .measurements) h ≡ h′)
+  unfolding rotateStep
+  rotate-made k h′ e = pushed-made (rotateCheck h (length ops) x) ops _ (withOperation (h .measurements) h) h′ e
+
+  pub rotate-read : (k : PauliAngle) (h′ : Header) → rotateStep h ops x k .answer ≡ PushedMade h′
+      → opAt h′ (rotateStep h ops x k .words) (h .operations) ≡ Rotate x (angleOf (eighthsOf k))
+  unfolding rotateStep
+  rotate-read k h′ e =
+      let m = rotate-made k h′ e in
+      let f = fits-rotate h (length ops) x (m .0) in
+      rw (← (m .1), m .0) (op-put (withOperation (h .measurements) h) ops (h .operations) _ _ _ _ (f .room .lent)
+      ∙ rotate-decodes (h .owner) (h .cbits) (x .0 .word) (eighthsOf k) (omega arith)
+      ∙ ap (λ axis. Rotate axis (angleOf (eighthsOf k))) (own-axis h x (f .axis-own)))
+
+  pub rotate-older : (k : PauliAngle) (h′ : Header) → rotateStep h ops x k .answer ≡ PushedMade h′
+      → (i : ℕ) → i < h .operations → opAt h′ (rotateStep h ops x k .words) i ≡ opAt h ops i
+  unfolding opAt lent checked after
+  rotate-older k h′ e =
+      let m = rotate-made k h′ e in
+      rw (← (m .1)) (op-older h (h .operations) ops (rotateStep h ops x k .words) (λ j lt. accepted-used-only lent (callRotate h x k) (m .0) .operations .outside j (inl lt)))
+
+  pub measure-made : (t : Target) (h′ : Header) (m : MeasId) → measureStep h ops x t .answer ≡ MeasuredMade h′ m
+      → (measureCheck h (length ops) x t ≡ Fine) × (withOperation (h .measurements + 1) h ≡ h′) × (measId (h .owner) (h .measurements) ≡ m)
+  unfolding measureStep
+  measure-made t h′ m e = measured-made (measureCheck h (length ops) x t) ops _ (withOperation (h .measurements + 1) h) h′ (measId (h .owner) (h .measurements)) m e
+
+  inside : (t : Target) → measureCheck h (length ops) x t ≡ Fine → targetOutside h t ≡ false
+  unfolding measureCheck
+  inside t p = test-passed _ _ _ (passed-before _ _ _ p)
+
+  pub measure-read : (t : Target) (h′ : Header) (m : MeasId) → measureStep h ops x t .answer ≡ MeasuredMade h′ m
+      → opAt h′ (measureStep h ops x t .words) (h .operations) ≡ Measure x m t
+  unfolding measureStep
+  measure-read t h′ m e =
+      let a = measure-made t h′ m e in
+      let f = fits-measure h (length ops) x t (a .0) .0 in
+      rw (← (a .1), ← (a .2), a .0) (op-put (withOperation (h .measurements + 1) h) ops (h .operations) _ _ _ _ (f .room .lent)
+      ∙ measure-decodes h (x .0 .word) (h .measurements) t (inside t (a .0))
+      ∙ ap (λ axis. Measure axis (measId (h .owner) (h .measurements)) t) (own-axis h x (f .axis-own)))
+
+  pub measure-older : (t : Target) (h′ : Header) (m : MeasId) → measureStep h ops x t .answer ≡ MeasuredMade h′ m
+      → (i : ℕ) → i < h .operations → opAt h′ (measureStep h ops x t .words) i ≡ opAt h ops i
+  unfolding opAt lent checked after
+  measure-older t h′ m e =
+      let a = measure-made t h′ m e in
+      rw (← (a .1)) (op-older h (h .operations) ops (measureStep h ops x t .words) (λ j lt. accepted-used-only lent (callMeasure h x t) (a .0) .operations .outside j (inl lt)))
+
+  pub conditional-made : (k : PauliAngle) (m : MeasId) (h′ : Header) → conditionalStep h ops x k m .answer ≡ PushedMade h′
+      → (conditionalCheck h (length ops) x m ≡ Fine) × (withOperation (h .measurements) h ≡ h′)
+  unfolding conditionalStep
+  conditional-made k m h′ e = pushed-made (conditionalCheck h (length ops) x m) ops _ (withOperation (h .measurements) h) h′ e
+
+  pub known : (m : MeasId) → conditionalCheck h (length ops) x m ≡ Fine → unknown h m ≡ false
+  unfolding conditionalCheck
+  known m p = test-passed _ _ _ (passed-before _ _ _ p)
+
+  pub conditional-read : (k : PauliAngle) (m : MeasId) (h′ : Header) → conditionalStep h ops x k m .answer ≡ PushedMade h′
+      → opAt h′ (conditionalStep h ops x k m .words) (h .operations) ≡ ConditionalRotate x (angleOf (eighthsOf k)) m
+  unfolding conditionalStep
+  conditional-read k m h′ e =
+      let a = conditional-made k m h′ e in
+      let f = fits-conditional h (length ops) x m (a .0) in
+      rw (← (a .1), a .0) (op-put (withOperation (h .measurements) h) ops (h .operations) _ _ _ _ (f .room .lent)
+      ∙ conditional-decodes (h .owner) (h .cbits) (x .0 .word) (eighthsOf k) (m .1) (omega arith)
+      ∙ ap₂ (λ axis outcome. ConditionalRotate axis (angleOf (eighthsOf k)) outcome) (own-axis h x (f .axis-own)) (own-outcome h m (known m (a .0))))
+
+  pub conditional-older : (k : PauliAngle) (m : MeasId) (h′ : Header) → conditionalStep h ops x k m .answer ≡ PushedMade h′
+      → (i : ℕ) → i < h .operations → opAt h′ (conditionalStep h ops x k m .words) i ≡ opAt h ops i
+  unfolding opAt lent checked after
+  conditional-older k m h′ e =
+      let a = conditional-made k m h′ e in
+      rw (← (a .1)) (op-older h (h .operations) ops (conditionalStep h ops x k m .words) (λ j lt. accepted-used-only lent (callConditional h x k m) (a .0) .operations .outside j (inl lt)))
