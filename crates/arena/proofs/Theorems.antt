@@ -1,5 +1,6 @@
 -- What is proved of the arena, in the words of specs/ alone.
 use mathlib.Core.Path.{_≡_}
+use mathlib.Core.Logic.{_≢_}
 use mathlib.Core.Bool.{true, cond}
 use mathlib.Core.List.{List, [], _∷_, map}
 use Prim.Native.Nat.{ℕ, _+_, _-_, _*_, _≤_, _<_}
@@ -13,13 +14,16 @@ use Rattle.arena.specs.References.{PauliRef, PauliAxis, nodeIn, scaledWo
 use Rattle.arena.specs.Nodes.{nodeAt, image}
 use Rattle.arena.specs.Store.{Header}
 use Rattle.arena.specs.Builder.{CreatedMade, SingledMade, MultipliedMade, newStep, singleStep, productStep}
-use Rattle.arena.specs.Sparse.{size, dense}
+use Rattle.arena.specs.Sparse.{Sparse, size, dense}
 use Rattle.arena.specs.Walk.{Named, fine, refused, State, Walked, charge, walkNodes, Answer, walk}
 use Rattle.arena.specs.Readers.{Expanded, expandWalk, hermitianWalk, Weighed, largest, wordsOf, reportWalk}
 use Rattle.arena.specs.Stats.{Within, Refused, workAfter, chargeAnswer}
 use Rattle.arena.specs.Calls.{Call, Slices, checked, after, KeptSlices}
-use Rattle.arena.specs.Pool.{Lendable}
+use Rattle.arena.specs.Pool.{Who, Lendable}
 use Rattle.arena.specs.PoolRuns.{Held, World, factorsHeld, Without, Run, lentIn, backIn, Once, InChain, InFree}
+use Rattle.arena.specs.Code.Results.{Ledger, Value}
+use Rattle.arena.specs.Code.WalkWords.{Rep, Stands, ValueIs, Multiplying}
+use Rattle.arena.specs.Code.Records.{OfNode, OfValue, Spare}
 use Rattle.arena.proofs.NodeRows
 use Rattle.arena.proofs.Answers
 use Rattle.arena.proofs.Spans
@@ -28,6 +32,7 @@ use Rattle.arena.proofs.walk.Ends
 use Rattle.arena.proofs.walk.Reports
 use Rattle.arena.proofs.walk.Charges
 use Rattle.arena.proofs.chains.Safe
+use Rattle.arena.proofs.steps.Records
 use Rattle.arena.specs.Limits.{capOf}
 
 -- ---- demand 1, for the calls of this crate
@@ -162,3 +167,50 @@ charge-fine = Charges.fine-within
 -- a refusal is the same refusal
 pub charge-refused : (limit amount : ℕ) (s : State) (e : PbcError) → chargeAnswer (s .work) limit amount ≡ Refused e → charge limit amount s ≡ refused e
 charge-refused = Charges.refused-alike
+
+-- ---- the words of a walk
+
+-- `Rep` is what every function that a walk runs on scratch and pool asks for and leaves, and `Stands` is `Rep` for some holders of the records:
+-- asked for by take_use (Takeable), multiply_at (Multiplying), combine_at (Combining), single_at (Making), product_step, step_at, run_path, eval_root, show_root,
+-- weigh_root (Walking in Branched, Topped, Started, Rooted), release (Releasable), weigh_axes (Weighing);
+-- left by begin (Begun), take_use (TookRep), multiply_at, combine_at, single_at, run_path, eval_root (Stands), product_step, step_at (Landed), show_root (RootShown),
+-- release (Released), weigh_root (RootWeighed). So what follows holds before and after each of them.
+
+-- no record is in the values of two nodes
+pub walk-never-shared : (count room : ℕ) (l p : List ℕ) (s : State) (left : Ledger) → Stands count room l p s left
+    → (i j r : ℕ) → i < count → j < count → i ≢ j → OfNode l p i r → OfNode l p j r → ⊥
+walk-never-shared count room l p s left g = Records.never-shared count room l p left (g .who) s (g .rep)
+
+-- nor in the value of a node and the free list
+pub walk-never-free : (count room : ℕ) (l p : List ℕ) (s : State) (left : Ledger) → Stands count room l p s left
+    → (i r : ℕ) → i < count → OfNode l p i r → Spare p left r → ⊥
+walk-never-free count room l p s left g = Records.never-free count room l p left (g .who) s (g .rep)
+
+-- nor twice in the free list
+pub walk-free-once : (count room : ℕ) (l p : List ℕ) (s : State) (left : Ledger) → Stands count room l p s left → Once p (left .free) (left .spare)
+walk-free-once count room l p s left g = Records.spare-once count room l p left (g .who) s (g .rep)
+
+-- a record of a value is counted, and is not record 0
+pub walk-counted : (count room : ℕ) (l p : List ℕ) (s : State) (left : Ledger) → Stands count room l p s left
+    → (i r : ℕ) → i < count → OfNode l p i r → Lendable p r
+walk-counted count room l p s left g = Records.counted count room l p left (g .who) s (g .rep)
+
+-- a value in hand is what take_use leaves (`rep` and `value` of TookRep) and what multiply_at asks for twice (Multiplying): its records are in no node's value
+pub walk-hand-never-shared : (count room : ℕ) (l p : List ℕ) (left : Ledger) (who : Who) (s : State) → Rep count room l p left who s
+    → (tag : ℕ) → tag < 2 → (v : Value) (x : Sparse) → ValueIs p who tag v x → (i r : ℕ) → i < count → OfValue p v r → OfNode l p i r → ⊥
+walk-hand-never-shared = Records.hand-not-standing
+
+-- nor free
+pub walk-hand-never-free : (count room : ℕ) (l p : List ℕ) (left : Ledger) (who : Who) (s : State) → Rep count room l p left who s
+    → (tag : ℕ) → tag < 2 → (v : Value) (x : Sparse) → ValueIs p who tag v x → (r : ℕ) → OfValue p v r → Spare p left r → ⊥
+walk-hand-never-free = Records.hand-not-free
+
+-- nor there twice
+pub walk-hand-once : (count room : ℕ) (l p : List ℕ) (left : Ledger) (who : Who) (s : State) → Rep count room l p left who s
+    → (tag : ℕ) → tag < 2 → (v : Value) (x : Sparse) → ValueIs p who tag v x → Once p (v .head) (v .count)
+walk-hand-once = Records.hand-once
+
+-- and the two values that multiply_at multiplies share none
+pub walk-hands-never-shared : (l p : List ℕ) (limit i : ℕ) (a b : Value) (left : Ledger) → Multiplying l p limit i a b left
+    → (r : ℕ) → OfValue p a r → OfValue p b r → ⊥
+walk-hands-never-shared = Records.hands-apart

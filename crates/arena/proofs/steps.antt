@@ -11,3 +11,4 @@ pub mod Roots
 pub mod Readers
 pub mod Weights
 pub mod Cells
+pub mod Records

@@ -3,4 +3,5 @@ pub mod Turns
 pub mod Machine
 pub mod Results
 pub mod WalkWords
+pub mod Records
 pub mod Roots

@@ -16,6 +16,7 @@ pub mod Pool
 pub mod PoolSteps
 pub mod PoolRuns
 pub mod Walk
+pub mod Charges
 pub mod Readers
 pub mod Expansion
 pub mod Stats
