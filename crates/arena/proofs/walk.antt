@@ -12,3 +12,5 @@ pub mod Loops
 pub mod Bounds
 pub mod Reports
 pub mod Charges
+pub mod Work
+pub mod Totals

@@ -75,9 +75,9 @@ module _ (node : ℕ → PauliNode) (weighs : ℕ → ℕ) where
   charges later [] = []
   charges later (v ∷ vs) = visitCharges v later ++ charges (usedBy v ++ later) vs
 
-abbrev pub total : List ℕ → ℕ
-total [] = 0
-total (k ∷ ks) = k + total ks
+abbrev pub sumOf : List ℕ → ℕ
+sumOf [] = 0
+sumOf (k ∷ ks) = k + sumOf ks
 
 -- the letters other than I in the image of a word
 abbrev pub weightAt : ℕ → ℕ → List ℕ → ℕ → ℕ
@@ -85,4 +85,4 @@ weightAt n count words w = weight (image n count words w .letters)
 
 -- the work of a walk of n qubits over the first `count` nodes in the words, from these roots
 unfoldable pub workOf : (n count : ℕ) → (words roots : List ℕ) → ℕ
-workOf n count words roots = total (charges (nodeAt n words) (weightAt n count words) [] (visits (nodeAt n words) count roots []))
+workOf n count words roots = sumOf (charges (nodeAt n words) (weightAt n count words) [] (visits (nodeAt n words) count roots []))
