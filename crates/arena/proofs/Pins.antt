@@ -8,11 +8,12 @@ use Rattle.pauli.specs.Letters.{power}
 use Rattle.arena.specs.Limits.{capOf}
 use Rattle.arena.specs.Errors.{TooManyQubits, BadStore, ForeignPauli, ClassicalBitOutOfRange, UnknownMeasurement, NoFrame, NoNodes, NoScratch, ExpansionLimit, NoPool, Fine, Wrong, _⟫_⇒_}
 use Rattle.arena.specs.References.{PauliRef, axisOf}
-use Rattle.arena.specs.Nodes.{decode, nodeAt}
+use Rattle.arena.specs.Nodes.{decode, nodeAt, values, image}
 use Rattle.arena.specs.Operations.{decodeOp, Measure, ConditionalRotate, Malformed, Bit, measId, angleKind, NoKind, Pi8, Clifford}
 use Rattle.arena.specs.Store.{Header, breaksLimit, exceedsNodes, exceedsOperations, foreign, unknown, noNodeRoom, noOperationRoom}
 use Rattle.arena.specs.Builder.{Step, NodesAndFrame, Created, CreatedMade, CreatedRefused, stepOf, newCheck, newStep, productCheck, measureCheck, measureStep, conditionalCheck, conditionalStep}
 use Rattle.arena.specs.Walk.{fine, refused, bind, walk}
+use Rattle.arena.specs.Charges.{visits, charges, weightAt, workOf}
 use Rattle.arena.specs.Readers.{reportWalk}
 use Rattle.arena.specs.Expansion.{opAt, expandCheck, reportCheck, reportStep}
 
@@ -83,6 +84,27 @@ both-words = 0 ∷ 0 ∷ 5 ∷ 0 ∷ 13 ∷ 0 ∷ 5 ∷ 1 ∷ 13 ∷ 1 ∷ 18 �
 both-before : walk 5 1 2 7 both-words (24 ∷ []) ≡ refused NoPool
 unfolding walk nodeAt decode power both-words
 both-before = refl
+
+-- ---- what is charged, by the list of charges
+
+square-work : workOf 1 4 square-words (12 ∷ []) ≡ 5
+unfolding workOf image values nodeAt decode power square-words
+square-work = refl
+
+-- the latest first: the root and its factor; node 6, two moves, a product with no factor; node 4; node 5, a copy of X₀, its move, their product; node 1
+left-charges : charges (nodeAt 2 left-words) (weightAt 2 7 left-words) [] (visits (nodeAt 2 left-words) 7 (24 ∷ []) [])
+    ≡ 1 ∷ 1 ∷ 1 ∷ 0 ∷ 0 ∷ 0 ∷ 1 ∷ 1 ∷ 1 ∷ 0 ∷ 1 ∷ 1 ∷ []
+unfolding image values nodeAt decode power left-words
+left-charges = refl
+
+-- Z₁ Z₁ and then Z₁: a root is the last use of Z₁, so both children are copied
+root-words : List ℕ
+root-words = 0 ∷ 0 ∷ 5 ∷ 0 ∷ 13 ∷ 0 ∷ 5 ∷ 1 ∷ 13 ∷ 1 ∷ 66 ∷ 16 ∷ []
+
+root-last : charges (nodeAt 2 root-words) (weightAt 2 6 root-words) [] (visits (nodeAt 2 root-words) 6 (20 ∷ 16 ∷ []) [])
+    ≡ 1 ∷ 1 ∷ 1 ∷ 0 ∷ 1 ∷ 1 ∷ 1 ∷ 1 ∷ 1 ∷ []
+unfolding image values nodeAt decode power root-words
+root-last = refl
 
 -- ---- 65,536 records count
 

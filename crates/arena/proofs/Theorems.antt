@@ -1,7 +1,7 @@
 -- What is proved of the arena, in the words of specs/ alone.
 use mathlib.Core.Path.{_≡_}
 use mathlib.Core.Logic.{_≢_}
-use mathlib.Core.Bool.{true, cond}
+use mathlib.Core.Bool.{true, false, cond}
 use mathlib.Core.List.{List, [], _∷_, map}
 use Prim.Native.Nat.{ℕ, _+_, _-_, _*_, _≤_, _<_}
 use lib.ListN.{length, take}
@@ -15,15 +15,17 @@ use Rattle.arena.specs.Nodes.{nodeAt, image}
 use Rattle.arena.specs.Store.{Header}
 use Rattle.arena.specs.Builder.{CreatedMade, SingledMade, MultipliedMade, newStep, singleStep, productStep}
 use Rattle.arena.specs.Sparse.{Sparse, size, dense}
-use Rattle.arena.specs.Walk.{Named, fine, refused, State, Walked, charge, walkNodes, Answer, walk}
+use Rattle.arena.specs.Walk.{Named, fine, refused, State, Taken, rootUses, scan, Walked, charge, takeUse, walkNodes, Answer, walk}
 use Rattle.arena.specs.Readers.{Expanded, expandWalk, hermitianWalk, Weighed, largest, wordsOf, reportWalk}
 use Rattle.arena.specs.Stats.{Within, Refused, workAfter, chargeAnswer}
 use Rattle.arena.specs.Calls.{Call, Slices, checked, after, KeptSlices}
 use Rattle.arena.specs.Pool.{Who, Lendable}
 use Rattle.arena.specs.PoolRuns.{Held, World, factorsHeld, Without, Run, lentIn, backIn, Once, InChain, InFree}
 use Rattle.arena.specs.Code.Results.{Ledger, Value}
-use Rattle.arena.specs.Code.WalkWords.{Rep, Stands, ValueIs, Multiplying}
-use Rattle.arena.specs.Code.Records.{OfNode, OfValue, Spare}
+use Rattle.arena.specs.Charges.{workOf}
+use Rattle.arena.specs.Reachability.{Reachable}
+use Rattle.arena.specs.Code.WalkWords.{sum, edges, owed, Rep, Stands, ValueIs, Multiplying, Walking, Combining}
+use Rattle.arena.specs.Code.Records.{OfNode, OfValue, Spare, factorsAt}
 use Rattle.arena.proofs.NodeRows
 use Rattle.arena.proofs.Answers
 use Rattle.arena.proofs.Spans
@@ -33,6 +35,11 @@ use Rattle.arena.proofs.walk.Reports
 use Rattle.arena.proofs.walk.Charges
 use Rattle.arena.proofs.chains.Safe
 use Rattle.arena.proofs.steps.Records
+use Rattle.arena.proofs.steps.Holding
+use Rattle.arena.proofs.DecodedNodes
+use Rattle.arena.proofs.walk.Uses
+use Rattle.arena.proofs.walk.Reached
+use Rattle.arena.proofs.walk.Totals
 use Rattle.arena.specs.Limits.{capOf}
 
 -- ---- demand 1, for the calls of this crate
@@ -214,3 +221,43 @@ walk-hand-once = Records.hand-once
 pub walk-hands-never-shared : (l p : List ℕ) (limit i : ℕ) (a b : Value) (left : Ledger) → Multiplying l p limit i a b left
     → (r : ℕ) → OfValue p a r → OfValue p b r → ⊥
 walk-hands-never-shared = Records.hands-apart
+
+-- the records that are free and the factors of the values that stand are all the records: asked for by step_at and the functions that it runs (Walking)
+pub walk-holds : (words l p : List ℕ) (count limit : ℕ) (left : Ledger) (g : Walking words l p count limit left) → left .spare + sum count (factorsAt l) ≡ g .room
+walk-holds = Holding.rest-holds
+
+-- with a value in hand its factors too, after the first take_use of combine_at
+pub walk-hand-holds : (l p : List ℕ) (limit i lw rt : ℕ) (left : Ledger) (g : Combining l p limit i lw rt left)
+    → (a : Taken) → takeUse limit (g .at .room) lw (g .at .s) ≡ fine a
+    → (l′ p′ : List ℕ) (left′ : Ledger) (who : Who) → Rep (g .count) (g .at .room) l′ p′ left′ who (a .state)
+    → left′ .spare + (sum (g .count) (factorsAt l′) + size (a .value)) ≡ g .at .room
+walk-hand-holds = Holding.hand-holds
+
+-- and with two, after the second
+pub walk-hands-hold : (l p : List ℕ) (limit i lw rt : ℕ) (left : Ledger) (g : Combining l p limit i lw rt left)
+    → (a b : Taken) → takeUse limit (g .at .room) lw (g .at .s) ≡ fine a → takeUse limit (g .at .room) rt (a .state) ≡ fine b
+    → (l′ p′ : List ℕ) (left′ : Ledger) (who : Who) → Rep (g .count) (g .at .room) l′ p′ left′ who (b .state)
+    → left′ .spare + (sum (g .count) (factorsAt l′) + (size (a .value) + size (b .value))) ≡ g .at .room
+walk-hands-hold = Holding.hands-hold
+
+-- ---- what a walk counts and charges
+
+-- the nodes with a use at the start, as scan_uses counts them, are the reachable ones
+pub walk-uses-reachable : (n count : ℕ) (words roots : List ℕ) → Named count roots → (j : ℕ) → j < count
+    → (0 < scan (nodeAt n words) count (rootUses roots) .uses j → Reachable (nodeAt n words) roots j)
+    × (Reachable (nodeAt n words) roots j → 0 < scan (nodeAt n words) count (rootUses roots) .uses j)
+walk-uses-reachable n count words roots = Reached.reached-both n count (nodeAt n words) (DecodedNodes.node-fits n words) roots
+
+-- and a node's uses are the roots that name it and the child words of reachable nodes that do
+pub walk-uses-counted : (n count : ℕ) (words roots : List ℕ) (j : ℕ) → let all = scan (nodeAt n words) count (rootUses roots) .uses in
+    all j ≡ rootUses roots j + sum count (λ i. owed false (all i) (edges (nodeAt n words i) j))
+walk-uses-counted n count words roots = Uses.scan-uses n (nodeAt n words) (DecodedNodes.node-fits n words) count (rootUses roots)
+
+-- the work answered is the sum of the charges
+pub walk-work : (limit room n count : ℕ) (words roots : List ℕ) (a : Answer) → Named count roots → walk limit room n count words roots ≡ fine a
+    → a .work ≡ workOf n count words roots
+walk-work = Totals.walk-work
+
+-- and at most the limit
+pub walk-within : (limit room n count : ℕ) (words roots : List ℕ) (a : Answer) → Named count roots → walk limit room n count words roots ≡ fine a → a .work ≤ limit
+walk-within = Totals.walk-within

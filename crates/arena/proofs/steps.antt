@@ -12,3 +12,4 @@ pub mod Readers
 pub mod Weights
 pub mod Cells
 pub mod Records
+pub mod Holding

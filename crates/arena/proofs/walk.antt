@@ -12,5 +12,6 @@ pub mod Loops
 pub mod Bounds
 pub mod Reports
 pub mod Charges
+pub mod Reached
 pub mod Work
 pub mod Totals

@@ -17,6 +17,7 @@ pub mod PoolSteps
 pub mod PoolRuns
 pub mod Walk
 pub mod Charges
+pub mod Reachability
 pub mod Readers
 pub mod Expansion
 pub mod Stats

@@ -164,9 +164,22 @@ module _ (limit room n count : ℕ) (node : ℕ → PauliNode) (fits : (i : ℕ)
           empty : Empty (r .state)
           empty = ends-empty limit room n count node fits roots (r .state) (e .closed) (e .roots-done) inv
 
+  walk-paid : Named count roots → Post (walkNodes limit room node count roots) (λ r. r .state .work ≤ limit)
+  walk-paid h =
+      let c = scan node count (rootUses roots) in
+      charge-then limit (length roots + c .reached) (walkBegin c) _ _ (λ paid.
+      post-map (showRoots limit room node count roots (worked (length roots + c .reached) (walkBegin c))) _ _
+      (show-post limit room n count node fits (c .uses) roots _ h (begin-inv limit room n count node fits roots _ paid)) (λ r k. k .1 .paid))
+
 -- the work answered is the sum of the charges
 pub walk-work : (limit room n count : ℕ) (words roots : List ℕ) (a : Answer) → Named count roots → walk limit room n count words roots ≡ fine a
     → a .work ≡ workOf n count words roots
 unfolding walk workOf image values
 walk-work limit room n count words roots a h e = post-fine (λ a. a .work ≡ workOf n count words roots) e
     (post-bind (walkNodes limit room (nodeAt n words) count roots) _ _ _ (walk-sum limit room n count (nodeAt n words) (node-fits n words) roots h) (λ r k. k))
+
+-- and within the limit
+pub walk-within : (limit room n count : ℕ) (words roots : List ℕ) (a : Answer) → Named count roots → walk limit room n count words roots ≡ fine a → a .work ≤ limit
+unfolding walk
+walk-within limit room n count words roots a h e = post-fine (λ a. a .work ≤ limit) e
+    (post-bind (walkNodes limit room (nodeAt n words) count roots) _ _ _ (walk-paid limit room n count (nodeAt n words) (node-fits n words) roots h) (λ r k. k))
