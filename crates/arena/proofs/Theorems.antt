@@ -16,7 +16,7 @@ use Rattle.arena.specs.Store.{Header}
 use Rattle.arena.specs.Builder.{CreatedMade, SingledMade, MultipliedMade, newStep, singleStep, productStep}
 use Rattle.arena.specs.Sparse.{Sparse, size, dense}
 use Rattle.arena.specs.Walk.{Named, fine, refused, State, Taken, rootUses, scan, Walked, charge, takeUse, walkNodes, Answer, walk}
-use Rattle.arena.specs.Readers.{Expanded, expandWalk, hermitianWalk, Weighed, largest, wordsOf, reportWalk}
+use Rattle.arena.specs.Readers.{Expanded, expandWalk, hermitianWalk, Weighed, largest, wordsOf, Report, reportWalk}
 use Rattle.arena.specs.Stats.{Within, Refused, workAfter, chargeAnswer}
 use Rattle.arena.specs.Calls.{Call, Slices, checked, after, KeptSlices}
 use Rattle.arena.specs.Pool.{Who, Lendable}
@@ -261,3 +261,16 @@ walk-work = Totals.walk-work
 -- and at most the limit
 pub walk-within : (limit room n count : ℕ) (words roots : List ℕ) (a : Answer) → Named count roots → walk limit room n count words roots ≡ fine a → a .work ≤ limit
 walk-within = Totals.walk-within
+
+-- so is the work of an accepted expansion, of an axis that passes, and of a report
+pub expand-work : (cells room n count : ℕ) (words : List ℕ) (w : ℕ) (x : Expanded) → nodeIn w < count → expandWalk cells room n count words w ≡ fine x
+    → x .work ≡ workOf n count words (w ∷ [])
+expand-work = Totals.expand-work
+
+pub hermitian-work : (limit room n count : ℕ) (words : List ℕ) (w work : ℕ) → nodeIn w < count → hermitianWalk limit room n count words w ≡ fine work
+    → work ≡ workOf n count words (w ∷ [])
+hermitian-work = Totals.hermitian-work
+
+pub report-work : (limit room n count : ℕ) (words : List ℕ) (axes : List Weighed) (x : Report) → Named count (wordsOf axes) → reportWalk limit room n count words axes ≡ fine x
+    → x .work ≡ workOf n count words (wordsOf axes)
+report-work = Totals.report-work

@@ -1,16 +1,19 @@
 -- An accepted walk's work is the sum of its charges, whole: the roots in turn, and the 1 for each root and each reachable node.
 use mathlib.Core.Path.{_≡_, refl, ap, sym, _∙_}
 use mathlib.Core.Bool.{Bool, true, false, cond}
-use mathlib.Core.List.{List, [], _∷_}
+use mathlib.Core.List.{List, [], _∷_, map}
 use Prim.Native.Nat.{ℕ, zero, suc, _+_, _-_, _≤_, _<_}
 use native.Mathlib.Omega.{arith}
 use borrow.Author.Tests.{eqb-true}
-use lib.Dec.{eqb}
+use lib.Dec.{leb, eqb}
 use lib.ListN.{length}
 use Rattle.arena.specs.References.{nodeIn}
+use Rattle.pauli.specs.Letters.{real}
+use Rattle.arena.specs.Errors.{ExpansionLimit, NonHermitianAxis}
 use Rattle.arena.specs.Nodes.{PauliNode, Identity, Single, Product, Malformed, nodeAt, values, image}
-use Rattle.arena.specs.Sparse.{size}
-use Rattle.arena.specs.Walk.{fine, update, State, rootUses, scan, worked, less, giveBack, release, walkBegin, Walked, eval, showRoots, walkNodes, Answer, walk, Named}
+use Rattle.arena.specs.Sparse.{size, dense}
+use Rattle.arena.specs.Walk.{Out, fine, refused, bind, update, State, rootUses, scan, worked, less, giveBack, release, walkBegin, Walked, eval, showRoots, walkNodes, Answer, walk, Named}
+use Rattle.arena.specs.Readers.{firstOf, Expanded, expandWalk, hermitianWalk, Weighed, largest, wordsOf, Report, reportWalk}
 use Rattle.arena.specs.Charges.{Visit, evaluates, shows, evaluatedIn, childrenFirst, evaluate, visits, charges, sumOf, workOf}
 use Rattle.arena.specs.Code.WalkWords.{sum, edge, none, Inv}
 use Rattle.arena.proofs.walk.Outcomes.{Post, post-bind, post-map, post-and, post-fine, charge-then}
@@ -183,3 +186,44 @@ pub walk-within : (limit room n count : ℕ) (words roots : List ℕ) (a : Answe
 unfolding walk
 walk-within limit room n count words roots a h e = post-fine (λ a. a .work ≤ limit) e
     (post-bind (walkNodes limit room (nodeAt n words) count roots) _ _ _ (walk-paid limit room n count (nodeAt n words) (node-fits n words) roots h) (λ r k. k))
+
+-- ---- the work that the readers answer
+
+pub expand-work : (cells room n count : ℕ) (words : List ℕ) (w : ℕ) (x : Expanded) → nodeIn w < count → expandWalk cells room n count words w ≡ fine x
+    → x .work ≡ workOf n count words (w ∷ [])
+unfolding expandWalk
+expand-work cells room n count words w x h e = go (leb n cells) (walk (cells - n) room n count words (w ∷ [])) refl e
+  where
+    go : (b : Bool) (o : Out Answer) → walk (cells - n) room n count words (w ∷ []) ≡ o
+        → cond b (bind o (λ a. fine (record { row = dense n (firstOf (a .shown)); work = a .work }))) (refused ExpansionLimit) ≡ fine x
+        → x .work ≡ workOf n count words (w ∷ [])
+    go true (fine a) q e = let d = walk-work (cells - n) room n count words (w ∷ []) a (h, tt) q in cc
+    go true (refused k) q e = cc
+    go false o q e = cc
+
+pub hermitian-work : (limit room n count : ℕ) (words : List ℕ) (w work : ℕ) → nodeIn w < count → hermitianWalk limit room n count words w ≡ fine work
+    → work ≡ workOf n count words (w ∷ [])
+unfolding hermitianWalk
+hermitian-work limit room n count words w work h e = go (walk limit room n count words (w ∷ [])) refl e
+  where
+    by-phase : (b : Bool) (a : Answer) → a .work ≡ workOf n count words (w ∷ []) → cond b (fine (a .work)) (refused NonHermitianAxis) ≡ fine work
+        → work ≡ workOf n count words (w ∷ [])
+    by-phase true a d e = cc
+    by-phase false a d e = cc
+
+    go : (o : Out Answer) → walk limit room n count words (w ∷ []) ≡ o
+        → bind o (λ a. cond (real (firstOf (a .shown) .phase)) (fine (a .work)) (refused NonHermitianAxis)) ≡ fine work
+        → work ≡ workOf n count words (w ∷ [])
+    go (fine a) q e = by-phase (real (firstOf (a .shown) .phase)) a (walk-work limit room n count words (w ∷ []) a (h, tt) q) e
+    go (refused k) q e = cc
+
+pub report-work : (limit room n count : ℕ) (words : List ℕ) (axes : List Weighed) (x : Report) → Named count (wordsOf axes) → reportWalk limit room n count words axes ≡ fine x
+    → x .work ≡ workOf n count words (wordsOf axes)
+unfolding reportWalk
+report-work limit room n count words axes x h e = go (walk limit room n count words (wordsOf axes)) refl e
+  where
+    go : (o : Out Answer) → walk limit room n count words (wordsOf axes) ≡ o
+        → bind o (λ a. fine (record { weights = largest axes (map size (a .shown)); work = a .work })) ≡ fine x
+        → x .work ≡ workOf n count words (wordsOf axes)
+    go (fine a) q e = let d = walk-work limit room n count words (wordsOf axes) a h q in cc
+    go (refused k) q e = cc
