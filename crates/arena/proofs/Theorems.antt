@@ -1,6 +1,6 @@
 -- What is proved of the arena, in the words of specs/ alone.
 use mathlib.Core.Path.{_≡_}
-use mathlib.Core.Logic.{_≢_}
+use mathlib.Core.Logic.{_≢_, _⊎_}
 use mathlib.Core.Bool.{true, false, cond}
 use mathlib.Core.List.{List, [], _∷_, map}
 use Prim.Native.Nat.{ℕ, _+_, _-_, _*_, _≤_, _<_}
@@ -9,7 +9,7 @@ use Rattle.pauli.specs.Letters.{real}
 use Rattle.pauli.specs.Rows.{_★_, scaled, single, present, weight}
 use Rattle.pauli.specs.Table.{start}
 use Rattle.arena.specs.Types.{Pauli, Phase}
-use Rattle.arena.specs.Errors.{PbcError, NonHermitianAxis, Fine, Wrong}
+use Rattle.arena.specs.Errors.{PbcError, NonHermitianAxis, ExpansionLimit, NoPool, Fine, Wrong}
 use Rattle.arena.specs.References.{PauliRef, PauliAxis, nodeIn, scaledWord}
 use Rattle.arena.specs.Nodes.{nodeAt, image}
 use Rattle.arena.specs.Store.{Header}
@@ -40,6 +40,7 @@ use Rattle.arena.proofs.DecodedNodes
 use Rattle.arena.proofs.walk.Uses
 use Rattle.arena.proofs.walk.Reached
 use Rattle.arena.proofs.walk.Totals
+use Rattle.arena.proofs.walk.Refusals
 use Rattle.arena.specs.Limits.{capOf}
 
 -- ---- demand 1, for the calls of this crate
@@ -262,7 +263,15 @@ walk-work = Totals.walk-work
 pub walk-within : (limit room n count : ℕ) (words roots : List ℕ) (a : Answer) → Named count roots → walk limit room n count words roots ≡ fine a → a .work ≤ limit
 walk-within = Totals.walk-within
 
--- so is the work of an accepted expansion, of an axis that passes, and of a report
+-- a walk needs the work of its charges and some room, and is accepted exactly where it has both; 18 says that it lacks room, 17 that its charges are above the limit
+pub walk-decided : (n count : ℕ) (words roots : List ℕ) → Named count roots → (need : ℕ) × ((limit room : ℕ)
+    → (workOf n count words roots ≤ limit → need ≤ room → (a : Answer) × (walk limit room n count words roots ≡ fine a))
+    × ((a : Answer) → walk limit room n count words roots ≡ fine a → (workOf n count words roots ≤ limit) × (need ≤ room))
+    × ((e : PbcError) → walk limit room n count words roots ≡ refused e
+    → ((e ≡ NoPool) × (room < need)) ⊎ ((e ≡ ExpansionLimit) × (limit < workOf n count words roots))))
+walk-decided = Refusals.walk-decided
+
+-- the work of an accepted expansion, of an axis that passes, and of a report, is that sum too
 pub expand-work : (cells room n count : ℕ) (words : List ℕ) (w : ℕ) (x : Expanded) → nodeIn w < count → expandWalk cells room n count words w ≡ fine x
     → x .work ≡ workOf n count words (w ∷ [])
 expand-work = Totals.expand-work

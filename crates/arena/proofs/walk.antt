@@ -15,3 +15,4 @@ pub mod Charges
 pub mod Reached
 pub mod Work
 pub mod Totals
+pub mod Refusals
