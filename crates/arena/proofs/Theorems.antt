@@ -11,7 +11,7 @@ use Rattle.pauli.specs.Table.{start}
 use Rattle.arena.specs.Types.{Pauli, Phase}
 use Rattle.arena.specs.Errors.{PbcError, NonHermitianAxis, ExpansionLimit, NoPool, Fine, Wrong}
 use Rattle.arena.specs.References.{PauliRef, PauliAxis, nodeIn, scaledWord}
-use Rattle.arena.specs.Nodes.{nodeAt, image}
+use Rattle.arena.specs.Nodes.{Identity, nodeAt, image}
 use Rattle.arena.specs.Store.{Header}
 use Rattle.arena.specs.Builder.{CreatedMade, SingledMade, MultipliedMade, newStep, singleStep, productStep}
 use Rattle.arena.specs.Sparse.{Sparse, size, dense}
@@ -41,6 +41,7 @@ use Rattle.arena.proofs.walk.Uses
 use Rattle.arena.proofs.walk.Reached
 use Rattle.arena.proofs.walk.Totals
 use Rattle.arena.proofs.walk.Refusals
+use Rattle.arena.proofs.walk.Rooms
 use Rattle.arena.specs.Limits.{capOf}
 
 -- ---- demand 1, for the calls of this crate
@@ -270,6 +271,11 @@ pub walk-decided : (n count : ℕ) (words roots : List ℕ) → Named count root
     × ((e : PbcError) → walk limit room n count words roots ≡ refused e
     → ((e ≡ NoPool) × (room < need)) ⊎ ((e ≡ ExpansionLimit) × (limit < workOf n count words roots))))
 walk-decided = Refusals.walk-decided
+
+-- a record for each qubit of each node is room enough, where node 0 is the identity
+pub walk-room-enough : (limit room n count : ℕ) (words roots : List ℕ) (e : PbcError) → Named count roots → nodeAt n words 0 ≡ Identity → n * count ≤ room
+    → walk limit room n count words roots ≡ refused e → e ≡ ExpansionLimit
+walk-room-enough = Rooms.room-enough
 
 -- the work of an accepted expansion, of an axis that passes, and of a report, is that sum too
 pub expand-work : (cells room n count : ℕ) (words : List ℕ) (w : ℕ) (x : Expanded) → nodeIn w < count → expandWalk cells room n count words w ≡ fine x

@@ -16,3 +16,4 @@ pub mod Reached
 pub mod Work
 pub mod Totals
 pub mod Refusals
+pub mod Rooms

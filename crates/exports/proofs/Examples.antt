@@ -1,6 +1,6 @@
 -- Each function for C, computed: called once where it accepts and once where it refuses, with the number that it returns and every word that it leaves.
 use mathlib.Core.Path.{_≡_, refl}
-use mathlib.Core.List.{List, [], _∷_, _++_, map}
+use mathlib.Core.List.{List, [], _∷_, map}
 use Prim.Native.Nat.{ℕ}
 use lib.IntN.{pos, negsuc}
 use lib.ListN.{replicate}
@@ -23,7 +23,7 @@ use Rattle.convert.specs.Frame.{startArena, pushed, multiplied, frameStep, qubi
 use Rattle.convert.specs.Words.{startWords, flushGate, flushGates, flushWords, writeSeven, write, wordStep, wordRun}
 use Rattle.convert.specs.Planes.{mask, digits, rowWords, rowsWords, images, packed}
 use Rattle.convert.specs.Conversion.{gatesIn, plainEnd, tableEnd, wordEnd, recordChecked, recordsChecked, gatesCheck, gatesChecked, roomChecked, convertCheck, convertWithin, convertStep}
-use Rattle.exports.specs.Words.{fieldIn, headerIn, letterIn, angleIn, targetIn, tooShort, numberIn, headerLeft, answerLeft, Returned, returned}
+use Rattle.exports.specs.Words.{fieldIn, headerIn, letterIn, angleIn, targetIn, tooShort, numberIn, headerLeft, answerLeft, returned}
 use Rattle.exports.specs.Exports.{createdReply, singledReply, multipliedReply, pushedReply, measuredReply, headed, lentWords}
 use Rattle.exports.specs.Exports.{newCall, singleCall, productCall, rotateCall, measureCall, conditionalCall, timesNumber}
 use Rattle.exports.specs.Readers.{expandedReply, hermitianReply, weightsReply, expandWords, walkWords, expandCall, hermitianCall, weightsCall}

@@ -1,8 +1,8 @@
 -- At every step of a walk the records held are the factors of the values that stand and of those in hand.
-use mathlib.Core.Path.{_≡_, refl, ap, ap₂, sym, _∙_, subst}
+use mathlib.Core.Path.{_≡_, refl, ap, _∙_, subst}
 use mathlib.Core.Bool.{Bool, true, false}
 use mathlib.Core.List.{List}
-use Prim.Native.Nat.{ℕ, zero, suc, _+_, _≤_, _<_}
+use Prim.Native.Nat.{ℕ, zero, suc, _+_, _≤_}
 use native.Mathlib.Nat.{not-suc-le-zero}
 use native.Mathlib.Omega.{arith}
 use Rattle.arena.specs.References.{nodeIn}
@@ -11,9 +11,9 @@ use Rattle.arena.specs.Sparse.{Sparse, size}
 use Rattle.arena.specs.Walk.{fine, State, Taken, takeUse}
 use Rattle.arena.specs.Pool.{Who}
 use Rattle.arena.specs.Code.Results.{Ledger}
-use Rattle.arena.specs.Code.WalkWords.{sum, edge, edges, none, kept, stand, valueAt, usesAt, countIn, Marks, Rep, Walking, Combining}
+use Rattle.arena.specs.Code.WalkWords.{sum, edge, edges, none, kept, stand, valueAt, Marks, Rep, Walking, Combining}
 use Rattle.arena.specs.Code.Records.{standing, factorsAt}
-use Rattle.arena.proofs.walk.Outcomes.{Post, post-fine}
+use Rattle.arena.proofs.walk.Outcomes.{post-fine}
 use Rattle.arena.proofs.DecodedNodes.{Fits, node-fits}
 use Rattle.arena.proofs.walk.Sums.{sum-cong}
 use Rattle.arena.proofs.walk.Uses.{edge-same}

@@ -6,12 +6,12 @@ use mathlib.Core.List.{List}
 use Prim.Native.Nat.{ℕ, _+_, _<_}
 use native.Mathlib.Omega.{arith}
 use lib.ListN.{length}
-use Rattle.arena.specs.Sparse.{Sparse, size}
+use Rattle.arena.specs.Sparse.{Sparse}
 use Rattle.arena.specs.Walk.{State}
 use Rattle.arena.specs.Pool.{Who, Chain, Lendable}
 use Rattle.arena.specs.PoolRuns.{Reached, Once}
 use Rattle.arena.specs.Code.Results.{Ledger, Value}
-use Rattle.arena.specs.Code.WalkWords.{valueAt, headIn, countIn, Marks, Rep, ValueIs, Multiplying}
+use Rattle.arena.specs.Code.WalkWords.{valueAt, headIn, Marks, Rep, ValueIs, Multiplying}
 use Rattle.arena.specs.Code.Records.{OfNode, OfValue, Spare}
 use Rattle.arena.proofs.chains.Apart.{apart, not-free, chain-once, free-once, chain-counted}
 

@@ -12,7 +12,7 @@ use Rattle.arena.specs.Nodes.{PauliNode, Identity, Single, Product, Malf
 use Rattle.arena.specs.Walk.{rootUses, scan, Named}
 use Rattle.arena.specs.Charges.{children}
 use Rattle.arena.specs.Reachability.{Among, Leads, Reachable}
-use Rattle.arena.specs.Code.WalkWords.{sum, edge, edges, owed}
+use Rattle.arena.specs.Code.WalkWords.{edge, edges, owed}
 use Rattle.arena.proofs.walk.Outcomes.{Order, below, same, above, order}
 use Rattle.arena.proofs.DecodedNodes.{Fits}
 use Rattle.arena.proofs.walk.Sums.{sum-at}

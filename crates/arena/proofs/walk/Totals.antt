@@ -4,7 +4,6 @@ use mathlib.Core.Bool.{Bool, true, false, cond}
 use mathlib.Core.List.{List, [], _∷_, map}
 use Prim.Native.Nat.{ℕ, zero, suc, _+_, _-_, _≤_, _<_}
 use native.Mathlib.Omega.{arith}
-use borrow.Author.Tests.{eqb-true}
 use lib.Dec.{leb, eqb}
 use lib.ListN.{length}
 use Rattle.arena.specs.References.{nodeIn}
@@ -15,7 +14,7 @@ use Rattle.arena.specs.Sparse.{size, dense}
 use Rattle.arena.specs.Walk.{Out, fine, refused, bind, update, State, rootUses, scan, worked, less, giveBack, release, walkBegin, Walked, eval, showRoots, walkNodes, Answer, walk, Named}
 use Rattle.arena.specs.Readers.{firstOf, Expanded, expandWalk, hermitianWalk, Weighed, largest, wordsOf, Report, reportWalk}
 use Rattle.arena.specs.Charges.{Visit, evaluates, shows, evaluatedIn, childrenFirst, evaluate, visits, charges, sumOf, workOf}
-use Rattle.arena.specs.Code.WalkWords.{sum, edge, none, Inv}
+use Rattle.arena.specs.Code.WalkWords.{edge, none, Inv}
 use Rattle.arena.proofs.walk.Outcomes.{Post, post-bind, post-map, post-and, post-fine, charge-then}
 use Rattle.arena.proofs.DecodedNodes.{Fits, node-fits}
 use Rattle.arena.proofs.walk.Sums.{sum-cong, sum-zero}

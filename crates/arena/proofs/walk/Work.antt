@@ -12,7 +12,7 @@ use Rattle.pauli.specs.Rows.{weight}
 use Rattle.arena.specs.References.{nodeIn, phaseIn}
 use Rattle.arena.specs.Nodes.{PauliNode, Identity, Single, Product, Malformed, imageIn, rowsTo}
 use Rattle.arena.specs.Sparse.{Sparse, empty, one, turned, size, multiply}
-use Rattle.arena.specs.Walk.{Out, update, State, worked, lent, less, finish, giveBack, release, Taken, takeAs, takeUse, combine, evalNode, evalUnless, eval}
+use Rattle.arena.specs.Walk.{Out, update, State, worked, lent, less, finish, Taken, takeAs, takeUse, combine, evalNode, evalUnless, eval}
 use Rattle.arena.specs.Charges.{Visit, evaluates, shows, evaluatedIn, childrenFirst, evaluate, member, children, usedBy, copyOf, productCharges, visitCharges, charges, sumOf}
 use Rattle.arena.specs.Code.WalkWords.{sum, edge, edges, none, Right, Inv}
 use Rattle.arena.proofs.walk.Outcomes.{update-same, update-other, suc-of, Post, post-bind, post-map, post-and, charge-then, lend-then}
@@ -20,7 +20,7 @@ use Rattle.arena.proofs.DecodedNodes.{Fits}
 use Rattle.arena.proofs.SparseProducts.{size-weight}
 use Rattle.arena.proofs.walk.Sums.{sum-change}
 use Rattle.arena.proofs.walk.Uses.{edge-same}
-use Rattle.arena.proofs.walk.Invariant.{less-uses, owes, right-shows}
+use Rattle.arena.proofs.walk.Invariant.{owes, right-shows}
 use Rattle.arena.proofs.walk.Evaluates.{Took, Good, take-post, eval-post}
 
 -- ---- the charges by numbers of later uses
