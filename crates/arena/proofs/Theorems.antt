@@ -1,7 +1,6 @@
 -- What is proved of the arena, in the words of specs/ alone.
 use mathlib.Core.Path.{_≡_}
-use mathlib.Core.Logic.{_≢_, _⊎_}
-use mathlib.Core.Bool.{true, false, cond}
+use mathlib.Core.Bool.{true, cond}
 use mathlib.Core.List.{List, [], _∷_, map}
 use Prim.Native.Nat.{ℕ, _+_, _-_, _*_, _≤_, _<_}
 use lib.ListN.{length, take}
@@ -9,23 +8,18 @@ use Rattle.pauli.specs.Letters.{real}
 use Rattle.pauli.specs.Rows.{_★_, scaled, single, present, weight}
 use Rattle.pauli.specs.Table.{start}
 use Rattle.arena.specs.Types.{Pauli, Phase}
-use Rattle.arena.specs.Errors.{PbcError, NonHermitianAxis, ExpansionLimit, NoPool, Fine, Wrong}
+use Rattle.arena.specs.Errors.{PbcError, NonHermitianAxis, Fine, Wrong}
 use Rattle.arena.specs.References.{PauliRef, PauliAxis, nodeIn, scaledWord}
-use Rattle.arena.specs.Nodes.{Identity, nodeAt, image}
+use Rattle.arena.specs.Nodes.{nodeAt, image}
 use Rattle.arena.specs.Store.{Header}
 use Rattle.arena.specs.Builder.{CreatedMade, SingledMade, MultipliedMade, newStep, singleStep, productStep}
-use Rattle.arena.specs.Sparse.{Sparse, size, dense}
-use Rattle.arena.specs.Walk.{Named, fine, refused, State, Taken, rootUses, scan, Walked, charge, takeUse, walkNodes, Answer, walk}
-use Rattle.arena.specs.Readers.{Expanded, expandWalk, hermitianWalk, Weighed, largest, wordsOf, Report, reportWalk}
+use Rattle.arena.specs.Sparse.{size, dense}
+use Rattle.arena.specs.Walk.{Named, fine, refused, State, Walked, charge, walkNodes, Answer, walk}
+use Rattle.arena.specs.Readers.{Expanded, expandWalk, hermitianWalk, Weighed, largest, wordsOf, reportWalk}
 use Rattle.arena.specs.Stats.{Within, Refused, workAfter, chargeAnswer}
 use Rattle.arena.specs.Calls.{Call, Slices, checked, after, KeptSlices}
-use Rattle.arena.specs.Pool.{Who, Lendable}
+use Rattle.arena.specs.Pool.{Lendable}
 use Rattle.arena.specs.PoolRuns.{Held, World, factorsHeld, Without, Run, lentIn, backIn, Once, InChain, InFree}
-use Rattle.arena.specs.Code.Results.{Ledger, Value}
-use Rattle.arena.specs.Charges.{workOf}
-use Rattle.arena.specs.Reachability.{Reachable}
-use Rattle.arena.specs.Code.WalkWords.{sum, edges, owed, Rep, Stands, ValueIs, Multiplying, Walking, Combining}
-use Rattle.arena.specs.Code.Records.{OfNode, OfValue, Spare, factorsAt}
 use Rattle.arena.proofs.NodeRows
 use Rattle.arena.proofs.Answers
 use Rattle.arena.proofs.Spans
@@ -34,15 +28,28 @@ use Rattle.arena.proofs.walk.Ends
 use Rattle.arena.proofs.walk.Reports
 use Rattle.arena.proofs.walk.Charges
 use Rattle.arena.proofs.chains.Safe
-use Rattle.arena.proofs.steps.Records
-use Rattle.arena.proofs.steps.Holding
+use Rattle.arena.specs.Limits.{capOf}
+use mathlib.Core.Bool.{false}
+use mathlib.Core.Logic.{_≢_, _⊎_}
+use Rattle.arena.specs.Errors.{ExpansionLimit, NoPool}
+use Rattle.arena.specs.Nodes.{Identity}
+use Rattle.arena.specs.Sparse.{Sparse}
+use Rattle.arena.specs.Pool.{Who}
+use Rattle.arena.specs.Walk.{Taken, rootUses, scan, takeUse}
+use Rattle.arena.specs.Readers.{Report}
+use Rattle.arena.specs.Charges.{workOf}
+use Rattle.arena.specs.Reachability.{Reachable}
+use Rattle.arena.specs.Code.Results.{Ledger, Value}
+use Rattle.arena.specs.Code.WalkWords.{sum, edges, owed, Rep, Stands, ValueIs, Multiplying, Walking, Combining}
+use Rattle.arena.specs.Code.Records.{OfNode, OfValue, Spare, factorsAt}
 use Rattle.arena.proofs.DecodedNodes
 use Rattle.arena.proofs.walk.Uses
 use Rattle.arena.proofs.walk.Reached
 use Rattle.arena.proofs.walk.Totals
 use Rattle.arena.proofs.walk.Refusals
 use Rattle.arena.proofs.walk.Rooms
-use Rattle.arena.specs.Limits.{capOf}
+use Rattle.arena.proofs.steps.Records
+use Rattle.arena.proofs.steps.Holding
 
 -- ---- demand 1, for the calls of this crate
 
