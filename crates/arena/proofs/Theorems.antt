@@ -40,7 +40,7 @@ use Rattle.arena.specs.Readers.{Report}
 use Rattle.arena.specs.Charges.{workOf}
 use Rattle.arena.specs.Reachability.{Reachable}
 use Rattle.arena.specs.Code.Results.{Ledger, Value}
-use Rattle.arena.specs.Code.WalkWords.{sum, edges, owed, Rep, Stands, ValueIs, Multiplying, Walking, Combining}
+use Rattle.arena.specs.Code.WalkWords.{sum, edges, owed, usesAt, valueAt, headIn, countIn, Rep, Stands, ValueIs, Multiplying, Walking, Combining}
 use Rattle.arena.specs.Code.Records.{OfNode, OfValue, Spare, factorsAt}
 use Rattle.arena.proofs.DecodedNodes
 use Rattle.arena.proofs.walk.Uses
@@ -202,7 +202,11 @@ pub walk-never-free : (count room : ℕ) (l p : List ℕ) (s : State) (left : Le
     → (i r : ℕ) → i < count → OfNode l p i r → Spare p left r → ⊥
 walk-never-free count room l p s left g = Records.never-free count room l p left (g .who) s (g .rep)
 
--- nor twice in the free list
+-- nor twice in the value of a node that has a use left, nor twice in the free list
+pub walk-never-twice : (count room : ℕ) (l p : List ℕ) (s : State) (left : Ledger) → Stands count room l p s left
+    → (i : ℕ) → i < count → 0 < usesAt l i → 0 < valueAt l i → Once p (headIn (valueAt l i)) (countIn (valueAt l i))
+walk-never-twice count room l p s left g = Records.never-twice count room l p left (g .who) s (g .rep)
+
 pub walk-free-once : (count room : ℕ) (l p : List ℕ) (s : State) (left : Ledger) → Stands count room l p s left → Once p (left .free) (left .spare)
 walk-free-once count room l p s left g = Records.spare-once count room l p left (g .who) s (g .rep)
 

@@ -1,4 +1,4 @@
--- Laws of the walk as it is defined: its uses and its invariant, what it means, where it ends, and the machine that does the same without recursion. From the bottom up.
+-- Laws of the walk as it is defined: its uses and its invariant, what it means, where it ends, the machine that does the same without recursion, what it charges, and which limit and room it needs. From the bottom up.
 pub mod Outcomes
 pub mod Sums
 pub mod Uses

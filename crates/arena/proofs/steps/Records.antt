@@ -6,12 +6,12 @@ use mathlib.Core.List.{List}
 use Prim.Native.Nat.{ℕ, _+_, _<_}
 use native.Mathlib.Omega.{arith}
 use lib.ListN.{length}
-use Rattle.arena.specs.Sparse.{Sparse}
+use Rattle.arena.specs.Sparse.{Sparse, size}
 use Rattle.arena.specs.Walk.{State}
 use Rattle.arena.specs.Pool.{Who, Chain, Lendable}
 use Rattle.arena.specs.PoolRuns.{Reached, Once}
 use Rattle.arena.specs.Code.Results.{Ledger, Value}
-use Rattle.arena.specs.Code.WalkWords.{valueAt, headIn, Marks, Rep, ValueIs, Multiplying}
+use Rattle.arena.specs.Code.WalkWords.{usesAt, valueAt, headIn, countIn, Marks, Rep, ValueIs, Multiplying}
 use Rattle.arena.specs.Code.Records.{OfNode, OfValue, Spare}
 use Rattle.arena.proofs.chains.Apart.{apart, not-free, chain-once, free-once, chain-counted}
 
@@ -21,18 +21,28 @@ record On (p : List ℕ) (who : Who) (tag head : ℕ) (x : Sparse) (r : ℕ) : T
   reached : Reached p head (length (x .factors)) r
 
 module _ (count room : ℕ) (l p : List ℕ) (left : Ledger) (who : Who) (s : State) (rep : Rep count room l p left who s) where
-  standing : (i r : ℕ) → i < count → OfNode l p i r → On p who (i + 2) (headIn (valueAt l i)) (s .value i) r
-  standing i r low o = go (s .done i) refl
+  -- a node with a value and a use left is done, and its value is a chain of as many factors as its word says
+  valued : (i : ℕ) → i < count → 0 < usesAt l i → 0 < valueAt l i
+      → Chain p who (i + 2) 0 (headIn (valueAt l i)) (s .value i .factors) × (countIn (valueAt l i) ≡ size (s .value i))
+  valued i low used some = go (s .done i) refl
     where
-      go : (b : Bool) → s .done i ≡ b → On p who (i + 2) (headIn (valueAt l i)) (s .value i) r
+      go : (b : Bool) → s .done i ≡ b → Chain p who (i + 2) 0 (headIn (valueAt l i)) (s .value i .factors) × (countIn (valueAt l i) ≡ size (s .value i))
       go true e =
-          let m : Marks true (s .value i) (valueAt l i) = subst (λ b. Marks b (s .value i) (valueAt l i)) e (rep .scratch .marks-are i low) in record {
-            chain = rep .chains i low e (omega (arith, o .used, rep .scratch .uses-are i low));
-            reached = subst (λ k. Reached p (headIn (valueAt l i)) k r) (m .1) (o .reached);
-          }
+          let m : Marks true (s .value i) (valueAt l i) = subst (λ b. Marks b (s .value i) (valueAt l i)) e (rep .scratch .marks-are i low) in
+          (rep .chains i low e (omega (arith, used, rep .scratch .uses-are i low)), m .1)
       go false e =
           let m : Marks false (s .value i) (valueAt l i) = subst (λ b. Marks b (s .value i) (valueAt l i)) e (rep .scratch .marks-are i low) in
-          absurd (omega (arith, o .valued, m))
+          absurd (omega (arith, some, m))
+
+  standing : (i r : ℕ) → i < count → OfNode l p i r → On p who (i + 2) (headIn (valueAt l i)) (s .value i) r
+  standing i r low o =
+      let v = valued i low (o .used) (o .valued) in
+      record { chain = v .0; reached = subst (λ k. Reached p (headIn (valueAt l i)) k r) (v .1) (o .reached) }
+
+  pub never-twice : (i : ℕ) → i < count → 0 < usesAt l i → 0 < valueAt l i → Once p (headIn (valueAt l i)) (countIn (valueAt l i))
+  never-twice i low used some =
+      let v = valued i low used some in
+      subst (Once p (headIn (valueAt l i))) (sym (v .1)) (chain-once p who (i + 2) 0 (headIn (valueAt l i)) (s .value i .factors) (v .0))
 
   pub never-shared : (i j r : ℕ) → i < count → j < count → i ≢ j → OfNode l p i r → OfNode l p j r → ⊥
   never-shared i j r li lj ne oi oj =
