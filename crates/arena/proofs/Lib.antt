@@ -15,4 +15,5 @@ pub mod chains
 pub mod steps
 pub mod StoredWords
 pub mod Examples
+pub mod Pins
 pub mod Theorems

@@ -35,6 +35,27 @@ use Rattle.arena.proofs.walk.Readers
 use Rattle.arena.proofs.walk.Charges
 use Rattle.arena.proofs.chains.Safe
 use Rattle.arena.specs.Limits.{capOf}
+use mathlib.Core.Bool.{false}
+use mathlib.Core.Logic.{_≢_, _⊎_}
+use Rattle.arena.specs.Errors.{ExpansionLimit, NoPool}
+use Rattle.arena.specs.Nodes.{Identity}
+use Rattle.arena.specs.Sparse.{Sparse}
+use Rattle.arena.specs.Pool.{Who}
+use Rattle.arena.specs.Walk.{Taken, rootUses, scan, takeUse}
+use Rattle.arena.specs.Readers.{Report}
+use Rattle.arena.specs.Charges.{workOf}
+use Rattle.arena.specs.Reachability.{Reachable}
+use Rattle.arena.specs.Code.Results.{Ledger, Value}
+use Rattle.arena.specs.Code.WalkWords.{sum, edges, owed, usesAt, valueAt, headIn, countIn, Rep, Stands, ValueIs, Multiplying, Walking, Combining}
+use Rattle.arena.specs.Code.Records.{OfNode, OfValue, Spare, factorsAt}
+use Rattle.arena.proofs.DecodedNodes
+use Rattle.arena.proofs.walk.Uses
+use Rattle.arena.proofs.walk.Reached
+use Rattle.arena.proofs.walk.Totals
+use Rattle.arena.proofs.walk.Refusals
+use Rattle.arena.proofs.walk.Rooms
+use Rattle.arena.proofs.steps.Records
+use Rattle.arena.proofs.steps.Holding
 
 -- ---- demand 1, for the calls of this crate
 
@@ -255,3 +276,120 @@ charge-fine = Charges.fine-within
 -- a refusal is the same refusal
 pub charge-refused : (limit amount : ℕ) (s : State) (e : PbcError) → chargeAnswer (s .work) limit amount ≡ Refused e → charge limit amount s ≡ refused e
 charge-refused = Charges.refused-alike
+
+-- ---- the words of a walk
+
+-- `Rep` is what every function that a walk runs on scratch and pool asks for and leaves, and `Stands` is `Rep` for some holders of the records:
+-- asked for by take_use (Takeable), multiply_at (Multiplying), combine_at (Combining), single_at (Making), product_step, step_at, run_path, eval_root, show_root,
+-- weigh_root (Walking in Branched, Topped, Started, Rooted), release (Releasable), weigh_axes (Weighing);
+-- left by begin (Begun), take_use (TookRep), multiply_at, combine_at, single_at, run_path, eval_root (Stands), product_step, step_at (Landed), show_root (RootShown),
+-- release (Released), weigh_root (RootWeighed). So what follows holds before and after each of them.
+
+-- no record is in the values of two nodes
+pub walk-never-shared : (count room : ℕ) (l p : List ℕ) (s : State) (left : Ledger) → Stands count room l p s left
+    → (i j r : ℕ) → i < count → j < count → i ≢ j → OfNode l p i r → OfNode l p j r → ⊥
+walk-never-shared count room l p s left g = Records.never-shared count room l p left (g .who) s (g .rep)
+
+-- nor in the value of a node and the free list
+pub walk-never-free : (count room : ℕ) (l p : List ℕ) (s : State) (left : Ledger) → Stands count room l p s left
+    → (i r : ℕ) → i < count → OfNode l p i r → Spare p left r → ⊥
+walk-never-free count room l p s left g = Records.never-free count room l p left (g .who) s (g .rep)
+
+-- nor twice in the value of a node that has a use left, nor twice in the free list
+pub walk-never-twice : (count room : ℕ) (l p : List ℕ) (s : State) (left : Ledger) → Stands count room l p s left
+    → (i : ℕ) → i < count → 0 < usesAt l i → 0 < valueAt l i → Once p (headIn (valueAt l i)) (countIn (valueAt l i))
+walk-never-twice count room l p s left g = Records.never-twice count room l p left (g .who) s (g .rep)
+
+pub walk-free-once : (count room : ℕ) (l p : List ℕ) (s : State) (left : Ledger) → Stands count room l p s left → Once p (left .free) (left .spare)
+walk-free-once count room l p s left g = Records.spare-once count room l p left (g .who) s (g .rep)
+
+-- a record of a value is counted, and is not record 0
+pub walk-counted : (count room : ℕ) (l p : List ℕ) (s : State) (left : Ledger) → Stands count room l p s left
+    → (i r : ℕ) → i < count → OfNode l p i r → Lendable p r
+walk-counted count room l p s left g = Records.counted count room l p left (g .who) s (g .rep)
+
+-- a value in hand is what take_use leaves (`rep` and `value` of TookRep) and what multiply_at asks for twice (Multiplying): its records are in no node's value
+pub walk-hand-never-shared : (count room : ℕ) (l p : List ℕ) (left : Ledger) (who : Who) (s : State) → Rep count room l p left who s
+    → (tag : ℕ) → tag < 2 → (v : Value) (x : Sparse) → ValueIs p who tag v x → (i r : ℕ) → i < count → OfValue p v r → OfNode l p i r → ⊥
+walk-hand-never-shared = Records.hand-not-standing
+
+-- nor free
+pub walk-hand-never-free : (count room : ℕ) (l p : List ℕ) (left : Ledger) (who : Who) (s : State) → Rep count room l p left who s
+    → (tag : ℕ) → tag < 2 → (v : Value) (x : Sparse) → ValueIs p who tag v x → (r : ℕ) → OfValue p v r → Spare p left r → ⊥
+walk-hand-never-free = Records.hand-not-free
+
+-- nor there twice
+pub walk-hand-once : (count room : ℕ) (l p : List ℕ) (left : Ledger) (who : Who) (s : State) → Rep count room l p left who s
+    → (tag : ℕ) → tag < 2 → (v : Value) (x : Sparse) → ValueIs p who tag v x → Once p (v .head) (v .count)
+walk-hand-once = Records.hand-once
+
+-- and the two values that multiply_at multiplies share none
+pub walk-hands-never-shared : (l p : List ℕ) (limit i : ℕ) (a b : Value) (left : Ledger) → Multiplying l p limit i a b left
+    → (r : ℕ) → OfValue p a r → OfValue p b r → ⊥
+walk-hands-never-shared = Records.hands-apart
+
+-- the records that are free and the factors of the values that stand are all the records: asked for by step_at and the functions that it runs (Walking)
+pub walk-holds : (words l p : List ℕ) (count limit : ℕ) (left : Ledger) (g : Walking words l p count limit left) → left .spare + sum count (factorsAt l) ≡ g .room
+walk-holds = Holding.rest-holds
+
+-- with a value in hand its factors too, after the first take_use of combine_at
+pub walk-hand-holds : (l p : List ℕ) (limit i lw rt : ℕ) (left : Ledger) (g : Combining l p limit i lw rt left)
+    → (a : Taken) → takeUse limit (g .at .room) lw (g .at .s) ≡ fine a
+    → (l′ p′ : List ℕ) (left′ : Ledger) (who : Who) → Rep (g .count) (g .at .room) l′ p′ left′ who (a .state)
+    → left′ .spare + (sum (g .count) (factorsAt l′) + size (a .value)) ≡ g .at .room
+walk-hand-holds = Holding.hand-holds
+
+-- and with two, after the second
+pub walk-hands-hold : (l p : List ℕ) (limit i lw rt : ℕ) (left : Ledger) (g : Combining l p limit i lw rt left)
+    → (a b : Taken) → takeUse limit (g .at .room) lw (g .at .s) ≡ fine a → takeUse limit (g .at .room) rt (a .state) ≡ fine b
+    → (l′ p′ : List ℕ) (left′ : Ledger) (who : Who) → Rep (g .count) (g .at .room) l′ p′ left′ who (b .state)
+    → left′ .spare + (sum (g .count) (factorsAt l′) + (size (a .value) + size (b .value))) ≡ g .at .room
+walk-hands-hold = Holding.hands-hold
+
+-- ---- what a walk counts and charges
+
+-- the nodes with a use at the start, as scan_uses counts them, are the reachable ones
+pub walk-uses-reachable : (n count : ℕ) (words roots : List ℕ) → Named count roots → (j : ℕ) → j < count
+    → (0 < scan (nodeAt n words) count (rootUses roots) .uses j → Reachable (nodeAt n words) roots j)
+    × (Reachable (nodeAt n words) roots j → 0 < scan (nodeAt n words) count (rootUses roots) .uses j)
+walk-uses-reachable n count words roots = Reached.reached-both n count (nodeAt n words) (DecodedNodes.node-fits n words) roots
+
+-- and a node's uses are the roots that name it and the child words of reachable nodes that do
+pub walk-uses-counted : (n count : ℕ) (words roots : List ℕ) (j : ℕ) → let all = scan (nodeAt n words) count (rootUses roots) .uses in
+    all j ≡ rootUses roots j + sum count (λ i. owed false (all i) (edges (nodeAt n words i) j))
+walk-uses-counted n count words roots = Uses.scan-uses n (nodeAt n words) (DecodedNodes.node-fits n words) count (rootUses roots)
+
+-- the work answered is the sum of the charges
+pub walk-work : (limit room n count : ℕ) (words roots : List ℕ) (a : Answer) → Named count roots → walk limit room n count words roots ≡ fine a
+    → a .work ≡ workOf n count words roots
+walk-work = Totals.walk-work
+
+-- and at most the limit
+pub walk-within : (limit room n count : ℕ) (words roots : List ℕ) (a : Answer) → Named count roots → walk limit room n count words roots ≡ fine a → a .work ≤ limit
+walk-within = Totals.walk-within
+
+-- a walk needs the work of its charges and some room, and is accepted exactly where it has both; 18 says that it lacks room, 17 that its charges are above the limit
+pub walk-decided : (n count : ℕ) (words roots : List ℕ) → Named count roots → (need : ℕ) × ((limit room : ℕ)
+    → (workOf n count words roots ≤ limit → need ≤ room → (a : Answer) × (walk limit room n count words roots ≡ fine a))
+    × ((a : Answer) → walk limit room n count words roots ≡ fine a → (workOf n count words roots ≤ limit) × (need ≤ room))
+    × ((e : PbcError) → walk limit room n count words roots ≡ refused e
+    → ((e ≡ NoPool) × (room < need)) ⊎ ((e ≡ ExpansionLimit) × (limit < workOf n count words roots))))
+walk-decided = Refusals.walk-decided
+
+-- a record for each qubit of each node is room enough, where node 0 is the identity
+pub walk-room-enough : (limit room n count : ℕ) (words roots : List ℕ) (e : PbcError) → Named count roots → nodeAt n words 0 ≡ Identity → n * count ≤ room
+    → walk limit room n count words roots ≡ refused e → e ≡ ExpansionLimit
+walk-room-enough = Rooms.room-enough
+
+-- the work of an accepted expansion, of an axis that passes, and of a report, is that sum too
+pub expand-work : (cells room n count : ℕ) (words : List ℕ) (w : ℕ) (x : Expanded) → nodeIn w < count → expandWalk cells room n count words w ≡ fine x
+    → x .work ≡ workOf n count words (w ∷ [])
+expand-work = Totals.expand-work
+
+pub hermitian-work : (limit room n count : ℕ) (words : List ℕ) (w work : ℕ) → nodeIn w < count → hermitianWalk limit room n count words w ≡ fine work
+    → work ≡ workOf n count words (w ∷ [])
+hermitian-work = Totals.hermitian-work
+
+pub report-work : (limit room n count : ℕ) (words : List ℕ) (axes : List Weighed) (x : Report) → Named count (wordsOf axes) → reportWalk limit room n count words axes ≡ fine x
+    → x .work ≡ workOf n count words (wordsOf axes)
+report-work = Totals.report-work

@@ -11,3 +11,5 @@ pub mod Roots
 pub mod Readers
 pub mod Weights
 pub mod Cells
+pub mod Records
+pub mod Holding

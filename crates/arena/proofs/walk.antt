@@ -1,4 +1,4 @@
--- Laws of the walk as it is defined: its uses and its invariant, what it means, where it ends, and the machine that does the same without recursion. From the bottom up.
+-- Laws of the walk as it is defined: its uses and its invariant, what it means, where it ends, the machine that does the same without recursion, what it charges, and which limit and room it needs. From the bottom up.
 pub mod Outcomes
 pub mod Sums
 pub mod Uses
@@ -14,3 +14,8 @@ pub mod Reports
 pub mod Errors
 pub mod Readers
 pub mod Charges
+pub mod Reached
+pub mod Work
+pub mod Totals
+pub mod Refusals
+pub mod Rooms

@@ -1,6 +1,7 @@
--- What the functions that are not public ask of each other, and what their words stand for while they run. No public promise and no theorem cites it.
+-- What the functions that are not public ask of each other, and what their words stand for while they run. No public promise cites it, and of the theorems only those about the words of a walk.
 pub mod Turns
 pub mod Machine
 pub mod Results
 pub mod WalkWords
+pub mod Records
 pub mod Roots

@@ -10,3 +10,4 @@ pub mod HandCircuits
 pub mod Examples
 pub mod Theorems
 pub mod LaterExamples
+pub mod Pins

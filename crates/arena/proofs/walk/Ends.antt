@@ -26,7 +26,7 @@ pub record Empty (t : State) : Type 0 where
   pub no-record : t .held ≡ 0
 
 -- the children of a done node are done
-abbrev Closed : (ℕ → PauliNode) → State → Type 0
+abbrev pub Closed : (ℕ → PauliNode) → State → Type 0
 Closed node s = (i j : ℕ) → s .done i ≡ true → 0 < edges (node i) j → s .done j ≡ true
 
 closed-mark : (node : ℕ → PauliNode) (i : ℕ) (s t : State) → Closed node s → t .done ≡ update (s .done) i true
@@ -56,10 +56,10 @@ release-done j s = go (eqb (s .uses j) 1)
     go false = refl
 
 -- showing the roots ws from s on left r
-record Ended (node : ℕ → PauliNode) (ws : List ℕ) (s : State) (r : Walked) : Type 0 where
-  closed : Closed node (r .state)
-  still : (j : ℕ) → s .done j ≡ true → r .state .done j ≡ true
-  roots-done : (j : ℕ) → 0 < rootUses ws j → r .state .done j ≡ true
+pub record Ended (node : ℕ → PauliNode) (ws : List ℕ) (s : State) (r : Walked) : Type 0 where
+  pub closed : Closed node (r .state)
+  pub still : (j : ℕ) → s .done j ≡ true → r .state .done j ≡ true
+  pub roots-done : (j : ℕ) → 0 < rootUses ws j → r .state .done j ≡ true
 
 module _ (limit room n : ℕ) (node : ℕ → PauliNode) (fits : (i : ℕ) → Fits n i (node i)) where
   eval-closed : (f i : ℕ) (s : State) → i < f → Closed node s → Post (eval limit room node f i s) (Closed node)
@@ -95,7 +95,7 @@ module _ (limit room n : ℕ) (node : ℕ → PauliNode) (fits : (i : ℕ) → F
       unless true ih mh = c
       unless false ih mh = by-node (node i) refl (fits i) ih mh
 
-  show-ends : (count : ℕ) (ws : List ℕ) (s : State) → Named count ws → Closed node s → Post (showRoots limit room node count ws s) (Ended node ws s)
+  pub show-ends : (count : ℕ) (ws : List ℕ) (s : State) → Named count ws → Closed node s → Post (showRoots limit room node count ws s) (Ended node ws s)
   show-ends count [] s h c = record { closed = c; still = λ j d. d; roots-done = λ j k. absurd (not-suc-le-zero k) }
   show-ends count (w ∷ ws) s h c =
       post-bind (eval limit room node count (nodeIn w) s) _ _ (Ended node (w ∷ ws) s)
@@ -118,7 +118,7 @@ module _ (limit room n : ℕ) (node : ℕ → PauliNode) (fits : (i : ℕ) → F
 
 -- ---- nothing is left
 
-sum-some : (k : ℕ) (f : ℕ → ℕ) → 0 < sum k f → (i : ℕ) × (i < k) × (0 < f i)
+pub sum-some : (k : ℕ) (f : ℕ → ℕ) → 0 < sum k f → (i : ℕ) × (i < k) × (0 < f i)
 sum-some zero f h = absurd (not-suc-le-zero h)
 sum-some (suc k) f h = go (f k) refl (sum-some k f)
   where
@@ -126,16 +126,16 @@ sum-some (suc k) f h = go (f k) refl (sum-some k f)
     go zero e ih = let r = ih (omega arith) in (r .0, omega (arith, r .1), r .2)
     go (suc m) e ih = (k, omega arith, omega arith)
 
-owed-some : (u k : ℕ) → 0 < owed false u k → (0 < u) × (0 < k)
+pub owed-some : (u k : ℕ) → 0 < owed false u k → (0 < u) × (0 < k)
 owed-some zero k h = absurd (not-suc-le-zero h)
 owed-some (suc u) k h = (omega arith, h)
 
 module _ (limit room n count : ℕ) (node : ℕ → PauliNode) (fits : (i : ℕ) → Fits n i (node i)) (roots : List ℕ) where
-  abbrev total : ℕ → ℕ
+  abbrev pub total : ℕ → ℕ
   total = scan node count (rootUses roots) .uses
 
   -- every reachable node is done
-  reached-done : (t : State) → Closed node t → ((j : ℕ) → 0 < rootUses roots j → t .done j ≡ true)
+  pub reached-done : (t : State) → Closed node t → ((j : ℕ) → 0 < rootUses roots j → t .done j ≡ true)
       → (d j : ℕ) → count ≤ j + d → j < count → 0 < total j → t .done j ≡ true
   reached-done t c r zero j h hj u = absurd (omega arith)
   reached-done t c r (suc d) j h hj u = go (rootUses roots j) refl (λ i hi. reached-done t c r d i hi)
@@ -152,7 +152,7 @@ module _ (limit room n count : ℕ) (node : ℕ → PauliNode) (fits : (i : ℕ)
           parent i hi ui ei (below l) = absurd (omega (arith, edges-low n i j (node i) (fits i) (omega arith)))
           parent i hi ui ei (same q) = absurd (omega (arith, edges-low n i j (node i) (fits i) (omega arith)))
 
-  ends-empty : (t : State) → Closed node t → ((j : ℕ) → 0 < rootUses roots j → t .done j ≡ true)
+  pub ends-empty : (t : State) → Closed node t → ((j : ℕ) → 0 < rootUses roots j → t .done j ≡ true)
       → Inv limit room n count node total none none 0 t → Empty t
   ends-empty t c r inv = record {
     no-use = no-use;
