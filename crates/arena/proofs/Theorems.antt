@@ -1,5 +1,6 @@
 -- What is proved of the arena, in the words of specs/ alone.
 use mathlib.Core.Path.{_≡_, sym}
+use mathlib.Core.Logic.{_≢_, _⊎_}
 use mathlib.Core.Bool.{true, false, cond, _||_}
 use mathlib.Core.List.{List, [], _∷_, _++_, map}
 use Prim.Native.Nat.{ℕ, _+_, _-_, _*_, _≤_, _<_}
@@ -9,20 +10,26 @@ use Rattle.pauli.specs.Angle.{angleOf, eighthsOf}
 use Rattle.pauli.specs.Rows.{_★_, scaled, single, present, weight}
 use Rattle.pauli.specs.Table.{start}
 use Rattle.arena.specs.Types.{Pauli, Phase, PauliAngle}
-use Rattle.arena.specs.Errors.{PbcError, BadStore, NonHermitianAxis, Fine, Wrong}
+use Rattle.arena.specs.Limits.{capOf}
+use Rattle.arena.specs.Errors.{PbcError, BadStore, NonHermitianAxis, Fine, Wrong, ExpansionLimit, NoPool}
 use Rattle.arena.specs.References.{PauliRef, PauliAxis, axisOf, nodeIn, scaledWord}
-use Rattle.arena.specs.Nodes.{nodeAt, image}
+use Rattle.arena.specs.Nodes.{nodeAt, image, Identity}
 use Rattle.arena.specs.Operations.{MeasId, measId, Target, Rotate, Measure, ConditionalRotate}
 use Rattle.arena.specs.Store.{Header}
 use Rattle.arena.specs.Builder.{CreatedMade, SingledMade, MultipliedMade, PushedMade, MeasuredMade, newStep, singleStep, productStep, rotateStep, measureStep, conditionalStep}
-use Rattle.arena.specs.Sparse.{size, dense}
-use Rattle.arena.specs.Walk.{Named, fine, refused, State, Walked, charge, walkNodes, Answer, walk}
+use Rattle.arena.specs.Sparse.{size, dense, Sparse}
+use Rattle.arena.specs.Walk.{Named, fine, refused, State, Walked, charge, walkNodes, Answer, walk, Taken, rootUses, scan, takeUse}
+use Rattle.arena.specs.Charges.{workOf}
+use Rattle.arena.specs.Reachability.{Reachable}
 use Rattle.arena.specs.Readers.{Expanded, expandWalk, hermitianWalk, Weighed, largest, wordsOf, Report, reportWalk}
 use Rattle.arena.specs.Expansion.{ExpansionMade, HermitianMade, WeightsMade, expansionOf, hermitianOf, maxWeightsOf, opAt, badNodes, badOperations, expandStep, hermitianStep, axesTo, reportStep}
 use Rattle.arena.specs.Stats.{Within, Refused, workAfter, chargeAnswer}
 use Rattle.arena.specs.Calls.{Call, Slices, checked, after, KeptSlices}
-use Rattle.arena.specs.Pool.{Lendable}
+use Rattle.arena.specs.Pool.{Lendable, Who}
 use Rattle.arena.specs.PoolRuns.{Held, World, factorsHeld, Without, Run, lentIn, backIn, Once, InChain, InFree}
+use Rattle.arena.specs.Code.Results.{Ledger, Value}
+use Rattle.arena.specs.Code.WalkWords.{sum, edges, owed, usesAt, valueAt, headIn, countIn, Rep, Stands, ValueIs, Multiplying, Walking, Combining}
+use Rattle.arena.specs.Code.Records.{OfNode, OfValue, Spare, factorsAt}
 use Rattle.arena.proofs.NodeRows
 use Rattle.arena.proofs.Answers
 use Rattle.arena.proofs.Written
@@ -34,20 +41,6 @@ use Rattle.arena.proofs.walk.Reports
 use Rattle.arena.proofs.walk.Readers
 use Rattle.arena.proofs.walk.Charges
 use Rattle.arena.proofs.chains.Safe
-use Rattle.arena.specs.Limits.{capOf}
-use mathlib.Core.Bool.{false}
-use mathlib.Core.Logic.{_≢_, _⊎_}
-use Rattle.arena.specs.Errors.{ExpansionLimit, NoPool}
-use Rattle.arena.specs.Nodes.{Identity}
-use Rattle.arena.specs.Sparse.{Sparse}
-use Rattle.arena.specs.Pool.{Who}
-use Rattle.arena.specs.Walk.{Taken, rootUses, scan, takeUse}
-use Rattle.arena.specs.Readers.{Report}
-use Rattle.arena.specs.Charges.{workOf}
-use Rattle.arena.specs.Reachability.{Reachable}
-use Rattle.arena.specs.Code.Results.{Ledger, Value}
-use Rattle.arena.specs.Code.WalkWords.{sum, edges, owed, usesAt, valueAt, headIn, countIn, Rep, Stands, ValueIs, Multiplying, Walking, Combining}
-use Rattle.arena.specs.Code.Records.{OfNode, OfValue, Spare, factorsAt}
 use Rattle.arena.proofs.DecodedNodes
 use Rattle.arena.proofs.walk.Uses
 use Rattle.arena.proofs.walk.Reached
