@@ -5,6 +5,7 @@ use crate::buffers::first;
 use crate::buffers::part;
 use crate::buffers::wide_part;
 use crate::buffers::word;
+use crate::help;
 use crate::output;
 use crate::state::Buffer;
 use crate::state::LineAnswer;
@@ -206,6 +207,7 @@ fn brief(out: &mut [u8], at: usize, answer: LineAnswer) -> usize {
         LineAnswer::Bad => output::text(out, at, b"bad"),
         LineAnswer::Refused(r) => refused(out, at, r),
         LineAnswer::Done => ok(out, at),
+        LineAnswer::Help => help::answer(out, at),
         _ => numbers(out, at, answer),
     }
 }

@@ -119,6 +119,41 @@ impl Line {
         longer.with_text(byte)
     }
 
+    /// The command's name has not begun.
+    pub(crate) fn is_fresh(self) -> bool {
+        !self.bad & (self.token == BETWEEN) & (self.name == 0)
+    }
+
+    /// The command's name has ended, and a number may begin.
+    pub(crate) fn is_between(self) -> bool {
+        !self.bad & (self.token == BETWEEN) & !(self.name == 0)
+    }
+
+    /// The line with this name, after so many bytes more.
+    pub(crate) fn with_name(mut self, name: u64, bytes: usize) -> Line {
+        self.name = name;
+        self.bad = name == NO_NAME;
+        self.longer_by(bytes)
+    }
+
+    /// The line with so many numbers, after so many bytes more.
+    pub(crate) fn with_numbers(mut self, numbers: usize, bytes: usize) -> Line {
+        self.numbers = numbers;
+        self.longer_by(bytes)
+    }
+
+    fn longer_by(mut self, bytes: usize) -> Line {
+        if (LONGEST as usize) < bytes {
+            return self.spoilt();
+        }
+        let length = self.length as usize + bytes;
+        if (LONGEST as usize) < length {
+            return self.spoilt();
+        }
+        self.length = length as u32;
+        self
+    }
+
     fn spoilt(mut self) -> Line {
         self.bad = true;
         self

@@ -1,18 +1,37 @@
-//! Answers are gathered in a lent buffer, which is written to standard output when it is full and at the end.
+//! Answers are gathered in a lent buffer, which is written to standard output when it is full and before more input is waited for.
 //! Each function takes how many bytes stand there, and answers how many do afterwards.
 
-use libc::STDOUT_FILENO;
+use crate::buffers::CHUNK;
+use crate::system::write_all;
+
+// What stands for the number of bytes once a write has failed: from then on nothing is gathered or written.
+const FAILED: usize = 18446744073709551615;
+
+/// A write has failed.
+pub(crate) fn has_failed(at: usize) -> bool {
+    CHUNK < at
+}
+
+/// What stands in the buffer is written.
+pub(crate) fn flush(out: &[u8], at: usize) -> usize {
+    if out.len() < at {
+        return at;
+    }
+    if write_all(&out[0..at]) {
+        return 0;
+    }
+    FAILED
+}
 
 // A full buffer is written, and begins again.
 fn with_room(out: &[u8], at: usize) -> usize {
-    if at < out.len() {
-        return at;
+    if at == out.len() {
+        return flush(out, at);
     }
-    io::write_all(STDOUT_FILENO, out);
-    0
+    at
 }
 
-fn put(out: &mut [u8], at: usize, byte: u8) -> usize {
+pub(crate) fn put(out: &mut [u8], at: usize, byte: u8) -> usize {
     let to = with_room(out, at);
     if to < out.len() {
         out[to] = byte;

@@ -6,10 +6,10 @@ use Rattle.pbc.proofs.input.next_line.Statement.{statement}
 use Rattle.pbc.proofs.input.next_line.Tie as tie
 
 abbrev Inv-loop : tie.InvT-loop
-Inv-loop input₀ words₀ read₀ turns₀ input words read turns = (length input ≡ length input₀) × (length words ≡ length words₀)
+Inv-loop at input₀ words₀ out read₀ turns₀ input words read turns = (length input ≡ length input₀) × (length words ≡ length words₀)
 
 abbrev μ-loop : tie.MeasureT-loop
-μ-loop input₀ words₀ read₀ turns₀ input words read turns = turns
+μ-loop at input₀ words₀ out read₀ turns₀ input words read turns = turns
 
 new-requires : tie.Need-new-requires Inv-loop μ-loop
 new-requires c κs = tt
