@@ -4,14 +4,13 @@ use crate::buffers::byte_part;
 use crate::line::Line;
 use crate::output::flush;
 use crate::output::has_failed;
+use crate::runs::LINE_FEED;
 use crate::runs::read_name;
 use crate::runs::read_numbers;
 use crate::system::Input;
 use crate::system::TURNS;
 use crate::system::read_some;
 ghost use Prim.Native.Nat.{_≤_};
-
-const LINE_FEED: u8 = 10;
 
 /// A line, and how far the chunk of input that it ends in was read.
 pub struct Reader {
@@ -45,7 +44,7 @@ fn unfinished(line: Line, count: usize, at: usize) -> Reader {
     }
 }
 
-// The input has ended, or a call has failed.
+// The input has ended, or a call has failed, and then the line is empty, so that nothing is answered.
 fn stopped(line: Line, at: usize) -> Reader {
     Reader {
         line,

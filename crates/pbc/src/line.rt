@@ -6,13 +6,13 @@ use crate::buffers::wide_at;
 use crate::names::NO_NAME;
 use crate::names::extended;
 use crate::names::is_letter;
+use crate::runs::SPACE;
+use crate::runs::successor;
 ghost use mathlib.Core.Path.{_≡_};
 ghost use Rattle.pbc.specs.Lines.{newLine, hasNumbers, hasSigned, hasMore, hasMoreSigned, hasBuffer, signedOf, signedAt};
 
 /// The longest line that is read, in bytes.
 const LONGEST: u32 = 4500000;
-
-const SPACE: u8 = 32;
 
 const MINUS_SIGN: u8 = 45;
 
@@ -51,14 +51,6 @@ pub struct Line {
     /// The magnitude of the number being read, and whether it has a minus sign.
     pub magnitude: u64,
     pub negative: bool,
-}
-
-// One more, unless no number is left.
-fn next(n: usize) -> usize {
-    if n < 18446744073709551615 {
-        return n + 1;
-    }
-    n
 }
 
 // A magnitude with one digit more; one that would pass 2^63 + 1 becomes the greatest number, and stays it.
@@ -281,7 +273,7 @@ impl Line {
     }
 
     fn counted(mut self) -> Line {
-        let numbers = next(self.numbers);
+        let numbers = successor(self.numbers);
         self.numbers = numbers;
         self.token = BETWEEN;
         self

@@ -5,11 +5,11 @@ use crate::buffers::put_word;
 use crate::names::extended;
 use crate::names::is_letter;
 use std::num::wrapping_sub_u8;
-ghost use Prim.Native.Nat.{_≤_, _<_, _^_};
+ghost use Prim.Native.Nat.{_≤_};
 
-const SPACE: u8 = 32;
+pub(crate) const SPACE: u8 = 32;
 
-const LINE_FEED: u8 = 10;
+pub(crate) const LINE_FEED: u8 = 10;
 
 /// A name, 0 if there is none, and how far the chunk was read.
 pub struct Name {
@@ -29,7 +29,7 @@ pub struct Digits {
     pub next: usize,
 }
 
-// The first byte from a place on that is no space.
+/// The first byte from a place on that is no space.
 pub(crate) fn after_spaces(chunk: &[u8], from: usize) -> usize
     ensures { λ r. ⌜ from ≤ r ⌝ }
 {
@@ -84,7 +84,7 @@ pub(crate) fn read_name(chunk: &[u8], from: usize) -> Name
     }
 }
 
-// The digits from a place on; those after the first that makes the value 2^32 or more are left.
+/// The digits from a place on; those after the first that makes the value 2^32 or more are left.
 pub(crate) fn digits_at(chunk: &[u8], from: usize) -> Digits {
     let mut value = 0u64;
     let mut next = from;
@@ -102,8 +102,8 @@ pub(crate) fn digits_at(chunk: &[u8], from: usize) -> Digits {
     Digits { value, next }
 }
 
-// One more, unless no number is left.
-fn successor(n: usize) -> usize {
+/// One more, unless no number is left.
+pub(crate) fn successor(n: usize) -> usize {
     if n < 18446744073709551615 {
         return n + 1;
     }
