@@ -26,41 +26,16 @@ fn put(out: &mut [u8], at: usize, between: &[u8], byte: u8) -> usize {
 
 // Every command, with `between` before each but the first.
 fn commands(out: &mut [u8], at: usize, between: &[u8]) -> usize {
-    let to = listed(
+    listed(
         out,
         at,
         between,
-        b"new N CBITS|convert N CBITS CAP WORD ..|planes N CBITS CAP WORD ..|fgate KIND A B C",
-    );
-    let to = listed(
-        out,
-        to,
-        between,
-        b"|single QUBIT LETTER|product F W F W|rotate F W ANGLE|measure F W BIT+1|cond F W ANGLE F NUMBER",
-    );
-    let to = listed(
-        out,
-        to,
-        between,
-        b"|expand F W MAX_CELLS|herm F W LIMIT|report LIMIT|angle K|times A B|dump|kinds",
-    );
-    let to = listed(
-        out,
-        to,
-        between,
-        b"|store N CBITS MEASUREMENTS COUNT NODEWORD .. COUNT OPERATIONWORD .. COUNT FRAMEWORD ..",
-    );
-    let to = listed(
-        out,
-        to,
-        between,
-        b"|header N CBITS NODES OPERATIONS MEASUREMENTS|peek BUFFER FROM COUNT|fill VALUE",
-    );
-    listed(
-        out,
-        to,
-        between,
-        b"|lend|lend NODES OPERATIONS FRAME PLANES SCRATCH POOL LETTERS|help",
+        b"new N CBITS|convert N CBITS CAP WORD ..|planes N CBITS CAP WORD ..|fgate KIND A B C|\
+        single QUBIT LETTER|product F W F W|rotate F W ANGLE|measure F W BIT+1|cond F W ANGLE F NUMBER|\
+        expand F W MAX_CELLS|herm F W LIMIT|report LIMIT|angle K|times A B|dump|kinds|\
+        store N CBITS MEASUREMENTS COUNT NODEWORD .. COUNT OPERATIONWORD .. COUNT FRAMEWORD ..|\
+        header N CBITS NODES OPERATIONS MEASUREMENTS|peek BUFFER FROM COUNT|fill VALUE|\
+        lend|lend NODES OPERATIONS FRAME PLANES SCRATCH POOL LETTERS|help",
     )
 }
 
