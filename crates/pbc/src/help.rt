@@ -1,5 +1,6 @@
 //! The commands with their arguments, for the command `help` and the argument `--help`.
 
+use crate::buffers::CHUNK;
 use crate::output;
 use crate::text::stands_at;
 use libc::STDERR_FILENO;
@@ -7,7 +8,7 @@ use libc::STDERR_FILENO;
 const BAR: u8 = 124;
 
 // The bytes, with `between` for each bar.
-fn listed(out: &mut [u8], at: usize, between: &[u8], commands: &[u8]) -> usize {
+fn listed(out: &mut [u8; CHUNK], at: usize, between: &[u8], commands: &[u8]) -> usize {
     let mut to = at;
     let mut i = 0;
     while i < commands.len() {
@@ -17,7 +18,7 @@ fn listed(out: &mut [u8], at: usize, between: &[u8], commands: &[u8]) -> usize {
     to
 }
 
-fn put(out: &mut [u8], at: usize, between: &[u8], byte: u8) -> usize {
+fn put(out: &mut [u8; CHUNK], at: usize, between: &[u8], byte: u8) -> usize {
     if byte == BAR {
         return output::text(out, at, between);
     }
@@ -25,7 +26,7 @@ fn put(out: &mut [u8], at: usize, between: &[u8], byte: u8) -> usize {
 }
 
 // Every command, with `between` before each but the first.
-fn commands(out: &mut [u8], at: usize, between: &[u8]) -> usize {
+fn commands(out: &mut [u8; CHUNK], at: usize, between: &[u8]) -> usize {
     listed(
         out,
         at,
@@ -40,13 +41,13 @@ fn commands(out: &mut [u8], at: usize, between: &[u8]) -> usize {
 }
 
 /// The answer to `help`, on one line.
-pub(crate) fn answer(out: &mut [u8], at: usize) -> usize {
+pub(crate) fn answer(out: &mut [u8; CHUNK], at: usize) -> usize {
     let to = output::text(out, at, b"ok ");
     commands(out, to, b" | ")
 }
 
 fn usage() {
-    let mut out = [0u8; 1024];
+    let mut out = [0u8; CHUNK];
     let to = output::text(
         &mut out,
         0,

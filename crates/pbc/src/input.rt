@@ -1,5 +1,7 @@
 //! Standard input, read a chunk at a time and handed out line by line. What has come is answered before more is waited for.
 
+use crate::buffers::CHUNK;
+use crate::buffers::LINE_WORDS;
 use crate::buffers::byte_part;
 use crate::line::Line;
 use crate::output::flush;
@@ -76,7 +78,7 @@ fn with_name(line: Line, chunk: &[u8], from: usize) -> Part
 }
 
 // The same, and the whole numbers after it.
-fn with_numbers(line: Line, chunk: &[u8], from: usize, words: &mut [u32]) -> Part
+fn with_numbers(line: Line, chunk: &[u8], from: usize, words: &mut [u32; LINE_WORDS]) -> Part
     ensures { λ r. ⌜ from ≤ r .next ⌝ }
 {
     let named = with_name(line, chunk, from);
@@ -95,7 +97,13 @@ fn with_numbers(line: Line, chunk: &[u8], from: usize, words: &mut [u32]) -> Par
 }
 
 // The line goes on to the next line feed, or to the end of the chunk.
-fn read_on(line: Line, chunk: &[u8], from: usize, words: &mut [u32], at: usize) -> Reader {
+fn read_on(
+    line: Line,
+    chunk: &[u8],
+    from: usize,
+    words: &mut [u32; LINE_WORDS],
+    at: usize,
+) -> Reader {
     let mut line = line;
     let mut next = from;
     while next < chunk.len() {
@@ -124,7 +132,12 @@ fn read_on(line: Line, chunk: &[u8], from: usize, words: &mut [u32], at: usize) 
 }
 
 // The line goes on in the next chunk; the answers to the lines before it are written first.
-fn refilled(reader: Reader, input: &mut [u8], words: &mut [u32], out: &[u8]) -> Reader {
+fn refilled(
+    reader: Reader,
+    input: &mut [u8; CHUNK],
+    words: &mut [u32; LINE_WORDS],
+    out: &[u8; CHUNK],
+) -> Reader {
     let at = flush(out, reader.at);
     if has_failed(at) {
         return stopped(Line::new(), at);
@@ -143,9 +156,9 @@ fn refilled(reader: Reader, input: &mut [u8], words: &mut [u32], out: &[u8]) -> 
 pub(crate) fn next_line(
     reader: Reader,
     at: usize,
-    input: &mut [u8],
-    words: &mut [u32],
-    out: &[u8],
+    input: &mut [u8; CHUNK],
+    words: &mut [u32; LINE_WORDS],
+    out: &[u8; CHUNK],
 ) -> Reader {
     let fresh = Line::new();
     let mut read = read_on(

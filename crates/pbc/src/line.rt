@@ -1,6 +1,7 @@
 //! A line of input, read byte by byte: a command's name, then numbers, or a buffer's name and numbers, with spaces between them.
 //! Numbers below 2^32 go to a lent slice. No command has more than one number of another range, so that one is kept in the line.
 
+use crate::buffers::LINE_WORDS;
 use crate::buffers::put_word;
 use crate::buffers::wide_at;
 use crate::names::NO_NAME;
@@ -97,7 +98,7 @@ impl Line {
     }
 
     // The line with one byte more, which is no line feed.
-    pub(crate) fn with_byte(self, byte: u8, words: &mut [u32]) -> Line {
+    pub(crate) fn with_byte(self, byte: u8, words: &mut [u32; LINE_WORDS]) -> Line {
         if self.bad {
             return self;
         }
@@ -243,7 +244,7 @@ impl Line {
     }
 
     // The line where the name or number being read has ended.
-    pub(crate) fn ended(self, words: &mut [u32]) -> Line {
+    pub(crate) fn ended(self, words: &mut [u32; LINE_WORDS]) -> Line {
         let token = self.token;
         if token == NUMBER {
             return self.number_ended(words);
@@ -259,7 +260,7 @@ impl Line {
         self
     }
 
-    fn number_ended(self, words: &mut [u32]) -> Line {
+    fn number_ended(self, words: &mut [u32; LINE_WORDS]) -> Line {
         let magnitude = self.magnitude;
         if self.negative {
             return self.wide_ended();

@@ -1,6 +1,7 @@
 //! A command's name and numbers below 2^32, with spaces between them, as most lines have them: read in one go.
 //! What is not whole in the chunk, and all else, is left for the line to read byte by byte.
 
+use crate::buffers::LINE_WORDS;
 use crate::buffers::put_word;
 use crate::names::extended;
 use crate::names::is_letter;
@@ -111,7 +112,12 @@ pub(crate) fn successor(n: usize) -> usize {
 }
 
 /// Reads whole numbers from a place on, up to the first byte that is neither a space nor a part of one.
-pub(crate) fn read_numbers(chunk: &[u8], from: usize, words: &mut [u32], numbers: usize) -> Numbers
+pub(crate) fn read_numbers(
+    chunk: &[u8],
+    from: usize,
+    words: &mut [u32; LINE_WORDS],
+    numbers: usize,
+) -> Numbers
     ensures { λ r. ⌜ from ≤ r .next ⌝ }
 {
     let mut next = from;

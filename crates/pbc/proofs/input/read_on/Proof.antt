@@ -1,6 +1,5 @@
 -- `read_on` is safe and ends: the place goes up to the length of the chunk.
-use mathlib.Core.Path.{_≡_, refl}
-use Prim.Native.Nat.{_-_}
+use Prim.Native.Nat.{_≤_, _-_}
 use native.Mathlib.Omega.{arith}
 use lib.ListN.{length}
 use borrow.Author.Needs.{needs}
@@ -8,22 +7,19 @@ use Rattle.pbc.proofs.input.read_on.Statement.{statement}
 use Rattle.pbc.proofs.input.read_on.Tie as tie
 
 abbrev Inv-loop : tie.InvT-loop
-Inv-loop chunk from words₀ at line₀ next₀ words line next = length words ≡ length words₀
+Inv-loop chunk from words₀ at line₀ next₀ words line next = 0 ≤ next
 
 abbrev μ-loop : tie.MeasureT-loop
 μ-loop chunk from words₀ at line₀ next₀ words line next = length chunk - next
 
 loop-holds : tie.Need-loop-holds Inv-loop μ-loop
-loop-holds c = refl
+loop-holds c = omega arith
 
 with-numbers-requires : tie.Need-with-numbers-requires Inv-loop μ-loop
 with-numbers-requires c κs = tt
 
 unfinished-requires : tie.Need-unfinished-requires Inv-loop μ-loop
 unfinished-requires c κs = tt
-
-same-length : tie.Need-same-length Inv-loop μ-loop
-same-length c = omega arith
 
 returns : tie.Need-returns Inv-loop μ-loop
 returns c = tt
@@ -36,9 +32,6 @@ add-next c = omega arith
 
 ended-requires : tie.Need-ended-requires Inv-loop μ-loop
 ended-requires c κs = tt
-
-same-length-2 : tie.Need-same-length-2 Inv-loop μ-loop
-same-length-2 c = omega arith
 
 returns-2 : tie.Need-returns-2 Inv-loop μ-loop
 returns-2 c = tt
@@ -55,9 +48,6 @@ loop-again c = omega arith
 unfinished-requires-2 : tie.Need-unfinished-requires-2 Inv-loop μ-loop
 unfinished-requires-2 c κs = tt
 
-same-length-3 : tie.Need-same-length-3 Inv-loop μ-loop
-same-length-3 c = omega arith
-
 returns-3 : tie.Need-returns-3 Inv-loop μ-loop
 returns-3 c = tt
 
@@ -70,16 +60,13 @@ read-on-spec =
     loop-holds
     with-numbers-requires
     unfinished-requires
-    same-length
     returns
     shared-slice-read-byte
     add-next
     ended-requires
-    same-length-2
     returns-2
     with-byte-requires
     loop-less
     loop-again
     unfinished-requires-2
-    same-length-3
     returns-3)

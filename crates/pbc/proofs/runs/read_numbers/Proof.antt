@@ -1,5 +1,4 @@
 -- `read_numbers` is safe, ends and goes on: a turn that reads a number leaves the place behind it.
-use mathlib.Core.Path.{_≡_, refl}
 use Prim.Native.Nat.{_≤_, _-_}
 use native.Mathlib.Omega.{arith}
 use lib.ListN.{length}
@@ -8,13 +7,13 @@ use Rattle.pbc.proofs.runs.read_numbers.Statement.{statement}
 use Rattle.pbc.proofs.runs.read_numbers.Tie as tie
 
 abbrev Inv-loop : tie.InvT-loop
-Inv-loop chunk from words₀ numbers next₀ count₀ words next count = (from ≤ next) × (length words ≡ length words₀)
+Inv-loop chunk from words₀ numbers next₀ count₀ words next count = from ≤ next
 
 abbrev μ-loop : tie.MeasureT-loop
 μ-loop chunk from words₀ numbers next₀ count₀ words next count = length chunk - next
 
 loop-holds : tie.Need-loop-holds Inv-loop μ-loop
-loop-holds c = (omega arith, refl)
+loop-holds c = omega arith
 
 after-spaces-requires : tie.Need-after-spaces-requires Inv-loop μ-loop
 after-spaces-requires c κs = tt
@@ -22,23 +21,14 @@ after-spaces-requires c κs = tt
 digits-at-requires : tie.Need-digits-at-requires Inv-loop μ-loop
 digits-at-requires c κs = tt
 
-same-length : tie.Need-same-length Inv-loop μ-loop
-same-length c = omega arith
-
 returns : tie.Need-returns Inv-loop μ-loop
 returns c = omega arith
-
-same-length-2 : tie.Need-same-length-2 Inv-loop μ-loop
-same-length-2 c = omega arith
 
 returns-2 : tie.Need-returns-2 Inv-loop μ-loop
 returns-2 c = omega arith
 
 ends-at-requires : tie.Need-ends-at-requires Inv-loop μ-loop
 ends-at-requires c κs = tt
-
-same-length-3 : tie.Need-same-length-3 Inv-loop μ-loop
-same-length-3 c = omega arith
 
 returns-3 : tie.Need-returns-3 Inv-loop μ-loop
 returns-3 c = omega arith
@@ -56,10 +46,7 @@ loop-less : tie.Need-loop-less Inv-loop μ-loop
 loop-less c = omega arith
 
 loop-again : tie.Need-loop-again Inv-loop μ-loop
-loop-again c = (omega arith, omega arith)
-
-same-length-4 : tie.Need-same-length-4 Inv-loop μ-loop
-same-length-4 c = omega arith
+loop-again c = omega arith
 
 returns-4 : tie.Need-returns-4 Inv-loop μ-loop
 returns-4 c = omega arith
@@ -73,17 +60,13 @@ read-numbers-spec =
     loop-holds
     after-spaces-requires
     digits-at-requires
-    same-length
     returns
-    same-length-2
     returns-2
     ends-at-requires
-    same-length-3
     returns-3
     cast-put-word
     put-word-requires
     successor-requires
     loop-less
     loop-again
-    same-length-4
     returns-4)
