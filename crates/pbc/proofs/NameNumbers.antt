@@ -116,6 +116,10 @@ pub fgate-number : numberOf (102 ∷ 103 ∷ 97 ∷ 116 ∷ 101 ∷ []) ≡ 3327
 unfolding extendedBy extendedName
 fgate-number = refl
 
+pub help-number : numberOf (104 ∷ 101 ∷ 108 ∷ 112 ∷ []) ≡ 161449
+unfolding extendedBy extendedName
+help-number = refl
+
 pub nodes-number : numberOf (110 ∷ 111 ∷ 100 ∷ 101 ∷ 115 ∷ []) ≡ 7738489
 unfolding extendedBy extendedName
 nodes-number = refl

@@ -8,11 +8,11 @@ use Rattle.pauli.specs.Angle.{remainder8}
 use Rattle.pauli.specs.Letters.{numberProduct}
 use Rattle.pbc.specs.Names.{numberOf}
 use Rattle.pbc.specs.Buffers.{allLends, lendsOf, lendsExceed}
-use Rattle.pbc.specs.State.{CommandState, Header, LineReply, NoAnswer, Bad, Done, One, Two, Words, ShowCircuit, ShowKinds, saysOf, headedOf, lentOf}
+use Rattle.pbc.specs.State.{CommandState, Header, LineReply, NoAnswer, Bad, Done, One, Two, Words, ShowCircuit, ShowKinds, ShowHelp, saysOf, headedOf, lentOf}
 use Rattle.pbc.specs.Lines.{Line, hasNumbers, hasSigned, hasBuffer, signedAt}
 pub use Rattle.pbc.specs.declared.state.Buffer.the-variants.{the-data as Buffer, Nodes, Operations, Frame, Planes, Scratch, Pool, Letters, Unknown}
 pub use Rattle.pbc.specs.declared.plain.PlainCommand.the-variants.{the-data as PlainCommand, Unknown as NoCommand, Nothing as EmptyLine}
-pub use Rattle.pbc.specs.declared.plain.PlainCommand.the-variants.{Lend, Peek, Header as SetHeader, Dump, Kinds, Angle, Times}
+pub use Rattle.pbc.specs.declared.plain.PlainCommand.the-variants.{Lend, Peek, Header as SetHeader, Dump, Kinds, Angle, Times, Help}
 
 unfoldable pub lendReply : CommandState → Line → List ℕ → LineReply
 lendReply s l ws =
@@ -83,6 +83,9 @@ dumpReply s l = cond (hasNumbers l 0) (saysOf s ShowCircuit) (saysOf s Bad)
 unfoldable pub kindsReply : CommandState → Line → LineReply
 kindsReply s l = cond (hasNumbers l 0) (saysOf s ShowKinds) (saysOf s Bad)
 
+unfoldable pub helpReply : CommandState → Line → LineReply
+helpReply s l = cond (hasNumbers l 0) (saysOf s ShowHelp) (saysOf s Bad)
+
 unfoldable pub angleReply : CommandState → Line → List ℕ → LineReply
 angleReply s l ws = cond (hasSigned l 1 0) (saysOf s (One (remainder8 (signedAt l ws 0)))) (saysOf s Bad)
 
@@ -103,3 +106,4 @@ plainReply Dump s l ws = dumpReply s l
 plainReply Kinds s l ws = kindsReply s l
 plainReply Angle s l ws = angleReply s l ws
 plainReply Times s l ws = timesReply s l ws
+plainReply Help s l ws = helpReply s l

@@ -1,10 +1,12 @@
 //! Answers as text.
 
+use crate::buffers::CHUNK;
 use crate::buffers::byte_part;
 use crate::buffers::first;
 use crate::buffers::part;
 use crate::buffers::wide_part;
 use crate::buffers::word;
+use crate::help;
 use crate::output;
 use crate::state::Buffer;
 use crate::state::LineAnswer;
@@ -16,34 +18,34 @@ use arena::OPERATION_WORDS;
 use arena::PbcOp;
 use arena::Refusal;
 
-fn ok(out: &mut [u8], at: usize) -> usize {
+fn ok(out: &mut [u8; CHUNK], at: usize) -> usize {
     output::text(out, at, b"ok")
 }
 
-fn refused(out: &mut [u8], at: usize, r: Refusal) -> usize {
+fn refused(out: &mut [u8; CHUNK], at: usize, r: Refusal) -> usize {
     let named = output::text(out, at, b"err");
     let numbered = output::word(out, named, r.number);
     let placed = output::number(out, numbered, r.index);
     output::number(out, placed, r.operand)
 }
 
-fn one(out: &mut [u8], at: usize, a: u64) -> usize {
+fn one(out: &mut [u8; CHUNK], at: usize, a: u64) -> usize {
     let to = ok(out, at);
     output::number(out, to, a)
 }
 
-fn two(out: &mut [u8], at: usize, a: u64, b: u64) -> usize {
+fn two(out: &mut [u8; CHUNK], at: usize, a: u64, b: u64) -> usize {
     let to = one(out, at, a);
     output::number(out, to, b)
 }
 
-fn three(out: &mut [u8], at: usize, a: u64, b: u64, c: u64) -> usize {
+fn three(out: &mut [u8; CHUNK], at: usize, a: u64, b: u64, c: u64) -> usize {
     let to = two(out, at, a, b);
     output::number(out, to, c)
 }
 
 // The first words, or as many as there are, with their count in front.
-fn list(out: &mut [u8], at: usize, words: &[u32], count: usize) -> usize {
+fn list(out: &mut [u8; CHUNK], at: usize, words: &[u32], count: usize) -> usize {
     let used = first(words, count);
     let to = output::number(out, at, used.len() as u64);
     output::words(out, to, used)
@@ -51,7 +53,7 @@ fn list(out: &mut [u8], at: usize, words: &[u32], count: usize) -> usize {
 
 // The used words of the buffers, or as many as there are.
 fn dump(
-    out: &mut [u8],
+    out: &mut [u8; CHUNK],
     at: usize,
     h: Header,
     nodes: &[u32],
@@ -91,7 +93,7 @@ fn plane_words(qubits: u32) -> usize {
 
 // A dump, and the plane words after a bar.
 fn dump_with_planes(
-    out: &mut [u8],
+    out: &mut [u8; CHUNK],
     at: usize,
     h: Header,
     nodes: &[u32],
@@ -127,7 +129,7 @@ fn kind_of(h: Header, words: &[u32]) -> u64 {
     kind_number(AxisKind::of(op))
 }
 
-fn kinds_of(out: &mut [u8], at: usize, h: Header, operations: &[u32]) -> usize {
+fn kinds_of(out: &mut [u8; CHUNK], at: usize, h: Header, operations: &[u32]) -> usize {
     let count = operations.len() / OPERATION_WORDS;
     let mut to = at;
     let mut k = 0;
@@ -139,26 +141,26 @@ fn kinds_of(out: &mut [u8], at: usize, h: Header, operations: &[u32]) -> usize {
     to
 }
 
-fn kinds(out: &mut [u8], at: usize, h: Header, operations: &[u32]) -> usize {
+fn kinds(out: &mut [u8; CHUNK], at: usize, h: Header, operations: &[u32]) -> usize {
     let to = ok(out, at);
     let used = first(operations, OPERATION_WORDS * (h.operations as usize));
     kinds_of(out, to, h, used)
 }
 
 // An expansion: the phase, the work, and a letter for each qubit.
-fn expansion(out: &mut [u8], at: usize, phase: u64, work: u64, letters: &[u8]) -> usize {
+fn expansion(out: &mut [u8; CHUNK], at: usize, phase: u64, work: u64, letters: &[u8]) -> usize {
     let to = two(out, at, phase, work);
     output::bytes(out, to, letters)
 }
 
 // Words of a buffer from a place on.
-fn words_from(out: &mut [u8], at: usize, words: &[u32], from: usize, count: usize) -> usize {
+fn words_from(out: &mut [u8; CHUNK], at: usize, words: &[u32], from: usize, count: usize) -> usize {
     output::words(out, at, part(words, from, count))
 }
 
 // A part of a buffer.
 fn words_of(
-    out: &mut [u8],
+    out: &mut [u8; CHUNK],
     at: usize,
     buffer: Buffer,
     from: usize,
@@ -183,7 +185,7 @@ fn words_of(
 
 // A part of a buffer that the readers work in.
 fn work_words_of(
-    out: &mut [u8],
+    out: &mut [u8; CHUNK],
     at: usize,
     buffer: Buffer,
     from: usize,
@@ -201,16 +203,17 @@ fn work_words_of(
 }
 
 // An answer with no number, or a refusal.
-fn brief(out: &mut [u8], at: usize, answer: LineAnswer) -> usize {
+fn brief(out: &mut [u8; CHUNK], at: usize, answer: LineAnswer) -> usize {
     match answer {
         LineAnswer::Bad => output::text(out, at, b"bad"),
         LineAnswer::Refused(r) => refused(out, at, r),
         LineAnswer::Done => ok(out, at),
+        LineAnswer::Help => help::answer(out, at),
         _ => numbers(out, at, answer),
     }
 }
 
-fn numbers(out: &mut [u8], at: usize, answer: LineAnswer) -> usize {
+fn numbers(out: &mut [u8; CHUNK], at: usize, answer: LineAnswer) -> usize {
     match answer {
         LineAnswer::One(a) => one(out, at, a),
         LineAnswer::Two(a, b) => two(out, at, a, b),
@@ -220,7 +223,7 @@ fn numbers(out: &mut [u8], at: usize, answer: LineAnswer) -> usize {
 }
 
 fn without_end(
-    out: &mut [u8],
+    out: &mut [u8; CHUNK],
     at: usize,
     answer: LineAnswer,
     h: Header,
@@ -267,7 +270,7 @@ fn without_end(
 
 /// Puts the answer, its line end with it, after the `at` bytes that stand in `out`, and says how many bytes stand there then.
 pub(crate) fn print(
-    out: &mut [u8],
+    out: &mut [u8; CHUNK],
     at: usize,
     reply: LineReply,
     nodes: &[u32],

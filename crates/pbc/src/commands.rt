@@ -51,6 +51,7 @@ fn command_named(name: u64) -> Command {
         names::KINDS => Command::Plain(PlainCommand::Kinds),
         names::ANGLE => Command::Plain(PlainCommand::Angle),
         names::TIMES => Command::Plain(PlainCommand::Times),
+        names::HELP => Command::Plain(PlainCommand::Help),
         names::SINGLE => Command::Build(BuildCommand::Single),
         names::PRODUCT => Command::Build(BuildCommand::Product),
         names::ROTATE => Command::Build(BuildCommand::Rotate),

@@ -1,13 +1,18 @@
-//! Standard input, read a chunk at a time and handed out line by line.
+//! Standard input, read a chunk at a time and handed out line by line. What has come is answered before more is waited for.
 
+use crate::buffers::CHUNK;
+use crate::buffers::LINE_WORDS;
 use crate::buffers::byte_part;
 use crate::line::Line;
-use libc::STDIN_FILENO;
-
-const LINE_FEED: u8 = 10;
-
-// A proved loop has to end, and nothing says that the input does: a loop counts its turns down from a number that no run uses up.
-pub(crate) const TURNS: u64 = 18446744073709551615;
+use crate::output::flush;
+use crate::output::has_failed;
+use crate::runs::LINE_FEED;
+use crate::runs::read_name;
+use crate::runs::read_numbers;
+use crate::system::Input;
+use crate::system::TURNS;
+use crate::system::read_some;
+ghost use Prim.Native.Nat.{_≤_};
 
 /// A line, and how far the chunk of input that it ends in was read.
 pub struct Reader {
@@ -18,26 +23,96 @@ pub struct Reader {
     pub count: usize,
     /// The line has ended.
     pub whole: bool,
-    /// The input has ended.
+    /// Nothing more is read.
     pub over: bool,
+    /// Bytes of answers that are not yet written.
+    pub at: usize,
 }
 
 // Nothing is read yet.
 pub(crate) fn new_reader() -> Reader {
+    unfinished(Line::new(), 0, 0)
+}
+
+// The line goes on in the next chunk, after so many bytes of this one.
+fn unfinished(line: Line, count: usize, at: usize) -> Reader {
     Reader {
-        line: Line::new(),
-        next: 0,
-        count: 0,
+        line,
+        next: count,
+        count,
         whole: false,
         over: false,
+        at,
+    }
+}
+
+// The input has ended, or a call has failed, and then the line is empty, so that nothing is answered.
+fn stopped(line: Line, at: usize) -> Reader {
+    Reader {
+        line,
+        next: 0,
+        count: 0,
+        whole: true,
+        over: true,
+        at,
+    }
+}
+
+/// A line, and where its next byte stands.
+struct Part {
+    line: Line,
+    next: usize,
+}
+
+// The command's name, if it stands whole at a place.
+fn with_name(line: Line, chunk: &[u8], from: usize) -> Part
+    ensures { λ r. ⌜ from ≤ r .next ⌝ }
+{
+    if !line.is_fresh() {
+        return Part { line, next: from };
+    }
+    let read = read_name(chunk, from);
+    let next = read.next;
+    let named = line.with_name(read.name, next - from);
+    Part { line: named, next }
+}
+
+// The same, and the whole numbers after it.
+fn with_numbers(line: Line, chunk: &[u8], from: usize, words: &mut [u32; LINE_WORDS]) -> Part
+    ensures { λ r. ⌜ from ≤ r .next ⌝ }
+{
+    let named = with_name(line, chunk, from);
+    let line = named.line;
+    let begin = named.next;
+    if !line.is_between() {
+        return Part { line, next: begin };
+    }
+    let read = read_numbers(chunk, begin, words, line.numbers);
+    let next = read.next;
+    let numbered = line.with_numbers(read.count, next - begin);
+    Part {
+        line: numbered,
+        next,
     }
 }
 
 // The line goes on to the next line feed, or to the end of the chunk.
-fn read_on(line: Line, chunk: &[u8], from: usize, words: &mut [u32]) -> Reader {
+fn read_on(
+    line: Line,
+    chunk: &[u8],
+    from: usize,
+    words: &mut [u32; LINE_WORDS],
+    at: usize,
+) -> Reader {
     let mut line = line;
     let mut next = from;
     while next < chunk.len() {
+        let part = with_numbers(line, chunk, next, words);
+        line = part.line;
+        next = part.next;
+        if chunk.len() <= next {
+            return unfinished(line, chunk.len(), at);
+        }
         let byte = chunk[next];
         next += 1;
         if byte == LINE_FEED {
@@ -48,51 +123,57 @@ fn read_on(line: Line, chunk: &[u8], from: usize, words: &mut [u32]) -> Reader {
                 count: chunk.len(),
                 whole: true,
                 over: false,
+                at,
             };
         }
         line = line.with_byte(byte, words);
     }
-    Reader {
-        line,
-        next,
-        count: chunk.len(),
-        whole: false,
-        over: false,
-    }
+    unfinished(line, chunk.len(), at)
 }
 
-// The line at the end of the input has no line feed.
-fn last(line: Line, words: &mut [u32]) -> Reader {
-    let whole = line.ended(words);
-    Reader {
-        line: whole,
-        next: 0,
-        count: 0,
-        whole: true,
-        over: true,
+// The line goes on in the next chunk; the answers to the lines before it are written first.
+fn refilled(
+    reader: Reader,
+    input: &mut [u8; CHUNK],
+    words: &mut [u32; LINE_WORDS],
+    out: &[u8; CHUNK],
+) -> Reader {
+    let at = flush(out, reader.at);
+    if has_failed(at) {
+        return stopped(Line::new(), at);
     }
-}
-
-// The line goes on in the next chunk.
-fn refilled(reader: Reader, input: &mut [u8], words: &mut [u32]) -> Reader {
     let line = reader.line;
-    let count = io::read_full(STDIN_FILENO, input);
-    if count == 0 {
-        return last(line, words);
+    match read_some(input) {
+        Input::Bytes(count) => read_on(line, byte_part(input, 0, count), 0, words, at),
+        Input::Later => unfinished(line, 0, at),
+        // the line at the end of the input has no line feed
+        Input::End => stopped(line.ended(words), at),
+        Input::Failed => stopped(Line::new(), at),
     }
-    read_on(line, &input[..count], 0, words)
 }
 
 // The next line, whole; the last counts without its line feed too.
-pub(crate) fn next_line(reader: Reader, input: &mut [u8], words: &mut [u32]) -> Reader {
+pub(crate) fn next_line(
+    reader: Reader,
+    at: usize,
+    input: &mut [u8; CHUNK],
+    words: &mut [u32; LINE_WORDS],
+    out: &[u8; CHUNK],
+) -> Reader {
     let fresh = Line::new();
-    let mut read = read_on(fresh, byte_part(input, 0, reader.count), reader.next, words);
+    let mut read = read_on(
+        fresh,
+        byte_part(input, 0, reader.count),
+        reader.next,
+        words,
+        at,
+    );
     let mut turns = TURNS;
     while turns > 0 {
         if read.whole {
             return read;
         }
-        read = refilled(read, input, words);
+        read = refilled(read, input, words, out);
         turns -= 1;
     }
     read

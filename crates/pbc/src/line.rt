@@ -1,18 +1,19 @@
 //! A line of input, read byte by byte: a command's name, then numbers, or a buffer's name and numbers, with spaces between them.
 //! Numbers below 2^32 go to a lent slice. No command has more than one number of another range, so that one is kept in the line.
 
+use crate::buffers::LINE_WORDS;
 use crate::buffers::put_word;
 use crate::buffers::wide_at;
 use crate::names::NO_NAME;
 use crate::names::extended;
 use crate::names::is_letter;
+use crate::runs::SPACE;
+use crate::runs::successor;
 ghost use mathlib.Core.Path.{_≡_};
 ghost use Rattle.pbc.specs.Lines.{newLine, hasNumbers, hasSigned, hasMore, hasMoreSigned, hasBuffer, signedOf, signedAt};
 
 /// The longest line that is read, in bytes.
 const LONGEST: u32 = 4500000;
-
-const SPACE: u8 = 32;
 
 const MINUS_SIGN: u8 = 45;
 
@@ -51,14 +52,6 @@ pub struct Line {
     /// The magnitude of the number being read, and whether it has a minus sign.
     pub magnitude: u64,
     pub negative: bool,
-}
-
-// One more, unless no number is left.
-fn next(n: usize) -> usize {
-    if n < 18446744073709551615 {
-        return n + 1;
-    }
-    n
 }
 
 // A magnitude with one digit more; one that would pass 2^63 + 1 becomes the greatest number, and stays it.
@@ -105,7 +98,7 @@ impl Line {
     }
 
     // The line with one byte more, which is no line feed.
-    pub(crate) fn with_byte(self, byte: u8, words: &mut [u32]) -> Line {
+    pub(crate) fn with_byte(self, byte: u8, words: &mut [u32; LINE_WORDS]) -> Line {
         if self.bad {
             return self;
         }
@@ -117,6 +110,41 @@ impl Line {
             return longer.ended(words);
         }
         longer.with_text(byte)
+    }
+
+    /// The command's name has not begun.
+    pub(crate) fn is_fresh(self) -> bool {
+        !self.bad & (self.token == BETWEEN) & (self.name == 0)
+    }
+
+    /// The command's name has ended, and a number may begin.
+    pub(crate) fn is_between(self) -> bool {
+        !self.bad & (self.token == BETWEEN) & !(self.name == 0)
+    }
+
+    /// The line with this name, after so many bytes more.
+    pub(crate) fn with_name(mut self, name: u64, bytes: usize) -> Line {
+        self.name = name;
+        self.bad = name == NO_NAME;
+        self.longer_by(bytes)
+    }
+
+    /// The line with so many numbers, after so many bytes more.
+    pub(crate) fn with_numbers(mut self, numbers: usize, bytes: usize) -> Line {
+        self.numbers = numbers;
+        self.longer_by(bytes)
+    }
+
+    fn longer_by(mut self, bytes: usize) -> Line {
+        if (LONGEST as usize) < bytes {
+            return self.spoilt();
+        }
+        let length = self.length as usize + bytes;
+        if (LONGEST as usize) < length {
+            return self.spoilt();
+        }
+        self.length = length as u32;
+        self
     }
 
     fn spoilt(mut self) -> Line {
@@ -216,7 +244,7 @@ impl Line {
     }
 
     // The line where the name or number being read has ended.
-    pub(crate) fn ended(self, words: &mut [u32]) -> Line {
+    pub(crate) fn ended(self, words: &mut [u32; LINE_WORDS]) -> Line {
         let token = self.token;
         if token == NUMBER {
             return self.number_ended(words);
@@ -232,7 +260,7 @@ impl Line {
         self
     }
 
-    fn number_ended(self, words: &mut [u32]) -> Line {
+    fn number_ended(self, words: &mut [u32; LINE_WORDS]) -> Line {
         let magnitude = self.magnitude;
         if self.negative {
             return self.wide_ended();
@@ -246,7 +274,7 @@ impl Line {
     }
 
     fn counted(mut self) -> Line {
-        let numbers = next(self.numbers);
+        let numbers = successor(self.numbers);
         self.numbers = numbers;
         self.token = BETWEEN;
         self

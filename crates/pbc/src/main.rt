@@ -8,14 +8,19 @@ mod circuits;
 mod commands;
 mod conversion;
 mod fill;
+mod help;
 mod input;
 mod line;
 mod names;
 mod output;
 mod plain;
 mod readers;
+mod runs;
 mod session;
+mod stack;
 mod state;
+mod system;
+mod text;
 
 use buffers::CHUNK;
 use buffers::FRAME;
@@ -27,8 +32,10 @@ use buffers::PLANES;
 use buffers::POOL;
 use buffers::SCRATCH;
 use session::run;
+use stack::StackLimit;
 
-fn main() {
+// All memory is made here.
+fn answer_lines() {
     let mut input = [0u8; CHUNK];
     let mut words = [0u32; LINE_WORDS];
     let mut nodes = [0u32; NODES];
@@ -51,4 +58,23 @@ fn main() {
         &mut letters,
         &mut out,
     );
+}
+
+// The same, where the stack has room for it.
+fn answer_within(bytes: u64) {
+    if stack::suffices(bytes) {
+        answer_lines();
+    }
+}
+
+fn main() {
+    if 1 < os::arg_count() {
+        help::answer_argument();
+        return;
+    }
+    // Two calls, so that the compiler does not put the buffers on the stack of `main`, which has to run on a smaller one.
+    match stack::limit() {
+        StackLimit::None => answer_lines(),
+        StackLimit::Bytes(bytes) => answer_within(bytes),
+    }
 }

@@ -52,6 +52,8 @@ pub const PLANES: u64 = 235989847;
 
 pub const FGATE: u64 = 3327701;
 
+pub const HELP: u64 = 161449;
+
 pub const NODES: u64 = 7738489;
 
 pub const OPERATIONS: u64 = 118962135359524;

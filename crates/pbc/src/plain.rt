@@ -21,7 +21,7 @@ use arena::Header;
 use pauli::PauliAngle;
 ghost use mathlib.Core.Path.{_≡_};
 ghost use Rattle.pbc.specs.Plain.{lendReply, isUnknown, bufferNamed, lengthOf, peekedReply, peekReply, headerReply};
-ghost use Rattle.pbc.specs.Plain.{dumpReply, kindsReply, angleReply, timesReply, plainReply};
+ghost use Rattle.pbc.specs.Plain.{dumpReply, kindsReply, angleReply, timesReply, helpReply, plainReply};
 
 pub enum PlainCommand {
     /// No command, and a line with nothing on it.
@@ -34,6 +34,7 @@ pub enum PlainCommand {
     Kinds,
     Angle,
     Times,
+    Help,
 }
 
 // `lend`, or `lend` with a count for each buffer
@@ -176,6 +177,16 @@ fn kinds(state: CommandState, line: Line) -> LineReply
     state.says(LineAnswer::Kinds)
 }
 
+// `help`
+fn help(state: CommandState, line: Line) -> LineReply
+    ensures { λ r. ⌜ r ≡ helpReply state line ⌝ }
+{
+    if !line.has(0) {
+        return state.bad();
+    }
+    state.says(LineAnswer::Help)
+}
+
 // `angle K`
 fn angle(state: CommandState, line: Line, words: &[u32]) -> LineReply
     ensures { λ r. ⌜ r ≡ angleReply state line (now (words .entry)) ⌝ }
@@ -222,5 +233,6 @@ pub(crate) fn answer(
         PlainCommand::Kinds => kinds(state, line),
         PlainCommand::Angle => angle(state, line, words),
         PlainCommand::Times => times(state, line, words),
+        PlainCommand::Help => help(state, line),
     }
 }

@@ -11,12 +11,13 @@ use crate::buffers::PLANES;
 use crate::buffers::POOL;
 use crate::buffers::SCRATCH;
 use crate::commands::answer;
-use crate::input::TURNS;
 use crate::input::new_reader;
 use crate::input::next_line;
 use crate::line::Line;
+use crate::output::flush;
+use crate::output::has_failed;
 use crate::state::CommandState;
-use libc::STDOUT_FILENO;
+use crate::system::TURNS;
 ghost use Prim.Native.Nat.{_<_};
 
 /// The state, and how many bytes of answers are not yet written.
@@ -34,8 +35,9 @@ fn new_session() -> Session {
 
 // The answer to a whole line.
 fn answer_line(
-    session: Session,
+    before: CommandState,
     line: Line,
+    at: usize,
     words: &[u32],
     nodes: &mut [u32; NODES],
     operations: &mut [u32; OPERATIONS],
@@ -46,7 +48,6 @@ fn answer_line(
     letters: &mut [u8; LETTERS],
     out: &mut [u8; CHUNK],
 ) -> Session {
-    let before = session.state;
     let reply = answer(
         before,
         line,
@@ -61,7 +62,7 @@ fn answer_line(
     );
     let at = print(
         out,
-        session.at,
+        at,
         reply,
         nodes,
         operations,
@@ -86,13 +87,6 @@ fn turns_left(turns: u64, over: bool) -> u64
     turns - 1
 }
 
-// What is left is written.
-fn flush(out: &[u8], at: usize) {
-    if at <= out.len() {
-        io::write_all(STDOUT_FILENO, &out[0..at]);
-    }
-}
-
 /// Answers every line of the input.
 pub(crate) fn run(
     input: &mut [u8; CHUNK],
@@ -110,11 +104,13 @@ pub(crate) fn run(
     let mut session = new_session();
     let mut turns = TURNS;
     while turns > 0 {
-        reader = next_line(reader, input, words);
+        reader = next_line(reader, session.at, input, words, out);
         let line = reader.line;
+        let state = session.state;
         session = answer_line(
-            session,
+            state,
             line,
+            reader.at,
             words,
             nodes,
             operations,
@@ -125,7 +121,7 @@ pub(crate) fn run(
             letters,
             out,
         );
-        turns = turns_left(turns, reader.over);
+        turns = turns_left(turns, reader.over | has_failed(session.at));
     }
     flush(out, session.at);
 }

@@ -44,6 +44,8 @@ pub enum LineAnswer {
     Kinds,
     /// A part of a buffer: from where on, and how many words.
     Words(Buffer, usize, usize),
+    /// The commands with their arguments.
+    Help,
 }
 
 pub struct LineReply {

@@ -1,19 +1,17 @@
 -- `kinds_of` is safe and ends: the operation goes up to the count.
-use mathlib.Core.Path.{_≡_, refl}
-use Prim.Native.Nat.{_-_}
+use Prim.Native.Nat.{_≤_, _-_}
 use native.Mathlib.Omega.{arith}
-use lib.ListN.{length}
 use Rattle.pbc.proofs.answers.kinds_of.Statement.{statement}
 use Rattle.pbc.proofs.answers.kinds_of.Tie as tie
 
 abbrev Inv-loop : tie.InvT-loop
-Inv-loop out₀ at h operations count to₀ k₀ out to k = length out ≡ length out₀
+Inv-loop out₀ at h operations count to₀ k₀ out to k = 0 ≤ k
 
 abbrev μ-loop : tie.MeasureT-loop
 μ-loop out₀ at h operations count to₀ k₀ out to k = count - k
 
 loop-holds : tie.Need-loop-holds Inv-loop μ-loop
-loop-holds c = refl
+loop-holds c = omega arith
 
 mul-part : tie.Need-mul-part Inv-loop μ-loop
 mul-part c = omega arith
@@ -36,9 +34,6 @@ loop-less c = omega arith
 loop-again : tie.Need-loop-again Inv-loop μ-loop
 loop-again c = omega arith
 
-same-length : tie.Need-same-length Inv-loop μ-loop
-same-length c = omega arith
-
 returns : tie.Need-returns Inv-loop μ-loop
 returns c = tt
 
@@ -56,5 +51,4 @@ kinds-of-spec =
     add-k
     loop-less
     loop-again
-    same-length
     returns)

@@ -1,15 +1,14 @@
 -- `next_line` is safe and ends: its turns are counted down.
-use mathlib.Core.Path.{_≡_, refl}
+use Prim.Native.Nat.{_≤_}
 use native.Mathlib.Omega.{arith}
-use lib.ListN.{length}
 use Rattle.pbc.proofs.input.next_line.Statement.{statement}
 use Rattle.pbc.proofs.input.next_line.Tie as tie
 
 abbrev Inv-loop : tie.InvT-loop
-Inv-loop input₀ words₀ read₀ turns₀ input words read turns = (length input ≡ length input₀) × (length words ≡ length words₀)
+Inv-loop at input₀ words₀ out read₀ turns₀ input words read turns = 0 ≤ turns
 
 abbrev μ-loop : tie.MeasureT-loop
-μ-loop input₀ words₀ read₀ turns₀ input words read turns = turns
+μ-loop at input₀ words₀ out read₀ turns₀ input words read turns = turns
 
 new-requires : tie.Need-new-requires Inv-loop μ-loop
 new-requires c κs = tt
@@ -21,13 +20,7 @@ read-on-requires : tie.Need-read-on-requires Inv-loop μ-loop
 read-on-requires c κs = tt
 
 loop-holds : tie.Need-loop-holds Inv-loop μ-loop
-loop-holds c = (refl, refl)
-
-same-length : tie.Need-same-length Inv-loop μ-loop
-same-length c = omega arith
-
-same-length-2 : tie.Need-same-length-2 Inv-loop μ-loop
-same-length-2 c = omega arith
+loop-holds c = omega arith
 
 returns : tie.Need-returns Inv-loop μ-loop
 returns c = tt
@@ -42,13 +35,7 @@ loop-less : tie.Need-loop-less Inv-loop μ-loop
 loop-less c = omega arith
 
 loop-again : tie.Need-loop-again Inv-loop μ-loop
-loop-again c = (omega arith, omega arith)
-
-same-length-3 : tie.Need-same-length-3 Inv-loop μ-loop
-same-length-3 c = omega arith
-
-same-length-4 : tie.Need-same-length-4 Inv-loop μ-loop
-same-length-4 c = omega arith
+loop-again c = omega arith
 
 returns-2 : tie.Need-returns-2 Inv-loop μ-loop
 returns-2 c = tt
@@ -63,13 +50,9 @@ next-line-spec =
     byte-part-requires
     read-on-requires
     loop-holds
-    same-length
-    same-length-2
     returns
     refilled-requires
     sub-turns
     loop-less
     loop-again
-    same-length-3
-    same-length-4
     returns-2)

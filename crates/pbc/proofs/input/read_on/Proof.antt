@@ -1,6 +1,5 @@
 -- `read_on` is safe and ends: the place goes up to the length of the chunk.
-use mathlib.Core.Path.{_≡_, refl}
-use Prim.Native.Nat.{_-_}
+use Prim.Native.Nat.{_≤_, _-_}
 use native.Mathlib.Omega.{arith}
 use lib.ListN.{length}
 use borrow.Author.Needs.{needs}
@@ -8,13 +7,22 @@ use Rattle.pbc.proofs.input.read_on.Statement.{statement}
 use Rattle.pbc.proofs.input.read_on.Tie as tie
 
 abbrev Inv-loop : tie.InvT-loop
-Inv-loop chunk from words₀ line₀ next₀ words line next = length words ≡ length words₀
+Inv-loop chunk from words₀ at line₀ next₀ words line next = 0 ≤ next
 
 abbrev μ-loop : tie.MeasureT-loop
-μ-loop chunk from words₀ line₀ next₀ words line next = length chunk - next
+μ-loop chunk from words₀ at line₀ next₀ words line next = length chunk - next
 
 loop-holds : tie.Need-loop-holds Inv-loop μ-loop
-loop-holds c = refl
+loop-holds c = omega arith
+
+with-numbers-requires : tie.Need-with-numbers-requires Inv-loop μ-loop
+with-numbers-requires c κs = tt
+
+unfinished-requires : tie.Need-unfinished-requires Inv-loop μ-loop
+unfinished-requires c κs = tt
+
+returns : tie.Need-returns Inv-loop μ-loop
+returns c = tt
 
 shared-slice-read-byte : tie.Need-shared-slice-read-byte Inv-loop μ-loop
 shared-slice-read-byte c = search needs
@@ -25,11 +33,8 @@ add-next c = omega arith
 ended-requires : tie.Need-ended-requires Inv-loop μ-loop
 ended-requires c κs = tt
 
-same-length : tie.Need-same-length Inv-loop μ-loop
-same-length c = omega arith
-
-returns : tie.Need-returns Inv-loop μ-loop
-returns c = tt
+returns-2 : tie.Need-returns-2 Inv-loop μ-loop
+returns-2 c = tt
 
 with-byte-requires : tie.Need-with-byte-requires Inv-loop μ-loop
 with-byte-requires c κs = tt
@@ -40,11 +45,11 @@ loop-less c = omega arith
 loop-again : tie.Need-loop-again Inv-loop μ-loop
 loop-again c = omega arith
 
-same-length-2 : tie.Need-same-length-2 Inv-loop μ-loop
-same-length-2 c = omega arith
+unfinished-requires-2 : tie.Need-unfinished-requires-2 Inv-loop μ-loop
+unfinished-requires-2 c κs = tt
 
-returns-2 : tie.Need-returns-2 Inv-loop μ-loop
-returns-2 c = tt
+returns-3 : tie.Need-returns-3 Inv-loop μ-loop
+returns-3 c = tt
 
 pub read-on-spec : {M : Type 1} → statement M
 read-on-spec =
@@ -53,13 +58,15 @@ read-on-spec =
     Inv-loop
     μ-loop
     loop-holds
+    with-numbers-requires
+    unfinished-requires
+    returns
     shared-slice-read-byte
     add-next
     ended-requires
-    same-length
-    returns
+    returns-2
     with-byte-requires
     loop-less
     loop-again
-    same-length-2
-    returns-2)
+    unfinished-requires-2
+    returns-3)

@@ -1,6 +1,5 @@
 -- `wide_words` is safe and ends: the place goes up to the length.
-use mathlib.Core.Path.{_≡_, refl}
-use Prim.Native.Nat.{_-_}
+use Prim.Native.Nat.{_≤_, _-_}
 use native.Mathlib.Omega.{arith}
 use lib.ListN.{length}
 use borrow.Author.Needs.{needs}
@@ -8,13 +7,13 @@ use Rattle.pbc.proofs.output.wide_words.Statement.{statement}
 use Rattle.pbc.proofs.output.wide_words.Tie as tie
 
 abbrev Inv-loop : tie.InvT-loop
-Inv-loop out₀ at list to₀ i₀ out to i = length out ≡ length out₀
+Inv-loop out₀ at list to₀ i₀ out to i = 0 ≤ i
 
 abbrev μ-loop : tie.MeasureT-loop
 μ-loop out₀ at list to₀ i₀ out to i = length list - i
 
 loop-holds : tie.Need-loop-holds Inv-loop μ-loop
-loop-holds c = refl
+loop-holds c = omega arith
 
 mul-number : tie.Need-mul-number Inv-loop μ-loop
 mul-number c = search needs
@@ -34,9 +33,6 @@ loop-less c = omega arith
 loop-again : tie.Need-loop-again Inv-loop μ-loop
 loop-again c = omega arith
 
-same-length : tie.Need-same-length Inv-loop μ-loop
-same-length c = omega arith
-
 returns : tie.Need-returns Inv-loop μ-loop
 returns c = tt
 
@@ -53,5 +49,4 @@ wide-words-spec =
     add-i
     loop-less
     loop-again
-    same-length
     returns)

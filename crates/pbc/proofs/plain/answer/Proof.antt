@@ -57,6 +57,12 @@ enum-told-9 c = search needs
 times-requires : tie.Need-times-requires
 times-requires c κs = tt
 
+enum-told-10 : tie.Need-enum-told-10
+enum-told-10 c = search needs
+
+help-requires : tie.Need-help-requires
+help-requires c κs = tt
+
 returns : tie.Need-returns
 returns c = rw (c .before .enum-told .given .1) (c .bad .ensures)
 
@@ -84,5 +90,8 @@ returns-8 c = rw (c .before .enum-told8 .given .1) (c .angle .ensures)
 returns-9 : tie.Need-returns-9
 returns-9 c = rw (c .before .enum-told9 .given .1) (c .times .ensures)
 
+returns-10 : tie.Need-returns-10
+returns-10 c = rw (c .before .enum-told10 .given .1) (c .help .ensures)
+
 pub answer-spec : {M : Type 1} → statement M
-answer-spec = tie.close (tie.spec enum-told bad-requires enum-told-2 says-requires enum-told-3 lend-requires enum-told-4 peek-requires enum-told-5 header-requires enum-told-6 dump-requires enum-told-7 kinds-requires enum-told-8 angle-requires enum-told-9 times-requires returns returns-2 returns-3 returns-4 returns-5 returns-6 returns-7 returns-8 returns-9)
+answer-spec = tie.close (tie.spec enum-told bad-requires enum-told-2 says-requires enum-told-3 lend-requires enum-told-4 peek-requires enum-told-5 header-requires enum-told-6 dump-requires enum-told-7 kinds-requires enum-told-8 angle-requires enum-told-9 times-requires enum-told-10 help-requires returns returns-2 returns-3 returns-4 returns-5 returns-6 returns-7 returns-8 returns-9 returns-10)

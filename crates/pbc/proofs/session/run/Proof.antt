@@ -27,8 +27,11 @@ next-line-requires c κs = tt
 answer-line-requires : tie.Need-answer-line-requires Inv-loop μ-loop
 answer-line-requires c κs = tt
 
+has-failed-requires : tie.Need-has-failed-requires Inv-loop μ-loop
+has-failed-requires c κs = tt
+
 turns-left-requires : tie.Need-turns-left-requires Inv-loop μ-loop
-turns-left-requires c κs = c .before .before .before .before .before .before .before .before .before .before .before .before .before .before .before .loop-test .taken
+turns-left-requires c κs = c .before .before .before .before .before .before .before .before .before .before .before .before .before .before .before .before .before .before .before .loop-test .taken
 
 loop-less : tie.Need-loop-less Inv-loop μ-loop
 loop-less c = c .turns-left .ensures
@@ -53,6 +56,7 @@ run-spec =
     loop-holds
     next-line-requires
     answer-line-requires
+    has-failed-requires
     turns-left-requires
     loop-less
     loop-again
