@@ -276,16 +276,16 @@ unfoldable pub putSeven : ℕ → ℕ → ℕ → Writing → Writing
 putSeven a b d s = putRows 7 a b d (s .count) (putFour a b d s)
 
 -- the first word of what an elementary gate writes alone
-abbrev pub firstOf : Elementary → ℕ
-firstOf (clifford g) = 0
-firstOf (elT q) = 4
-firstOf (elTdg q) = 28
-firstOf (elCcx a b d) = 0
-firstOf (elCcz a b d) = 0
-firstOf (elMeasure q k) = 1
+abbrev pub firstWordOf : Elementary → ℕ
+firstWordOf (clifford g) = 0
+firstWordOf (elT q) = 4
+firstWordOf (elTdg q) = 28
+firstWordOf (elCcx a b d) = 0
+firstWordOf (elCcz a b d) = 0
+firstWordOf (elMeasure q k) = 1
 
 unfoldable pub firstWord : GateKind → ℕ
-firstWord kind = over firstOf (lowerAs kind 0 0 0)
+firstWord kind = over firstWordOf (lowerAs kind 0 0 0)
 
 -- the words of t, tdg or measure, after so many measurements
 abbrev pub loneWords : GateKind → ℕ → ℕ → ℕ → List ℕ
