@@ -102,10 +102,10 @@ impl Line {
         if self.bad {
             return self;
         }
-        if LONGEST <= self.length {
-            return self.spoilt();
+        let longer = self.longer_by(1);
+        if longer.bad {
+            return longer;
         }
-        let longer = self.longer();
         if byte == SPACE {
             return longer.ended(words);
         }
@@ -135,6 +135,7 @@ impl Line {
         self.longer_by(bytes)
     }
 
+    // The line after so many bytes more.
     fn longer_by(mut self, bytes: usize) -> Line {
         if (LONGEST as usize) < bytes {
             return self.spoilt();
@@ -149,13 +150,6 @@ impl Line {
 
     fn spoilt(mut self) -> Line {
         self.bad = true;
-        self
-    }
-
-    fn longer(mut self) -> Line {
-        if self.length < LONGEST {
-            self.length = self.length + 1;
-        }
         self
     }
 

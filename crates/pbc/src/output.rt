@@ -13,7 +13,7 @@ pub(crate) fn has_failed(at: usize) -> bool {
     CHUNK < at
 }
 
-/// What stands in the buffer is written.
+/// What stands in the buffer is written, and none stands there then.
 pub(crate) fn flush(out: &[u8; CHUNK], at: usize) -> usize {
     if CHUNK < at {
         return at;

@@ -52,7 +52,7 @@ fn limit_in(text: &[u8]) -> StackLimit {
     StackLimit::Bytes(digits.value)
 }
 
-/// The limit of the stack, as far as it is below 2^32.
+/// The limit of the stack; one of more than ten digits is cut, to 2^32 or more.
 pub(crate) fn limit() -> StackLimit {
     let mut text = io::buffer();
     let count = read_limits(&mut text);
