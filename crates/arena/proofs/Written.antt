@@ -28,25 +28,25 @@ zero-is-one z = omega arith
 
 -- ---- the four words of an operation
 
-module _ (ws : List ℕ) (k : ℕ) (vs : List ℕ) (room : 4 * k + length vs ≤ length ws) where
-  word-put : (j m : ℕ) → m ≡ 4 * k + j → j < length vs → getD (sets ws (4 * k) vs) m 0 ≡ getD vs j 0
+module _ (ws : List ℕ) (k : ℕ) (vs : List ℕ) (room : operationWords * k + length vs ≤ length ws) where
+  word-put : (j m : ℕ) → m ≡ operationWords * k + j → j < length vs → getD (sets ws (operationWords * k) vs) m 0 ≡ getD vs j 0
   word-put j m at lt =
-      let size : length (take (4 * k) ws) ≡ 4 * k = length-take-le (4 * k) ws (omega arith) in
-      ap₂ (λ l p. getD l p 0) (sets-eq vs ws (4 * k) room ∙ append-assoc (take (4 * k) ws) vs (drop (4 * k + length vs) ws)) (at ∙ ap (λ i. i + j) (sym size))
-      ∙ getD-append-add (take (4 * k) ws) (vs ++ drop (4 * k + length vs) ws) j 0
-      ∙ List·getD-append vs (drop (4 * k + length vs) ws) 0 j lt
+      let size : length (take (operationWords * k) ws) ≡ operationWords * k = length-take-le (operationWords * k) ws (omega arith) in
+      ap₂ (λ l p. getD l p 0) (sets-eq vs ws (operationWords * k) room ∙ append-assoc (take (operationWords * k) ws) vs (drop (operationWords * k + length vs) ws)) (at ∙ ap (λ i. i + j) (sym size))
+      ∙ getD-append-add (take (operationWords * k) ws) (vs ++ drop (operationWords * k + length vs) ws) j 0
+      ∙ List·getD-append vs (drop (operationWords * k + length vs) ws) 0 j lt
 
 op-put : (h : Header) (ws : List ℕ) (k a b c d : ℕ) → k + 1 ≤ length ws / operationWords
-    → opAt h (sets ws (4 * k) (a ∷ b ∷ c ∷ d ∷ [])) k ≡ decodeOp (h .owner) (h .cbits) a b c d
+    → opAt h (sets ws (operationWords * k) (a ∷ b ∷ c ∷ d ∷ [])) k ≡ decodeOp (h .owner) (h .cbits) a b c d
 unfolding opAt
-op-put h ws k a b c d lent = λ t. decodeOp (h .owner) (h .cbits) (word 0 (4 * k) (omega arith) (omega arith) t) (word 1 (4 * k + 1) (omega arith) (omega arith) t)
-    (word 2 (4 * k + 2) (omega arith) (omega arith) t) (word 3 (4 * k + 3) (omega arith) (omega arith) t)
+op-put h ws k a b c d lent = λ t. decodeOp (h .owner) (h .cbits) (word 0 (operationWords * k) (omega arith) (omega arith) t) (word 1 (operationWords * k + 1) (omega arith) (omega arith) t)
+    (word 2 (operationWords * k + 2) (omega arith) (omega arith) t) (word 3 (operationWords * k + 3) (omega arith) (omega arith) t)
   where
-    word : (j m : ℕ) → m ≡ 4 * k + j → j < 4 → getD (sets ws (4 * k) (a ∷ b ∷ c ∷ d ∷ [])) m 0 ≡ getD (a ∷ b ∷ c ∷ d ∷ []) j 0
+    word : (j m : ℕ) → m ≡ operationWords * k + j → j < operationWords → getD (sets ws (operationWords * k) (a ∷ b ∷ c ∷ d ∷ [])) m 0 ≡ getD (a ∷ b ∷ c ∷ d ∷ []) j 0
     word j m at lt = word-put ws k (a ∷ b ∷ c ∷ d ∷ []) (omega arith) j m at lt
 
 -- words that agree below operation k give the older ones the same meaning
-pub op-older : (h : Header) (k : ℕ) (ws vs : List ℕ) → ((j : ℕ) → j < 4 * k → getD vs j 0 ≡ getD ws j 0) → (i : ℕ) → i < k → opAt h vs i ≡ opAt h ws i
+pub op-older : (h : Header) (k : ℕ) (ws vs : List ℕ) → ((j : ℕ) → j < operationWords * k → getD vs j 0 ≡ getD ws j 0) → (i : ℕ) → i < k → opAt h vs i ≡ opAt h ws i
 unfolding opAt
 op-older h k ws vs same i lt = λ t. decodeOp (h .owner) (h .cbits) (same (4 * i) (omega arith) t) (same (4 * i + 1) (omega arith) t)
     (same (4 * i + 2) (omega arith) t) (same (4 * i + 3) (omega arith) t)

@@ -5,6 +5,7 @@ use Prim.Native.Nat.{ℕ, _+_, _*_}
 use lib.IntN.{pos, negsuc}
 use lib.ListN.{length, replicate, take}
 use Rattle.pauli.specs.Angle.{remainder8}
+use Rattle.arena.specs.Limits.{operationWords}
 use Rattle.arena.specs.Operations.{rotateWords}
 use Rattle.arena.specs.Builder.{headerOf, newHeader, newStep, productStep}
 use Rattle.arena.specs.Walk.{Out, fine, refused}
@@ -31,7 +32,7 @@ smallHeader n nodes operations = headerOf n 0 7 nodes operations 0
 -- the conversion is accepted, with so many nodes, and with these operations in its first operation words
 abbrev pub Makes : Input → ℕ → List (List ℕ) → Type 0
 Makes x nodes ops =
-    (convertStep x .answer ≡ ConvertedMade (smallHeader (x .qubits) nodes (length ops))) × (take (4 * length ops) (convertStep x .operations) ≡ flat ops)
+    (convertStep x .answer ≡ ConvertedMade (smallHeader (x .qubits) nodes (length ops))) × (take (operationWords * length ops) (convertStep x .operations) ≡ flat ops)
 
 -- a rotation along a node with a phase, by so many eighths
 abbrev pub aboutNode : ℕ → ℕ → ℕ → List ℕ

@@ -12,7 +12,7 @@ use Rattle.arena.specs.Builder.{overlay, startFrame}
 use Rattle.arena.proofs.Overlay.{length-imageWords}
 use Rattle.convert.specs.Types.{Bit}
 use Rattle.convert.specs.Records.{GateKind, KindH, KindX, KindZ, KindS, KindSdg, KindT, KindTdg, KindCnot, KindCz, KindCcx, KindCcz, KindMeasure, KindY, KindSx, KindSwap, KindCy, Unsupported, elT, elTdg, elCcx, elCcz, elMeasure, lowerAs, AllProper}
-use Rattle.arena.specs.Limits.{maxCbits}
+use Rattle.arena.specs.Limits.{maxCbits, operationWords}
 use Rattle.convert.specs.Frame.{Arena, word, pushed, frameRun, gateNodes, total}
 use Rattle.convert.specs.Words.{Words, flat, flushGates, flushWords, fourPushed, sevenOps, writeSeven, write}
 use Rattle.convert.specs.Code.Needs.{writtenNodes, writtenOps}
@@ -28,7 +28,7 @@ pub record Stands (n : ℕ) (ns₀ fs₀ os₀ : List ℕ) (c : ℕ) (ns fs : Li
   pub used : u ≡ length (w .ops)
   pub operations : os ≡ overlay (flat (w .ops)) os₀
   pub even : Even n (w .arena)
-  pub four : length (flat (w .ops)) ≡ 4 * length (w .ops)
+  pub four : length (flat (w .ops)) ≡ operationWords * length (w .ops)
 
 square-of : {n : ℕ} {ns₀ fs₀ os₀ : List ℕ} {c : ℕ} {ns fs : List ℕ} {u : ℕ} {os : List ℕ} {w : Words} → Stands n ns₀ fs₀ os₀ c ns fs u os w → Square w
 square-of s = record { nodes = s .even .nodes; ops = s .four }
@@ -74,12 +74,12 @@ overlay-again us vs ws e = ap (λ (l : List ℕ). us ++ l) (drop-at vs (drop (le
 
 pub stands-flush : (n : ℕ) (gs : List Gate) (ns₀ fs₀ os₀ : List ℕ) (c : ℕ) (ns fs : List ℕ) (u : ℕ) (os : List ℕ) (w : Words) (c′ : ℕ) (ns′ fs′ : List ℕ) (u′ : ℕ) (os′ : List ℕ)
     → Stands n ns₀ fs₀ os₀ c ns fs u os w → Flushed gs c ns u os c′ ns′ u′ os′ → fs′ ≡ overlay (startFrame n) fs
-    → 2 * (c + total writtenNodes gs) ≤ length ns₀ → 4 * (u + total writtenOps gs) ≤ length os₀
+    → 2 * (c + total writtenNodes gs) ≤ length ns₀ → operationWords * (u + total writtenOps gs) ≤ length os₀
     → Stands n ns₀ fs₀ os₀ c′ ns′ fs′ u′ os′ (flushWords n gs w)
 unfolding flushWords
 stands-flush n gs ns₀ fs₀ os₀ c ns fs u os w c′ ns′ fs′ u′ os′ s d f rn ro =
     let rn₂ : 2 * (w .arena .count + total writtenNodes gs) ≤ length ns₀ = rw (s .count) at rn in
-    let ro₂ : 4 * (length (w .ops) + total writtenOps gs) ≤ length os₀ = rw (s .used) at ro in
+    let ro₂ : operationWords * (length (w .ops) + total writtenOps gs) ≤ length os₀ = rw (s .used) at ro in
     let l = flushes-lying ns₀ os₀ gs w (square-of s) rn₂ ro₂ in
     let e : writing c′ ns′ u′ os′ ≡ lying ns₀ os₀ (flushGates gs w) = d .same ∙ ap (putFlushes gs) (open-writing s) ∙ l .0 in
     let len = length-start n in
@@ -88,7 +88,7 @@ stands-flush n gs ns₀ fs₀ os₀ c ns fs u os w c′ ns′ fs′ u′ os′ s
 
 pub stands-if : (f : Bool) (n : ℕ) (gs : List Gate) (ns₀ fs₀ os₀ : List ℕ) (c : ℕ) (ns fs : List ℕ) (u : ℕ) (os : List ℕ) (w : Words) (c′ : ℕ) (ns′ fs′ : List ℕ) (u′ : ℕ) (os′ : List ℕ)
     → Stands n ns₀ fs₀ os₀ c ns fs u os w → FlushedIf f n gs c ns fs u os c′ ns′ fs′ u′ os′
-    → 2 * (c + cond f (total writtenNodes gs) 0) ≤ length ns₀ → 4 * (u + cond f (total writtenOps gs) 0) ≤ length os₀
+    → 2 * (c + cond f (total writtenNodes gs) 0) ≤ length ns₀ → operationWords * (u + cond f (total writtenOps gs) 0) ≤ length os₀
     → Stands n ns₀ fs₀ os₀ c′ ns′ fs′ u′ os′ (cond f (flushWords n gs w) w)
 stands-if true n gs ns₀ fs₀ os₀ c ns fs u os w c′ ns′ fs′ u′ os′ s d rn ro = stands-flush n gs ns₀ fs₀ os₀ c ns fs u os w c′ ns′ fs′ u′ os′ s (d .is refl) (d .frame refl) rn ro
 stands-if false n gs ns₀ fs₀ os₀ c ns fs u os w c′ ns′ fs′ u′ os′ s d rn ro =
@@ -134,7 +134,7 @@ four-lying ns os a b d w q room =
       square-node w₃ (4 * w .arena .count) d q₃,
     )
 
-seven-lying : (ns os : List ℕ) (a b d : ℕ) (w : Words) → Square w → 2 * (w .arena .count + 4) ≤ length ns → 4 * (length (w .ops) + 7) ≤ length os
+seven-lying : (ns os : List ℕ) (a b d : ℕ) (w : Words) → Square w → 2 * (w .arena .count + 4) ≤ length ns → operationWords * (length (w .ops) + 7) ≤ length os
     → (putSeven a b d (lying ns os w) ≡ lying ns os (writeSeven a b d w)) × Square (writeSeven a b d w)
 unfolding putSeven writeSeven
 seven-lying ns os a b d w q rn ro =
@@ -186,7 +186,7 @@ lone-after n given KindCy a b d w = refl
 lone-after n given Unsupported a b d w = refl
 
 record-lying : (n given : ℕ) (ns os fs : List ℕ) (kind : GateKind) (a b d : ℕ) (w : Words) → Square w → AllProper n maxCbits (lowerAs kind a b d)
-    → 2 * (w .arena .count + loneNodes kind) ≤ length ns → 4 * (length (w .ops) + costOf kind .operations) ≤ length os
+    → 2 * (w .arena .count + loneNodes kind) ≤ length ns → operationWords * (length (w .ops) + costOf kind .operations) ≤ length os
     → ((i : ℕ) → i < n + n → getD fs i 0 ≡ word (w .arena) i)
     → (putRecord n given kind a b d fs (lying ns os w) ≡ lying ns os (writeLone n given kind a b d w)) × Square (writeLone n given kind a b d w)
 unfolding costOf putRecord writeLone write putAll lowerAs
@@ -249,11 +249,11 @@ lone-frame n given Unsupported a b d w = refl
 
 pub stands-record : (n given : ℕ) (kind : GateKind) (a b d : ℕ) (ns₀ fs₀ os₀ : List ℕ) (c : ℕ) (ns fs : List ℕ) (u : ℕ) (os : List ℕ) (w : Words) (c′ : ℕ) (ns′ : List ℕ) (u′ : ℕ) (os′ : List ℕ)
     → Stands n ns₀ fs₀ os₀ c ns fs u os w → AllProper n maxCbits (lowerAs kind a b d) → writing c′ ns′ u′ os′ ≡ putRecord n given kind a b d fs (writing c ns u os)
-    → 2 * (c + loneNodes kind) ≤ length ns₀ → 4 * (u + costOf kind .operations) ≤ length os₀
+    → 2 * (c + loneNodes kind) ≤ length ns₀ → operationWords * (u + costOf kind .operations) ≤ length os₀
     → Stands n ns₀ fs₀ os₀ c′ ns′ fs u′ os′ (writeLone n given kind a b d w)
 stands-record n given kind a b d ns₀ fs₀ os₀ c ns fs u os w c′ ns′ u′ os′ s v e rn ro =
     let rn₂ : 2 * (w .arena .count + loneNodes kind) ≤ length ns₀ = rw (s .count) at rn in
-    let ro₂ : 4 * (length (w .ops) + costOf kind .operations) ≤ length os₀ = rw (s .used) at ro in
+    let ro₂ : operationWords * (length (w .ops) + costOf kind .operations) ≤ length os₀ = rw (s .used) at ro in
     let words : (i : ℕ) → i < n + n → getD fs i 0 ≡ word (w .arena) i = λ i h. ap (λ (l : List ℕ). getD l i 0) (s .frame) ∙ List·getD-append (w .arena .frame) (drop (length (w .arena .frame)) fs₀) 0 i (omega (arith, s .even .frame, h)) in
     let l = record-lying n given ns₀ os₀ fs kind a b d w (square-of s) v rn₂ ro₂ words in
     stands-writing n ns₀ fs₀ os₀ c′ ns′ fs u′ os′ w (writeLone n given kind a b d w) (e ∙ ap (putRecord n given kind a b d fs) (open-writing s) ∙ l .0) (l .1)

@@ -134,7 +134,7 @@ lying ns os w = writing (w .arena .count) (overlay (w .arena .nodes) ns) (length
 
 pub record Square (w : Words) : Type 0 where
   pub nodes : length (w .arena .nodes) ≡ 2 * w .arena .count
-  pub ops : length (flat (w .ops)) ≡ 4 * length (w .ops)
+  pub ops : length (flat (w .ops)) ≡ operationWords * length (w .ops)
 
 pub flat-append : (us vs : List (List ℕ)) → flat (us ++ vs) ≡ flat us ++ flat vs
 flat-append [] vs = refl
@@ -143,7 +143,7 @@ flat-append (o ∷ us) vs = rw (flat-append us vs, append-assoc o (flat us) (fla
 abbrev pub more : List (List ℕ) → Words → Words
 more os w = record { arena = w .arena; ops = w .ops ++ os }
 
-put-op : (ns os : List ℕ) (w : Words) (vs : List ℕ) → Square w → length vs ≡ 4 → 4 * length (w .ops) + 4 ≤ length os
+put-op : (ns os : List ℕ) (w : Words) (vs : List ℕ) → Square w → length vs ≡ operationWords → operationWords * length (w .ops) + operationWords ≤ length os
     → putOp vs (lying ns os w) ≡ lying ns os (more (vs ∷ []) w)
 put-op ns os w vs q four room =
     let e = q .ops in
@@ -151,7 +151,7 @@ put-op ns os w vs q four room =
     let g : length (w .ops) + 1 ≡ length (w .ops ++ vs ∷ []) = sym (length-append (w .ops) (vs ∷ [])) in
     rw (overlay-sets (flat (w .ops)) vs os (operationWords * length (w .ops)) e (omega arith), f, g)
 
-square-op : (w : Words) (vs : List ℕ) → Square w → length vs ≡ 4 → Square (more (vs ∷ []) w)
+square-op : (w : Words) (vs : List ℕ) → Square w → length vs ≡ operationWords → Square (more (vs ∷ []) w)
 square-op w vs q four = record {
   nodes = q .nodes;
   ops = rw (flat-append (w .ops) (vs ∷ []), length-append (w .ops) (vs ∷ []), length-append (flat (w .ops)) (vs ++ []), length-append vs []) (omega (arith, q .ops));
@@ -164,9 +164,9 @@ putAll (v ∷ vs) s = putAll vs (putOp v s)
 
 abbrev pub Fours : List (List ℕ) → Type 0
 Fours [] = Unit {0}
-Fours (v ∷ vs) = (length v ≡ 4) × Fours vs
+Fours (v ∷ vs) = (length v ≡ operationWords) × Fours vs
 
-pub put-all : (ns os : List ℕ) (vs : List (List ℕ)) (w : Words) → Square w → Fours vs → 4 * (length (w .ops) + length vs) ≤ length os
+pub put-all : (ns os : List ℕ) (vs : List (List ℕ)) (w : Words) → Square w → Fours vs → operationWords * (length (w .ops) + length vs) ≤ length os
     → putAll vs (lying ns os w) ≡ lying ns os (more vs w)
 unfolding putAll
 put-all ns os [] w q f room = rw (append-nil (w .ops))
@@ -192,7 +192,7 @@ square-node w l r q = record { nodes = let h = q .nodes in rw length-append (ome
 
 -- ---- a flush
 
-flush-lying : (ns os : List ℕ) (g : Gate) (w : Words) → Square w → 2 * (w .arena .count + writtenNodes g) ≤ length ns → 4 * (length (w .ops) + writtenOps g) ≤ length os
+flush-lying : (ns os : List ℕ) (g : Gate) (w : Words) → Square w → 2 * (w .arena .count + writtenNodes g) ≤ length ns → operationWords * (length (w .ops) + writtenOps g) ≤ length os
     → (putFlush g (lying ns os w) ≡ lying ns os (flushGate g w)) × Square (flushGate g w)
 unfolding putFlush flushGate putAll putJoint
 flush-lying ns os (gateH q) w s rn ro =
@@ -225,7 +225,7 @@ past-gate (gateSdg q) w = (omega arith, simp length-append)
 past-gate (gateCnot c t) w = (omega arith, simp length-append)
 past-gate (gateCz c t) w = (omega arith, simp length-append)
 
-pub flushes-lying : (ns os : List ℕ) (gs : List Gate) (w : Words) → Square w → 2 * (w .arena .count + total writtenNodes gs) ≤ length ns → 4 * (length (w .ops) + total writtenOps gs) ≤ length os
+pub flushes-lying : (ns os : List ℕ) (gs : List Gate) (w : Words) → Square w → 2 * (w .arena .count + total writtenNodes gs) ≤ length ns → operationWords * (length (w .ops) + total writtenOps gs) ≤ length os
     → (putFlushes gs (lying ns os w) ≡ lying ns os (flushGates gs w)) × Square (flushGates gs w)
 unfolding putFlushes flushGates
 flushes-lying ns os [] w s rn ro = (refl, s)

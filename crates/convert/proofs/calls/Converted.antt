@@ -10,6 +10,7 @@ use lib.Dec.{eqb}
 use lib.ListN.{length, drop, length-map}
 use Rattle.pauli.specs.Angle.{eighthsOf}
 use Rattle.pauli.specs.Rows.{weight}
+use Rattle.arena.specs.Limits.{operationWords}
 use Rattle.arena.specs.Nodes.{image}
 use Rattle.arena.specs.Builder.{overlay}
 use Rattle.arena.specs.Walk.{fine}
@@ -85,7 +86,7 @@ module _ (x : Input) (e : convertCheck limits x ≡ Fine) where
         ∙ formed-input .formed);
   }
 
-  flat-size : length (flat (wordEnd x .ops)) ≡ 4 * length (wordEnd x .ops)
+  flat-size : length (flat (wordEnd x .ops)) ≡ operationWords * length (wordEnd x .ops)
   flat-size = length-flat (wordEnd x .ops) (four-words x)
 
   all-good : AllGood (convertedHeader x) (x .qubits) (wordEnd x .arena .count) (wordEnd x .arena .nodes) (map (decoded (x .owner) (x .cbits)) (wordEnd x .ops))

@@ -8,6 +8,7 @@ use lib.ListN.{length, getD, length-append, List·getD-append}
 use lib.Seq.{getD-append-add}
 use Rattle.pauli.specs.Gates.{Gate, gateH, gateX, gateZ, gateS, gateSdg, gateCnot, gateCz}
 use Rattle.pauli.specs.Rotations.{flush}
+use Rattle.arena.specs.Limits.{operationWords}
 use Rattle.arena.specs.Operations.{decodeOp}
 use Rattle.arena.specs.Expansion.{opAt}
 use Rattle.convert.specs.Types.{Header}
@@ -19,7 +20,7 @@ use Rattle.convert.specs.Words.{Words, flat, decoded, opsFrom, flushGate
 
 abbrev pub AllFour : List (List ℕ) → Type 0
 AllFour [] = Unit {0}
-AllFour (o ∷ os) = (length o ≡ 4) × AllFour os
+AllFour (o ∷ os) = (length o ≡ operationWords) × AllFour os
 
 four-append : (us vs : List (List ℕ)) → AllFour us → AllFour vs → AllFour (us ++ vs)
 four-append [] vs u v = v
@@ -58,22 +59,22 @@ four-run n cap (e ∷ es) p w F = four-run n cap es (plainStep flush n cap e p) 
     go true = four-write n (p .given) (e .gate) (flushWords n (bare (p .pending)) w) (four-gates (bare (p .pending)) w F)
     go false = four-write n (p .given) (e .gate) w F
 
-pub length-flat : (ops : List (List ℕ)) → AllFour ops → length (flat ops) ≡ 4 * length ops
+pub length-flat : (ops : List (List ℕ)) → AllFour ops → length (flat ops) ≡ operationWords * length ops
 length-flat [] F = refl
 length-flat (o ∷ ops) F = length-append o (flat ops) ∙ omega (arith, F .0, length-flat ops (F .1))
 
 -- ---- reading
 
 module _ (h : Header) where
-  op-at : (before o after : List ℕ) (i : ℕ) → length before ≡ 4 * i → length o ≡ 4 → opAt h (before ++ (o ++ after)) i ≡ decoded (h .owner) (h .cbits) o
+  op-at : (before o after : List ℕ) (i : ℕ) → length before ≡ operationWords * i → length o ≡ operationWords → opAt h (before ++ (o ++ after)) i ≡ decoded (h .owner) (h .cbits) o
   unfolding opAt
-  op-at before o after i e four = λ t. decodeOp (h .owner) (h .cbits) (word 0 (4 * i) (omega arith) (omega arith) t) (word 1 (4 * i + 1) (omega arith) (omega arith) t)
-      (word 2 (4 * i + 2) (omega arith) (omega arith) t) (word 3 (4 * i + 3) (omega arith) (omega arith) t)
+  op-at before o after i e four = λ t. decodeOp (h .owner) (h .cbits) (word 0 (operationWords * i) (omega arith) (omega arith) t) (word 1 (operationWords * i + 1) (omega arith) (omega arith) t)
+      (word 2 (operationWords * i + 2) (omega arith) (omega arith) t) (word 3 (operationWords * i + 3) (omega arith) (omega arith) t)
     where
       word : (j k : ℕ) → k ≡ length before + j → j < length o → getD (before ++ (o ++ after)) k 0 ≡ getD o j 0
       word j k at lt = ap (λ m. getD (before ++ (o ++ after)) m 0) at ∙ getD-append-add before (o ++ after) j 0 ∙ List·getD-append o after 0 j lt
 
-  ops-at : (before : List ℕ) (ops : List (List ℕ)) (after : List ℕ) (i : ℕ) → length before ≡ 4 * i → AllFour ops
+  ops-at : (before : List ℕ) (ops : List (List ℕ)) (after : List ℕ) (i : ℕ) → length before ≡ operationWords * i → AllFour ops
       → opsFrom (opAt h (before ++ (flat ops ++ after))) i (length ops) ≡ map (decoded (h .owner) (h .cbits)) ops
   ops-at before [] after i e F = refl
   ops-at before (o ∷ ops) after i e F = ap₂ _∷_
