@@ -11,7 +11,7 @@ use lib.ListN.{length, getD, take, drop, length-append}
 use lib.Seq.{sets, sets-eq, take-all, take-at, take-take, getD-at, getD-append-add, length-take-le}
 use Rattle.pauli.specs.Rows.{present}
 use Rattle.arena.specs.Types.{Pauli, X, Z}
-use Rattle.arena.specs.Limits.{maxQubits, maxCbits, maxNodes, maxOperations}
+use Rattle.arena.specs.Limits.{maxQubits, maxCbits, maxNodes, maxOperations, operationWords}
 use Rattle.arena.specs.References.{PauliRef, nodeIn}
 use Rattle.arena.specs.Nodes.{PauliNode, singleWord, productWord, decode, nodeAt}
 use Rattle.arena.specs.Operations.{MeasId, PbcOp, Rotate, Measure, ConditionalRotate, Malformed}
@@ -184,9 +184,9 @@ none-bad : (h : Header) (op : ℕ → PbcOp) (k : ℕ) → ((i : ℕ) → i < k 
 none-bad h op zero all = refl
 none-bad h op (suc k) all = both-false _ _ (none-bad h op k (λ i lt. all i (omega arith))) (all k (omega arith))
 
-pub operations-read : (h : Header) (ops : List ℕ) → 4 * h .operations ≤ length ops → ((i : ℕ) → i < h .operations → isBadOp h (opAt h ops i) ≡ false) → badOperations h ops ≡ false
+pub operations-read : (h : Header) (ops : List ℕ) → operationWords * h .operations ≤ length ops → ((i : ℕ) → i < h .operations → isBadOp h (opAt h ops i) ≡ false) → badOperations h ops ≡ false
 unfolding exceedsOperations
-operations-read h ops used good = rw (le-ltb (length ops) (4 * h .operations) used) (none-bad h (opAt h ops) (h .operations) good)
+operations-read h ops used good = rw (le-ltb (length ops) (operationWords * h .operations) used) (none-bad h (opAt h ops) (h .operations) good)
 
 each-good : (h : Header) (op : ℕ → PbcOp) (k : ℕ) → anyBadOp h op k ≡ false → (i : ℕ) → i < k → isBadOp h (op i) ≡ false
 each-good h op zero e i lt = absurd (omega arith)
@@ -198,10 +198,10 @@ each-good h op (suc k) e i lt = go (ℕ-discrete i k) (λ l. each-good h op k (l
 
 -- and back
 pub operations-used : (h : Header) (ops : List ℕ) → badOperations h ops ≡ false
-    → (4 * h .operations ≤ length ops) × ((i : ℕ) → i < h .operations → isBadOp h (opAt h ops i) ≡ false)
+    → (operationWords * h .operations ≤ length ops) × ((i : ℕ) → i < h .operations → isBadOp h (opAt h ops i) ≡ false)
 unfolding exceedsOperations
 operations-used h ops e = (
-  ltb-false (length ops) (4 * h .operations) (left-false (exceedsOperations h (length ops)) _ e),
+  ltb-false (length ops) (operationWords * h .operations) (left-false (exceedsOperations h (length ops)) _ e),
   each-good h (opAt h ops) (h .operations) (right-false (exceedsOperations h (length ops)) _ e),
 )
 

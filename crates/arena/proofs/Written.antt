@@ -48,8 +48,8 @@ op-put h ws k a b c d lent = λ t. decodeOp (h .owner) (h .cbits) (word 0 (opera
 -- words that agree below operation k give the older ones the same meaning
 pub op-older : (h : Header) (k : ℕ) (ws vs : List ℕ) → ((j : ℕ) → j < operationWords * k → getD vs j 0 ≡ getD ws j 0) → (i : ℕ) → i < k → opAt h vs i ≡ opAt h ws i
 unfolding opAt
-op-older h k ws vs same i lt = λ t. decodeOp (h .owner) (h .cbits) (same (4 * i) (omega arith) t) (same (4 * i + 1) (omega arith) t)
-    (same (4 * i + 2) (omega arith) t) (same (4 * i + 3) (omega arith) t)
+op-older h k ws vs same i lt = λ t. decodeOp (h .owner) (h .cbits) (same (operationWords * i) (omega arith) t) (same (operationWords * i + 1) (omega arith) t)
+    (same (operationWords * i + 2) (omega arith) t) (same (operationWords * i + 3) (omega arith) t)
 
 -- ---- decoding what was encoded
 

@@ -74,12 +74,12 @@ abbrev pub Names : Circuit → Type 0
 Names s = OpsUnder (s .header .nodes) (usedOps s)
 
 module _ (s s′ : Circuit) (K : Kept s s′) (U : Names s) where
-  same-word : (i : ℕ) → i < 4 * s .header .operations → getD (s′ .operations) i 0 ≡ getD (s .operations) i 0
-  same-word i lt = sym (getD-take (4 * s .header .operations) (s′ .operations) i 0 lt) ∙ ap (λ l. getD l i 0) (K .words) ∙ getD-take (4 * s .header .operations) (s .operations) i 0 lt
+  same-word : (i : ℕ) → i < operationWords * s .header .operations → getD (s′ .operations) i 0 ≡ getD (s .operations) i 0
+  same-word i lt = sym (getD-take (operationWords * s .header .operations) (s′ .operations) i 0 lt) ∙ ap (λ l. getD l i 0) (K .words) ∙ getD-take (operationWords * s .header .operations) (s .operations) i 0 lt
 
   same-op : (i : ℕ) → i < s .header .operations → opAt (s′ .header) (s′ .operations) i ≡ opAt (s .header) (s .operations) i
   unfolding opAt
-  same-op i lt = λ t. decodeOp (K .owner t) (K .cbits t) (same-word (4 * i) (omega arith) t) (same-word (4 * i + 1) (omega arith) t) (same-word (4 * i + 2) (omega arith) t) (same-word (4 * i + 3) (omega arith) t)
+  same-op i lt = λ t. decodeOp (K .owner t) (K .cbits t) (same-word (operationWords * i) (omega arith) t) (same-word (operationWords * i + 1) (omega arith) t) (same-word (operationWords * i + 2) (omega arith) t) (same-word (operationWords * i + 3) (omega arith) t)
 
   same-ops : usedOps s′ ≡ usedOps s
   same-ops = ap (opsFrom (opAt (s′ .header) (s′ .operations)) 0) (K .operations)
@@ -96,34 +96,34 @@ module _ (s s′ : Circuit) (K : Kept s s′) (U : Names s) where
 
 -- ---- one more operation
 
-module _ (h h′ : Header) (ops vs : List ℕ) (four : length vs ≡ 4) (room : 4 * (h .operations + 1) ≤ length ops)
+module _ (h h′ : Header) (ops vs : List ℕ) (four : length vs ≡ operationWords) (room : operationWords * (h .operations + 1) ≤ length ops)
     (owner : h′ .owner ≡ h .owner) (cbits : h′ .cbits ≡ h .cbits) (count : h′ .operations ≡ h .operations + 1) (nodes : h′ .nodes ≡ h .nodes) (qubits : h′ .qubits ≡ h .qubits) where
   after : List ℕ
-  after = sets ops (4 * h .operations) vs
+  after = sets ops (operationWords * h .operations) vs
 
-  laid : after ≡ take (4 * h .operations) ops ++ (vs ++ drop (4 * h .operations + length vs) ops)
+  laid : after ≡ take (operationWords * h .operations) ops ++ (vs ++ drop (operationWords * h .operations + length vs) ops)
   unfolding after
-  laid = sets-eq vs ops (4 * h .operations) (omega arith) ∙ append-assoc (take (4 * h .operations) ops) vs (drop (4 * h .operations + length vs) ops)
+  laid = sets-eq vs ops (operationWords * h .operations) (omega arith) ∙ append-assoc (take (operationWords * h .operations) ops) vs (drop (operationWords * h .operations + length vs) ops)
 
-  front : length (take (4 * h .operations) ops) ≡ 4 * h .operations
-  front = length-take-le (4 * h .operations) ops (omega arith)
+  front : length (take (operationWords * h .operations) ops) ≡ operationWords * h .operations
+  front = length-take-le (operationWords * h .operations) ops (omega arith)
 
-  old-word : (i : ℕ) → i < 4 * h .operations → getD after i 0 ≡ getD ops i 0
-  old-word i lt = ap (λ l. getD l i 0) laid ∙ List·getD-append (take (4 * h .operations) ops) _ 0 i (omega (arith, front)) ∙ getD-take (4 * h .operations) ops i 0 lt
+  old-word : (i : ℕ) → i < operationWords * h .operations → getD after i 0 ≡ getD ops i 0
+  old-word i lt = ap (λ l. getD l i 0) laid ∙ List·getD-append (take (operationWords * h .operations) ops) _ 0 i (omega (arith, front)) ∙ getD-take (operationWords * h .operations) ops i 0 lt
 
-  new-word : (i j : ℕ) → i ≡ 4 * h .operations + j → j < 4 → getD after i 0 ≡ getD vs j 0
+  new-word : (i j : ℕ) → i ≡ operationWords * h .operations + j → j < operationWords → getD after i 0 ≡ getD vs j 0
   new-word i j at lt =
-      let f : i ≡ length (take (4 * h .operations) ops) + j = at ∙ ap (λ m. m + j) (sym front) in
-      ap₂ (λ l m. getD l m 0) laid f ∙ getD-append-add (take (4 * h .operations) ops) _ j 0 ∙ List·getD-append vs _ 0 j (omega arith)
+      let f : i ≡ length (take (operationWords * h .operations) ops) + j = at ∙ ap (λ m. m + j) (sym front) in
+      ap₂ (λ l m. getD l m 0) laid f ∙ getD-append-add (take (operationWords * h .operations) ops) _ j 0 ∙ List·getD-append vs _ 0 j (omega arith)
 
   old-op : (i : ℕ) → i < h .operations → opAt h′ after i ≡ opAt h ops i
   unfolding opAt
-  old-op i lt = λ t. decodeOp (owner t) (cbits t) (old-word (4 * i) (omega arith) t) (old-word (4 * i + 1) (omega arith) t) (old-word (4 * i + 2) (omega arith) t) (old-word (4 * i + 3) (omega arith) t)
+  old-op i lt = λ t. decodeOp (owner t) (cbits t) (old-word (operationWords * i) (omega arith) t) (old-word (operationWords * i + 1) (omega arith) t) (old-word (operationWords * i + 2) (omega arith) t) (old-word (operationWords * i + 3) (omega arith) t)
 
   new-op : opAt h′ after (h .operations) ≡ decoded (h .owner) (h .cbits) vs
   unfolding opAt
-  new-op = λ t. decodeOp (owner t) (cbits t) (new-word (4 * h .operations) 0 (omega arith) (omega arith) t) (new-word (4 * h .operations + 1) 1 (omega arith) (omega arith) t)
-      (new-word (4 * h .operations + 2) 2 (omega arith) (omega arith) t) (new-word (4 * h .operations + 3) 3 (omega arith) (omega arith) t)
+  new-op = λ t. decodeOp (owner t) (cbits t) (new-word (operationWords * h .operations) 0 (omega arith) (omega arith) t) (new-word (operationWords * h .operations + 1) 1 (omega arith) (omega arith) t)
+      (new-word (operationWords * h .operations + 2) 2 (omega arith) (omega arith) t) (new-word (operationWords * h .operations + 3) 3 (omega arith) (omega arith) t)
 
   all-ops : opsFrom (opAt h′ after) 0 (h′ .operations) ≡ opsFrom (opAt h ops) 0 (h .operations) ++ decoded (h .owner) (h .cbits) vs ∷ []
   all-ops =
@@ -132,14 +132,14 @@ module _ (h h′ : Header) (ops vs : List ℕ) (four : length vs ≡ 4) (room : 
       ∙ ap₂ (λ l o. l ++ o ∷ []) (ops-agree (opAt h′ after) (opAt h ops) 0 (h .operations) (λ j lt. old-op j (omega arith))) (ap (opAt h′ after) z ∙ new-op)
 
   pub under-pushed : OpsUnder (h .nodes) (opsFrom (opAt h ops) 0 (h .operations)) → OpUnder (h .nodes) (decoded (h .owner) (h .cbits) vs)
-      → OpsUnder (h′ .nodes) (opsFrom (opAt h′ (sets ops (4 * h .operations) vs)) 0 (h′ .operations))
+      → OpsUnder (h′ .nodes) (opsFrom (opAt h′ (sets ops (operationWords * h .operations) vs)) 0 (h′ .operations))
   unfolding after
   under-pushed U u = subst (λ l. OpsUnder (h′ .nodes) l) (sym all-ops)
       (subst (λ m. OpsUnder m (opsFrom (opAt h ops) 0 (h .operations) ++ decoded (h .owner) (h .cbits) vs ∷ [])) (sym nodes)
       (under-snoc (h .nodes) (opsFrom (opAt h ops) 0 (h .operations)) (decoded (h .owner) (h .cbits) vs) U u))
 
   pub reads-pushed : (ws : List ℕ) (o : Operation) → meaning (h .qubits) (h .nodes) ws (decoded (h .owner) (h .cbits) vs) ≡ o
-      → operationsIn h′ ws (sets ops (4 * h .operations) vs) ≡ operationsIn h ws ops ++ o ∷ []
+      → operationsIn h′ ws (sets ops (operationWords * h .operations) vs) ≡ operationsIn h ws ops ++ o ∷ []
   unfolding operationsIn after
   reads-pushed ws o e =
       ap₂ (λ q l. map (meaning q (h′ .nodes) ws) l) qubits all-ops

@@ -7,6 +7,7 @@ use native.Mathlib.Decide.{ℕ-discrete}
 use native.Mathlib.Omega.{arith}
 use lib.ListN.{length, getD, take, length-take}
 use lib.Seq.{length-sets, getD-take}
+use Rattle.arena.specs.Limits.{operationWords}
 use Rattle.pauli.specs.Gates.{Gate}
 use Rattle.pauli.specs.Angle.{angleOf, eighthsOf}
 use Rattle.arena.specs.Operations.{measId, rotateWords, measureWords, conditionalWords}
@@ -24,7 +25,7 @@ use Rattle.convert.proofs.buffers.Words.{count-run}
 use Rattle.convert.proofs.calls.Table.{framed}
 
 pub record Operates (s : Circuit) : Type 0 where
-  pub used : 4 * s .header .operations ≤ length (s .operations)
+  pub used : operationWords * s .header .operations ≤ length (s .operations)
   pub good : (i : ℕ) → i < s .header .operations → isBadOp (s .header) (opAt (s .header) (s .operations) i) ≡ false
 
 pub operates-on : (s : Circuit) → Operates s → badOperations (s .header) (s .operations) ≡ false
@@ -43,7 +44,7 @@ module _ (s : Circuit) (O : Operates s) where
   }
 
   -- one operation more
-  operates-more : (h : Header) (ops : List ℕ) → Grows (s .header) h → h .operations ≡ s .header .operations + 1 → 4 * (s .header .operations + 1) ≤ length ops
+  operates-more : (h : Header) (ops : List ℕ) → Grows (s .header) h → h .operations ≡ s .header .operations + 1 → operationWords * (s .header .operations + 1) ≤ length ops
       → ((i : ℕ) → i < s .header .operations → opAt h ops i ≡ opAt (s .header) (s .operations) i) → isBadOp h (opAt h ops (s .header .operations)) ≡ false
       → Operates (circuitOf h (s .nodes) ops (s .frame))
   operates-more h ops G one room older new = record { used = rw one room; good = λ i lt. go i (ℕ-discrete i (s .header .operations)) (omega arith) }
@@ -94,7 +95,7 @@ module _ (s : Circuit) (O : Operates s) where
   rotate-size : (x : PauliAxis) (k : PauliAngle) → rotateCheck (s .header) (length (s .operations)) x ≡ Fine
       → length (rotateStep (s .header) (s .operations) x k .words) ≡ length (s .operations)
   unfolding rotateStep
-  rotate-size x k e = rw e (length-sets (s .operations) (4 * s .header .operations) (rotateWords (x .0 .word) (eighthsOf k)))
+  rotate-size x k e = rw e (length-sets (s .operations) (operationWords * s .header .operations) (rotateWords (x .0 .word) (eighthsOf k)))
 
   operates-rotated : (x : PauliAxis) (k : PauliAngle) → rotateCheck (s .header) (length (s .operations)) x ≡ Fine
       → Operates (circuitOf (withOperation (s .header .measurements) (s .header)) (s .nodes) (rotateStep (s .header) (s .operations) x k .words) (s .frame))
@@ -128,7 +129,7 @@ module _ (s : Circuit) (O : Operates s) where
   measure-size : (x : PauliAxis) (u : Target) → measureCheck (s .header) (length (s .operations)) x u ≡ Fine
       → length (measureStep (s .header) (s .operations) x u .words) ≡ length (s .operations)
   unfolding measureStep
-  measure-size x u e = rw e (length-sets (s .operations) (4 * s .header .operations) (measureWords (x .0 .word) (s .header .measurements) u))
+  measure-size x u e = rw e (length-sets (s .operations) (operationWords * s .header .operations) (measureWords (x .0 .word) (s .header .measurements) u))
 
   operates-measured : (x : PauliAxis) (u : Target) → measureCheck (s .header) (length (s .operations)) x u ≡ Fine
       → Operates (circuitOf (withOperation (s .header .measurements + 1) (s .header)) (s .nodes) (measureStep (s .header) (s .operations) x u .words) (s .frame))
@@ -161,7 +162,7 @@ module _ (s : Circuit) (O : Operates s) where
   conditional-size : (x : PauliAxis) (k : PauliAngle) (m : MeasId) → conditionalCheck (s .header) (length (s .operations)) x m ≡ Fine
       → length (conditionalStep (s .header) (s .operations) x k m .words) ≡ length (s .operations)
   unfolding conditionalStep
-  conditional-size x k m e = rw e (length-sets (s .operations) (4 * s .header .operations) (conditionalWords (x .0 .word) (eighthsOf k) (m .1)))
+  conditional-size x k m e = rw e (length-sets (s .operations) (operationWords * s .header .operations) (conditionalWords (x .0 .word) (eighthsOf k) (m .1)))
 
   operates-conditional : (x : PauliAxis) (k : PauliAngle) (m : MeasId) → conditionalCheck (s .header) (length (s .operations)) x m ≡ Fine
       → Operates (circuitOf (withOperation (s .header .measurements) (s .header)) (s .nodes) (conditionalStep (s .header) (s .operations) x k m .words) (s .frame))
@@ -188,15 +189,15 @@ module _ (s : Circuit) (O : Operates s) where
       go (Wrong y) e = rw e O
 
   -- other words that hold those in use
-  operates-lent : (words : List ℕ) → take (4 * s .header .operations) words ≡ take (4 * s .header .operations) (s .operations)
+  operates-lent : (words : List ℕ) → take (operationWords * s .header .operations) words ≡ take (operationWords * s .header .operations) (s .operations)
       → Operates (circuitOf (s .header) (s .nodes) words (s .frame))
   operates-lent words e = record {
-    used = omega (arith, O .used, sym (length-take (4 * s .header .operations) words) ∙ ap length e ∙ length-take (4 * s .header .operations) (s .operations));
+    used = omega (arith, O .used, sym (length-take (operationWords * s .header .operations) words) ∙ ap length e ∙ length-take (operationWords * s .header .operations) (s .operations));
     good = λ i lt. ap (isBadOp (s .header)) (op-older (s .header) (s .header .operations) (s .operations) words same i lt) ∙ O .good i lt;
   }
     where
-      same : (j : ℕ) → j < 4 * s .header .operations → getD words j 0 ≡ getD (s .operations) j 0
-      same j lt = sym (getD-take (4 * s .header .operations) words j 0 lt) ∙ ap (λ l. getD l j 0) e ∙ getD-take (4 * s .header .operations) (s .operations) j 0 lt
+      same : (j : ℕ) → j < operationWords * s .header .operations → getD words j 0 ≡ getD (s .operations) j 0
+      same j lt = sym (getD-take (operationWords * s .header .operations) words j 0 lt) ∙ ap (λ l. getD l j 0) e ∙ getD-take (operationWords * s .header .operations) (s .operations) j 0 lt
 
   operates-later : (c : LaterCall) → Carried c s → Operates (later c s)
   unfolding later
