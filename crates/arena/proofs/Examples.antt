@@ -10,7 +10,7 @@ use Rattle.arena.specs.Errors.{ExpansionLimit, NoPool, NonHermitianAxis,
 use Rattle.arena.specs.Nodes.{decode, nodeAt, values, image}
 use Rattle.arena.specs.Sparse.{factor, dense}
 use Rattle.arena.specs.Walk.{Out, fine, refused, bind, Answer, walk}
-use Rattle.arena.specs.Operations.{decodeOp}
+use Rattle.arena.specs.Operations.{sourceOf, decodeOp}
 use Rattle.arena.specs.Store.{Header, breaksLimit, exceedsNodes, exceedsOperations, foreign, unknown}
 use Rattle.arena.specs.Readers.{Weighed, Report, expandWalk, hermitianWalk, reportWalk}
 use Rattle.arena.specs.Expansion.{WalkStep, opAt, reportCheck, reportStep}
@@ -157,21 +157,21 @@ f-header = record { qubits = 3; cbits = 0; owner = 5; nodes = 11; operations = 7
 
 f-operations : List ℕ
 f-operations =
-    4 ∷ 8 ∷ 0 ∷ 0 ∷ 4 ∷ 16 ∷ 0 ∷ 0 ∷ 4 ∷ 20 ∷ 0 ∷ 0 ∷ 28 ∷ 28 ∷ 0 ∷ 0 ∷ 28 ∷ 32 ∷ 0 ∷ 0 ∷ 28 ∷ 36 ∷ 0 ∷ 0 ∷ 4 ∷ 40 ∷ 0 ∷ 0 ∷ []
+    4 ∷ 8 ∷ 0 ∷ 0 ∷ 0 ∷ 4 ∷ 16 ∷ 0 ∷ 0 ∷ 0 ∷ 4 ∷ 20 ∷ 0 ∷ 0 ∷ 0 ∷ 28 ∷ 28 ∷ 0 ∷ 0 ∷ 0 ∷ 28 ∷ 32 ∷ 0 ∷ 0 ∷ 0 ∷ 28 ∷ 36 ∷ 0 ∷ 0 ∷ 0 ∷ 4 ∷ 40 ∷ 0 ∷ 0 ∷ 0 ∷ []
 
 f-reported : (limit pool : ℕ) → WalkStep Report
 f-reported limit pool = reportStep f-header f-words f-operations (replicate 45 7) (replicate pool 7) limit
 
 f-report-step : f-reported 34 21
     ≡ record { answer = fine (record { weights = record { nonClifford = 3; clifford = 0 }; work = 34 }); scratch = replicate 44 0 ++ 7 ∷ []; pool = replicate 21 0 }
-unfolding f-reported reportStep reportCheck breaksLimit exceedsNodes exceedsOperations foreign unknown opAt decodeOp reportWalk walk nodeAt decode power f-header f-operations f-words _⟫_⇒_
+unfolding f-reported reportStep reportCheck breaksLimit exceedsNodes exceedsOperations foreign unknown opAt decodeOp sourceOf reportWalk walk nodeAt decode power f-header f-operations f-words _⟫_⇒_
 f-report-step = refl
 
 -- one less of either: refused, and both are zero all the same
 f-report-limit : f-reported 33 21 ≡ record { answer = refused ExpansionLimit; scratch = replicate 44 0 ++ 7 ∷ []; pool = replicate 21 0 }
-unfolding f-reported reportStep reportCheck breaksLimit exceedsNodes exceedsOperations foreign unknown opAt decodeOp reportWalk walk nodeAt decode power f-header f-operations f-words _⟫_⇒_
+unfolding f-reported reportStep reportCheck breaksLimit exceedsNodes exceedsOperations foreign unknown opAt decodeOp sourceOf reportWalk walk nodeAt decode power f-header f-operations f-words _⟫_⇒_
 f-report-limit = refl
 
 f-report-pool : f-reported 34 20 ≡ record { answer = refused NoPool; scratch = replicate 44 0 ++ 7 ∷ []; pool = replicate 18 0 ++ 7 ∷ 7 ∷ [] }
-unfolding f-reported reportStep reportCheck breaksLimit exceedsNodes exceedsOperations foreign unknown opAt decodeOp reportWalk walk nodeAt decode power f-header f-operations f-words _⟫_⇒_
+unfolding f-reported reportStep reportCheck breaksLimit exceedsNodes exceedsOperations foreign unknown opAt decodeOp sourceOf reportWalk walk nodeAt decode power f-header f-operations f-words _⟫_⇒_
 f-report-pool = refl

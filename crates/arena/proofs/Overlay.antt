@@ -22,6 +22,14 @@ sets₄ ws i a b c d =
     let e₃ : i + 3 ≡ suc (suc (suc i)) = omega arith in
     rw (e₁, e₂, e₃)
 
+pub sets₅ : (ws : List ℕ) (i a b c d e : ℕ) → set (set (set (set (set ws i a) (i + 1) b) (i + 2) c) (i + 3) d) (i + 4) e ≡ sets ws i (a ∷ b ∷ c ∷ d ∷ e ∷ [])
+sets₅ ws i a b c d e =
+    let e₁ : i + 1 ≡ suc i = omega arith in
+    let e₂ : i + 2 ≡ suc (suc i) = omega arith in
+    let e₃ : i + 3 ≡ suc (suc (suc i)) = omega arith in
+    let e₄ : i + 4 ≡ suc (suc (suc (suc i))) = omega arith in
+    rw (e₁, e₂, e₃, e₄)
+
 pub length-overlay : (us ws : List ℕ) → length us ≤ length ws → length (overlay us ws) ≡ length ws
 length-overlay us ws h = rw (length-append, length-drop) (omega arith)
 
@@ -81,6 +89,6 @@ pub frame-started : (n : ℕ) (ws : List ℕ) → n ≤ maxQubits → 2 * n ≤ 
 unfolding frameStarted
 frame-started n ws few room = rw (le-ltb maxQubits n few, le-ltb (length ws) (2 * n) room)
 
-pub operation-written : (i : ℕ) (vs ws : List ℕ) → operationWords * i + 3 < length ws → operationWritten i vs ws ≡ sets ws (operationWords * i) vs
+pub operation-written : (i : ℕ) (vs ws : List ℕ) → operationWords * i + operationWords ≤ length ws → operationWritten i vs ws ≡ sets ws (operationWords * i) vs
 unfolding operationWritten
 operation-written i vs ws room = rw (le-ltb (length ws) (operationWords * i + operationWords) (omega arith))

@@ -6,10 +6,10 @@ use Prim.Native.Nat.{ℕ}
 use lib.ListN.{replicate}
 use Rattle.pauli.specs.Letters.{power}
 use Rattle.arena.specs.Limits.{capOf}
-use Rattle.arena.specs.Errors.{TooManyQubits, BadStore, ForeignPauli, ClassicalBitOutOfRange, UnknownMeasurement, NoFrame, NoNodes, NoScratch, ExpansionLimit, NoPool, Fine, Wrong, _⟫_⇒_}
+use Rattle.arena.specs.Errors.{TooManyQubits, BadStore, ForeignPauli, ClassicalBitOutOfRange, UnknownMeasurement, NoFrame, NoNodes, NoScratch, ExpansionLimit, NoPool, Checked, Fine, Wrong, _⟫_⇒_}
 use Rattle.arena.specs.References.{PauliRef, axisOf}
 use Rattle.arena.specs.Nodes.{decode, nodeAt, values, image}
-use Rattle.arena.specs.Operations.{decodeOp, Measure, ConditionalRotate, Malformed, Bit, measId, angleKind, NoKind, Pi8, Clifford}
+use Rattle.arena.specs.Operations.{decodeOp, Measure, ConditionalRotate, Malformed, OfGate, ByHand, NoSource, sourceOf, Bit, measId, angleKind, NoKind, Pi8, Clifford}
 use Rattle.arena.specs.Store.{Header, breaksLimit, exceedsNodes, exceedsOperations, foreign, unknown, noNodeRoom, noOperationRoom}
 use Rattle.arena.specs.Builder.{Step, NodesAndFrame, Created, CreatedMade, CreatedRefused, stepOf, newCheck, newStep, productCheck, measureCheck, measureStep, conditionalCheck, conditionalStep}
 use Rattle.arena.specs.Walk.{fine, refused, bind, walk}
@@ -159,7 +159,7 @@ header′ : Header
 header′ = record { qubits = 1; cbits = 2; owner = 5; nodes = 3; operations = 2; measurements = 2 }
 
 operations : List ℕ
-operations = 1 ∷ 8 ∷ 0 ∷ 0 ∷ 7 ∷ 7 ∷ 7 ∷ 7 ∷ []
+operations = 1 ∷ 8 ∷ 0 ∷ 0 ∷ 0 ∷ 7 ∷ 7 ∷ 7 ∷ 7 ∷ 7 ∷ []
 
 conditional-read : opAt header′ (conditionalStep header operations (axisOf (on 8)) (record { 0 = 3 }) (measId 5 0) .words) 1
     ≡ ConditionalRotate (axisOf (on 8)) (record { 0 = 3 }) (measId 5 0)
@@ -175,18 +175,36 @@ measure-read = refl
 nodes : List ℕ
 nodes = 0 ∷ 0 ∷ 5 ∷ 0 ∷ 13 ∷ 0 ∷ []
 
-unknown-measurement : reportCheck header nodes (1 ∷ 8 ∷ 1 ∷ 0 ∷ []) 12 ≡ Wrong BadStore
-unfolding reportCheck breaksLimit exceedsNodes exceedsOperations foreign unknown opAt decodeOp nodeAt decode _⟫_⇒_ header nodes
+unknown-measurement : reportCheck header nodes (1 ∷ 8 ∷ 1 ∷ 0 ∷ 0 ∷ []) 12 ≡ Wrong BadStore
+unfolding reportCheck breaksLimit exceedsNodes exceedsOperations foreign unknown opAt decodeOp sourceOf nodeAt decode _⟫_⇒_ header nodes
 unknown-measurement = refl
 
-known-measurement : reportCheck header nodes (1 ∷ 8 ∷ 0 ∷ 0 ∷ []) 12 ≡ Fine
-unfolding reportCheck breaksLimit exceedsNodes exceedsOperations foreign unknown opAt decodeOp nodeAt decode _⟫_⇒_ header nodes
+known-measurement : reportCheck header nodes (1 ∷ 8 ∷ 0 ∷ 0 ∷ 0 ∷ []) 12 ≡ Fine
+unfolding reportCheck breaksLimit exceedsNodes exceedsOperations foreign unknown opAt decodeOp sourceOf nodeAt decode _⟫_⇒_ header nodes
 known-measurement = refl
 
-measured-report : reportStep header nodes (1 ∷ 8 ∷ 0 ∷ 0 ∷ []) (replicate 12 7) (replicate 6 7) 3 .answer
+measured-report : reportStep header nodes (1 ∷ 8 ∷ 0 ∷ 0 ∷ 0 ∷ []) (replicate 12 7) (replicate 6 7) 3 .answer
     ≡ fine (record { weights = record { nonClifford = 1; clifford = 0 }; work = 3 })
-unfolding reportStep reportCheck breaksLimit exceedsNodes exceedsOperations foreign unknown opAt decodeOp reportWalk walk nodeAt decode power _⟫_⇒_ header nodes
+unfolding reportStep reportCheck breaksLimit exceedsNodes exceedsOperations foreign unknown opAt decodeOp sourceOf reportWalk walk nodeAt decode power _⟫_⇒_ header nodes
 measured-report = refl
+
+-- ---- where an operation came from: an index below 65,536 or the mark, else 3; what is added by hand has the mark
+
+sources : map sourceOf (0 ∷ 65535 ∷ 65536 ∷ 4294967294 ∷ 4294967295 ∷ []) ≡ OfGate 0 ∷ OfGate 65535 ∷ NoSource ∷ NoSource ∷ ByHand ∷ []
+unfolding sourceOf
+sources = refl
+
+checked-source : ℕ → Checked
+unfolding reportCheck breaksLimit exceedsNodes exceedsOperations foreign unknown opAt decodeOp sourceOf nodeAt decode _⟫_⇒_ header nodes
+checked-source gate = reportCheck header nodes (1 ∷ 8 ∷ 0 ∷ 0 ∷ gate ∷ []) 12
+
+source-tested : map checked-source (65535 ∷ 65536 ∷ 4294967294 ∷ 4294967295 ∷ []) ≡ Fine ∷ Wrong BadStore ∷ Wrong BadStore ∷ Fine ∷ []
+unfolding checked-source
+source-tested = refl
+
+measured-by-hand : measureStep header operations (axisOf (on 8)) (Bit 1) .words ≡ 1 ∷ 8 ∷ 0 ∷ 0 ∷ 0 ∷ 1 ∷ 8 ∷ 1 ∷ 2 ∷ 4294967295 ∷ []
+unfolding measureStep measureCheck breaksLimit exceedsOperations foreign noOperationRoom _⟫_⇒_ header operations on
+measured-by-hand = refl
 
 -- ---- a node at the limit, letters enough and no more
 
@@ -218,18 +236,18 @@ product-order : productCheck header 6 other (on 8) ≡ Wrong ForeignPauli
 unfolding productCheck breaksLimit exceedsNodes foreign noNodeRoom _⟫_⇒_ header other on
 product-order = refl
 
-measure-foreign-first : measureCheck header 4 (axisOf other) (Bit 9) ≡ Wrong ForeignPauli
+measure-foreign-first : measureCheck header 5 (axisOf other) (Bit 9) ≡ Wrong ForeignPauli
 unfolding measureCheck breaksLimit exceedsOperations foreign noOperationRoom _⟫_⇒_ header other
 measure-foreign-first = refl
 
-measure-bit-before-room : measureCheck header 4 (axisOf (on 8)) (Bit 9) ≡ Wrong (ClassicalBitOutOfRange 0 9)
+measure-bit-before-room : measureCheck header 5 (axisOf (on 8)) (Bit 9) ≡ Wrong (ClassicalBitOutOfRange 0 9)
 unfolding measureCheck breaksLimit exceedsOperations foreign noOperationRoom _⟫_⇒_ header on
 measure-bit-before-room = refl
 
-conditional-foreign-first : conditionalCheck header 4 (axisOf other) (measId 6 0) ≡ Wrong ForeignPauli
+conditional-foreign-first : conditionalCheck header 5 (axisOf other) (measId 6 0) ≡ Wrong ForeignPauli
 unfolding conditionalCheck breaksLimit exceedsOperations foreign unknown noOperationRoom _⟫_⇒_ header other
 conditional-foreign-first = refl
 
-conditional-outcome-before-room : conditionalCheck header 4 (axisOf (on 8)) (measId 6 0) ≡ Wrong UnknownMeasurement
+conditional-outcome-before-room : conditionalCheck header 5 (axisOf (on 8)) (measId 6 0) ≡ Wrong UnknownMeasurement
 unfolding conditionalCheck breaksLimit exceedsOperations foreign unknown noOperationRoom _⟫_⇒_ header on
 conditional-outcome-before-room = refl

@@ -18,7 +18,7 @@ use Rattle.arena.specs.Operations.{MeasId, PbcOp, Rotate, Measure, Condi
 use Rattle.arena.specs.Store.{Header, breaksLimit, exceedsNodes, exceedsOperations, foreign, unknown}
 use Rattle.arena.specs.Errors.{Checked, Fine, Wrong}
 use Rattle.arena.specs.Builder.{Step, stepOf, decided, qubitNodes, startNodes, startFrame, overlay, NodesAndFrame, Created, CreatedMade, CreatedRefused, newHeader, newCheck, newStep}
-use Rattle.arena.specs.Expansion.{isMalformed, anyMalformed, badNodes, opAt, isBadOp, anyBadOp, badOperations}
+use Rattle.arena.specs.Expansion.{isMalformed, anyMalformed, badNodes, opAt, isBadOp, isBadAt, anyBadOp, badOperations}
 use Rattle.arena.proofs.Accepted.{passed-before, test-passed, left-false, right-false, Sound, sound, Own, own, fits-new}
 use Rattle.arena.proofs.NodeRows.{node-older, single-decodes, product-decodes}
 use Rattle.arena.proofs.Overlay.{length-overlay, length-qubitNodes}
@@ -180,29 +180,29 @@ module _ (h h′ : Header) (G : Grows h h′) where
   good-more (ConditionalRotate x k m) e = both-false _ _ (own-more (x .0) (left-false (foreign h (x .0)) _ e)) (known-more m (right-false (foreign h (x .0)) _ e))
   good-more Malformed e = e
 
-none-bad : (h : Header) (op : ℕ → PbcOp) (k : ℕ) → ((i : ℕ) → i < k → isBadOp h (op i) ≡ false) → anyBadOp h op k ≡ false
-none-bad h op zero all = refl
-none-bad h op (suc k) all = both-false _ _ (none-bad h op k (λ i lt. all i (omega arith))) (all k (omega arith))
+none-bad : (h : Header) (ops : List ℕ) (k : ℕ) → ((i : ℕ) → i < k → isBadAt h ops i ≡ false) → anyBadOp h ops k ≡ false
+none-bad h ops zero all = refl
+none-bad h ops (suc k) all = both-false _ _ (none-bad h ops k (λ i lt. all i (omega arith))) (all k (omega arith))
 
-pub operations-read : (h : Header) (ops : List ℕ) → operationWords * h .operations ≤ length ops → ((i : ℕ) → i < h .operations → isBadOp h (opAt h ops i) ≡ false) → badOperations h ops ≡ false
+pub operations-read : (h : Header) (ops : List ℕ) → operationWords * h .operations ≤ length ops → ((i : ℕ) → i < h .operations → isBadAt h ops i ≡ false) → badOperations h ops ≡ false
 unfolding exceedsOperations
-operations-read h ops used good = rw (le-ltb (length ops) (operationWords * h .operations) used) (none-bad h (opAt h ops) (h .operations) good)
+operations-read h ops used good = rw (le-ltb (length ops) (operationWords * h .operations) used) (none-bad h ops (h .operations) good)
 
-each-good : (h : Header) (op : ℕ → PbcOp) (k : ℕ) → anyBadOp h op k ≡ false → (i : ℕ) → i < k → isBadOp h (op i) ≡ false
-each-good h op zero e i lt = absurd (omega arith)
-each-good h op (suc k) e i lt = go (ℕ-discrete i k) (λ l. each-good h op k (left-false (anyBadOp h op k) _ e) i l)
+pub each-good : (h : Header) (ops : List ℕ) (k : ℕ) → anyBadOp h ops k ≡ false → (i : ℕ) → i < k → isBadAt h ops i ≡ false
+each-good h ops zero e i lt = absurd (omega arith)
+each-good h ops (suc k) e i lt = go (ℕ-discrete i k) (λ l. each-good h ops k (left-false (anyBadOp h ops k) _ e) i l)
   where
-    go : Dec (i ≡ k) → (i < k → isBadOp h (op i) ≡ false) → isBadOp h (op i) ≡ false
-    go (yes p) before = rw p (right-false (anyBadOp h op k) _ e)
+    go : Dec (i ≡ k) → (i < k → isBadAt h ops i ≡ false) → isBadAt h ops i ≡ false
+    go (yes p) before = rw p (right-false (anyBadOp h ops k) _ e)
     go (no ne) before = before (omega arith)
 
 -- and back
 pub operations-used : (h : Header) (ops : List ℕ) → badOperations h ops ≡ false
-    → (operationWords * h .operations ≤ length ops) × ((i : ℕ) → i < h .operations → isBadOp h (opAt h ops i) ≡ false)
+    → (operationWords * h .operations ≤ length ops) × ((i : ℕ) → i < h .operations → isBadAt h ops i ≡ false)
 unfolding exceedsOperations
 operations-used h ops e = (
   ltb-false (length ops) (operationWords * h .operations) (left-false (exceedsOperations h (length ops)) _ e),
-  each-good h (opAt h ops) (h .operations) (right-false (exceedsOperations h (length ops)) _ e),
+  each-good h ops (h .operations) (right-false (exceedsOperations h (length ops)) _ e),
 )
 
 -- a new circuit has none

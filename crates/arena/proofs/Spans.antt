@@ -6,7 +6,7 @@ use Prim.Native.Nat.{ℕ, suc, _+_, _-_, _*_, _≤_, _<_}
 use native.Mathlib.Omega.{arith}
 use lib.ListN.{length, getD, drop, set, length-append}
 use lib.Seq.{sets, length-sets, getD-set-other, getD-append-add, getD-drop}
-use Rattle.arena.specs.Limits.{operationWords}
+use Rattle.arena.specs.Limits.{handMark, operationWords}
 use Rattle.arena.specs.Types.{Pauli, I, X, Y, Z}
 use Rattle.arena.specs.Errors.{PbcError, Checked, Fine, Wrong}
 use Rattle.pauli.specs.Angle.{eighthsOf}
@@ -94,8 +94,8 @@ module _ (s : Slices) where
   accepted-used-only (callProduct h l r) p =
       rw p (nodes-kept (callProduct h l r) _ (kept-sets (productWord (l .word) ∷ r .word ∷ []) (s .nodes) (2 * h .nodes) (2 * (h .nodes + 1)) (omega arith)))
   accepted-used-only (callRotate h x k) p =
-      rw p (operations-kept (callRotate h x k) _ (kept-sets (rotateWords (x .0 .word) (eighthsOf k)) (s .operations) (operationWords * h .operations) (operationWords * (h .operations + 1)) (omega arith)))
+      rw p (operations-kept (callRotate h x k) _ (kept-sets (rotateWords (x .0 .word) (eighthsOf k) handMark) (s .operations) (operationWords * h .operations) (operationWords * (h .operations + 1)) (omega arith)))
   accepted-used-only (callMeasure h x t) p =
-      rw p (operations-kept (callMeasure h x t) _ (kept-sets (measureWords (x .0 .word) (h .measurements) t) (s .operations) (operationWords * h .operations) (operationWords * (h .operations + 1)) (omega arith)))
+      rw p (operations-kept (callMeasure h x t) _ (kept-sets (measureWords (x .0 .word) (h .measurements) t handMark) (s .operations) (operationWords * h .operations) (operationWords * (h .operations + 1)) (omega arith)))
   accepted-used-only (callConditional h x k m) p =
-      rw p (operations-kept (callConditional h x k m) _ (kept-sets (conditionalWords (x .0 .word) (eighthsOf k) (m .1)) (s .operations) (operationWords * h .operations) (operationWords * (h .operations + 1)) (omega arith)))
+      rw p (operations-kept (callConditional h x k m) _ (kept-sets (conditionalWords (x .0 .word) (eighthsOf k) (m .1) handMark) (s .operations) (operationWords * h .operations) (operationWords * (h .operations + 1)) (omega arith)))

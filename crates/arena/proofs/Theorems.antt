@@ -10,7 +10,7 @@ use Rattle.pauli.specs.Angle.{angleOf, eighthsOf}
 use Rattle.pauli.specs.Rows.{_★_, scaled, single, present, weight}
 use Rattle.pauli.specs.Table.{start}
 use Rattle.arena.specs.Types.{Pauli, Phase, PauliAngle}
-use Rattle.arena.specs.Limits.{capOf}
+use Rattle.arena.specs.Limits.{capOf, handMark}
 use Rattle.arena.specs.Errors.{PbcError, BadStore, NonHermitianAxis, Fine, Wrong, ExpansionLimit, NoPool}
 use Rattle.arena.specs.References.{PauliRef, PauliAxis, axisOf, nodeIn, scaledWord}
 use Rattle.arena.specs.Nodes.{nodeAt, image, Identity}
@@ -22,7 +22,7 @@ use Rattle.arena.specs.Walk.{Named, fine, refused, State, Walked, charge
 use Rattle.arena.specs.Charges.{workOf}
 use Rattle.arena.specs.Reachability.{Reachable}
 use Rattle.arena.specs.Readers.{Expanded, expandWalk, hermitianWalk, Weighed, largest, wordsOf, Report, reportWalk}
-use Rattle.arena.specs.Expansion.{ExpansionMade, HermitianMade, WeightsMade, expansionOf, hermitianOf, maxWeightsOf, opAt, badNodes, badOperations, expandStep, hermitianStep, axesTo, reportStep}
+use Rattle.arena.specs.Expansion.{ExpansionMade, HermitianMade, WeightsMade, expansionOf, hermitianOf, maxWeightsOf, opAt, gateWord, badNodes, badOperations, expandStep, hermitianStep, axesTo, reportStep}
 use Rattle.arena.specs.Stats.{Within, Refused, workAfter, chargeAnswer}
 use Rattle.arena.specs.Calls.{Call, Slices, checked, after, KeptSlices}
 use Rattle.arena.specs.Pool.{Lendable, Who}
@@ -122,6 +122,32 @@ measure-older = Written.measure-older
 pub conditional-older : (h : Header) (ops : List ℕ) (x : PauliAxis) (k : PauliAngle) (m : MeasId) (h′ : Header) → conditionalStep h ops x k m .answer ≡ PushedMade h′
     → (i : ℕ) → i < h .operations → opAt h′ (conditionalStep h ops x k m .words) i ≡ opAt h ops i
 conditional-older = Written.conditional-older
+
+-- E2: what a call adds is marked as added by hand
+pub rotate-by-hand : (h : Header) (ops : List ℕ) (x : PauliAxis) (k : PauliAngle) (h′ : Header) → rotateStep h ops x k .answer ≡ PushedMade h′
+    → gateWord (rotateStep h ops x k .words) (h .operations) ≡ handMark
+rotate-by-hand = Written.rotate-by-hand
+
+pub measure-by-hand : (h : Header) (ops : List ℕ) (x : PauliAxis) (t : Target) (h′ : Header) (m : MeasId) → measureStep h ops x t .answer ≡ MeasuredMade h′ m
+    → gateWord (measureStep h ops x t .words) (h .operations) ≡ handMark
+measure-by-hand = Written.measure-by-hand
+
+pub conditional-by-hand : (h : Header) (ops : List ℕ) (x : PauliAxis) (k : PauliAngle) (m : MeasId) (h′ : Header) → conditionalStep h ops x k m .answer ≡ PushedMade h′
+    → gateWord (conditionalStep h ops x k m .words) (h .operations) ≡ handMark
+conditional-by-hand = Written.conditional-by-hand
+
+-- and the older operations keep what they came from
+pub rotate-sources-older : (h : Header) (ops : List ℕ) (x : PauliAxis) (k : PauliAngle) (h′ : Header) → rotateStep h ops x k .answer ≡ PushedMade h′
+    → (i : ℕ) → i < h .operations → gateWord (rotateStep h ops x k .words) i ≡ gateWord ops i
+rotate-sources-older = Written.rotate-sources-older
+
+pub measure-sources-older : (h : Header) (ops : List ℕ) (x : PauliAxis) (t : Target) (h′ : Header) (m : MeasId) → measureStep h ops x t .answer ≡ MeasuredMade h′ m
+    → (i : ℕ) → i < h .operations → gateWord (measureStep h ops x t .words) i ≡ gateWord ops i
+measure-sources-older = Written.measure-sources-older
+
+pub conditional-sources-older : (h : Header) (ops : List ℕ) (x : PauliAxis) (k : PauliAngle) (m : MeasId) (h′ : Header) → conditionalStep h ops x k m .answer ≡ PushedMade h′
+    → (i : ℕ) → i < h .operations → gateWord (conditionalStep h ops x k m .words) i ≡ gateWord ops i
+conditional-sources-older = Written.conditional-sources-older
 
 -- a new circuit can be read, and needs no operation words
 pub new-readable : (qubits cbits owner : ℕ) (nodes frame : List ℕ) (h : Header) → newStep qubits cbits owner nodes frame .answer ≡ CreatedMade h

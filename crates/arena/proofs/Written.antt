@@ -12,21 +12,21 @@ use lib.ListN.{length, getD, take, drop, List·getD-append}
 use lib.Seq.{sets, sets-eq, getD-append-add, length-take-le}
 use Rattle.pauli.specs.Angle.{angleOf, eighthsOf}
 use Rattle.arena.specs.Types.{PauliAngle}
-use Rattle.arena.specs.Limits.{operationWords}
+use Rattle.arena.specs.Limits.{operationWords, handMark}
 use Rattle.arena.specs.Errors.{Checked, Fine, Wrong}
 use Rattle.arena.specs.References.{PauliAxis, axisOf}
 use Rattle.arena.specs.Operations.{MeasId, measId, Target, Bit, NoTarget, targetWord, Rotate, Measure, ConditionalRotate, decodeOp}
 use Rattle.arena.specs.Store.{Header, unknown, targetOutside}
 use Rattle.arena.specs.Builder.{stepOf, decided, withOperation, PushedMade, PushedRefused, MeasuredMade, MeasuredRefused, rotateCheck, rotateStep, measureCheck, measureStep, conditionalCheck, conditionalStep}
 use Rattle.arena.specs.Calls.{callRotate, callMeasure, callConditional, Slices, checked, after}
-use Rattle.arena.specs.Expansion.{opAt}
+use Rattle.arena.specs.Expansion.{opAt, gateWord}
 use Rattle.arena.proofs.Accepted.{passed-before, test-passed, left-false, Own, fits-rotate, fits-measure, fits-conditional}
 use Rattle.arena.proofs.Spans.{accepted-used-only}
 
 zero-is-one : _≡_ {A = ℕ} 0 1 → ⊥
 zero-is-one z = omega arith
 
--- ---- the four words of an operation
+-- ---- the words of an operation
 
 module _ (ws : List ℕ) (k : ℕ) (vs : List ℕ) (room : operationWords * k + length vs ≤ length ws) where
   word-put : (j m : ℕ) → m ≡ operationWords * k + j → j < length vs → getD (sets ws (operationWords * k) vs) m 0 ≡ getD vs j 0
@@ -36,20 +36,26 @@ module _ (ws : List ℕ) (k : ℕ) (vs : List ℕ) (room : operationWords * k + 
       ∙ getD-append-add (take (operationWords * k) ws) (vs ++ drop (operationWords * k + length vs) ws) j 0
       ∙ List·getD-append vs (drop (operationWords * k + length vs) ws) 0 j lt
 
-op-put : (h : Header) (ws : List ℕ) (k a b c d : ℕ) → k + 1 ≤ length ws / operationWords
-    → opAt h (sets ws (operationWords * k) (a ∷ b ∷ c ∷ d ∷ [])) k ≡ decodeOp (h .owner) (h .cbits) a b c d
+op-put : (h : Header) (ws : List ℕ) (k a b c d e : ℕ) → k + 1 ≤ length ws / operationWords
+    → opAt h (sets ws (operationWords * k) (a ∷ b ∷ c ∷ d ∷ e ∷ [])) k ≡ decodeOp (h .owner) (h .cbits) a b c d
 unfolding opAt
-op-put h ws k a b c d lent = λ t. decodeOp (h .owner) (h .cbits) (word 0 (operationWords * k) (omega arith) (omega arith) t) (word 1 (operationWords * k + 1) (omega arith) (omega arith) t)
+op-put h ws k a b c d e lent = λ t. decodeOp (h .owner) (h .cbits) (word 0 (operationWords * k) (omega arith) (omega arith) t) (word 1 (operationWords * k + 1) (omega arith) (omega arith) t)
     (word 2 (operationWords * k + 2) (omega arith) (omega arith) t) (word 3 (operationWords * k + 3) (omega arith) (omega arith) t)
   where
-    word : (j m : ℕ) → m ≡ operationWords * k + j → j < operationWords → getD (sets ws (operationWords * k) (a ∷ b ∷ c ∷ d ∷ [])) m 0 ≡ getD (a ∷ b ∷ c ∷ d ∷ []) j 0
-    word j m at lt = word-put ws k (a ∷ b ∷ c ∷ d ∷ []) (omega arith) j m at lt
+    word : (j m : ℕ) → m ≡ operationWords * k + j → j < operationWords → getD (sets ws (operationWords * k) (a ∷ b ∷ c ∷ d ∷ e ∷ [])) m 0 ≡ getD (a ∷ b ∷ c ∷ d ∷ e ∷ []) j 0
+    word j m at lt = word-put ws k (a ∷ b ∷ c ∷ d ∷ e ∷ []) (omega arith) j m at lt
+
+gate-put : (ws : List ℕ) (k a b c d e : ℕ) → k + 1 ≤ length ws / operationWords → gateWord (sets ws (operationWords * k) (a ∷ b ∷ c ∷ d ∷ e ∷ [])) k ≡ e
+gate-put ws k a b c d e lent = word-put ws k (a ∷ b ∷ c ∷ d ∷ e ∷ []) (omega arith) 4 (operationWords * k + 4) refl (omega arith)
 
 -- words that agree below operation k give the older ones the same meaning
 pub op-older : (h : Header) (k : ℕ) (ws vs : List ℕ) → ((j : ℕ) → j < operationWords * k → getD vs j 0 ≡ getD ws j 0) → (i : ℕ) → i < k → opAt h vs i ≡ opAt h ws i
 unfolding opAt
 op-older h k ws vs same i lt = λ t. decodeOp (h .owner) (h .cbits) (same (operationWords * i) (omega arith) t) (same (operationWords * i + 1) (omega arith) t)
     (same (operationWords * i + 2) (omega arith) t) (same (operationWords * i + 3) (omega arith) t)
+
+pub gate-older : (k : ℕ) (ws vs : List ℕ) → ((j : ℕ) → j < operationWords * k → getD vs j 0 ≡ getD ws j 0) → (i : ℕ) → i < k → gateWord vs i ≡ gateWord ws i
+gate-older k ws vs same i lt = same (operationWords * i + 4) (omega arith)
 
 -- ---- decoding what was encoded
 
@@ -109,9 +115,22 @@ module _ (h : Header) (ops : List ℕ) (x : PauliAxis) where
   rotate-read k h′ e =
       let m = rotate-made k h′ e in
       let f = fits-rotate h (length ops) x (m .0) in
-      rw (← (m .1), m .0) (op-put (withOperation (h .measurements) h) ops (h .operations) _ _ _ _ (f .room .lent)
+      rw (← (m .1), m .0) (op-put (withOperation (h .measurements) h) ops (h .operations) _ _ _ _ _ (f .room .lent)
       ∙ rotate-decodes (h .owner) (h .cbits) (x .0 .word) (eighthsOf k) (omega arith)
       ∙ ap (λ axis. Rotate axis (angleOf (eighthsOf k))) (own-axis h x (f .axis-own)))
+
+  pub rotate-by-hand : (k : PauliAngle) (h′ : Header) → rotateStep h ops x k .answer ≡ PushedMade h′ → gateWord (rotateStep h ops x k .words) (h .operations) ≡ handMark
+  unfolding rotateStep
+  rotate-by-hand k h′ e =
+      let m = rotate-made k h′ e in
+      rw (m .0) (gate-put ops (h .operations) _ _ _ _ handMark (fits-rotate h (length ops) x (m .0) .room .lent))
+
+  pub rotate-sources-older : (k : PauliAngle) (h′ : Header) → rotateStep h ops x k .answer ≡ PushedMade h′
+      → (i : ℕ) → i < h .operations → gateWord (rotateStep h ops x k .words) i ≡ gateWord ops i
+  unfolding lent checked after
+  rotate-sources-older k h′ e =
+      gate-older (h .operations) ops (rotateStep h ops x k .words)
+      (λ j lt. accepted-used-only lent (callRotate h x k) (rotate-made k h′ e .0) .operations .outside j (inl lt))
 
   pub rotate-older : (k : PauliAngle) (h′ : Header) → rotateStep h ops x k .answer ≡ PushedMade h′
       → (i : ℕ) → i < h .operations → opAt h′ (rotateStep h ops x k .words) i ≡ opAt h ops i
@@ -135,9 +154,23 @@ module _ (h : Header) (ops : List ℕ) (x : PauliAxis) where
   measure-read t h′ m e =
       let a = measure-made t h′ m e in
       let f = fits-measure h (length ops) x t (a .0) .0 in
-      rw (← (a .1), ← (a .2), a .0) (op-put (withOperation (h .measurements + 1) h) ops (h .operations) _ _ _ _ (f .room .lent)
+      rw (← (a .1), ← (a .2), a .0) (op-put (withOperation (h .measurements + 1) h) ops (h .operations) _ _ _ _ _ (f .room .lent)
       ∙ measure-decodes h (x .0 .word) (h .measurements) t (inside t (a .0))
       ∙ ap (λ axis. Measure axis (measId (h .owner) (h .measurements)) t) (own-axis h x (f .axis-own)))
+
+  pub measure-by-hand : (t : Target) (h′ : Header) (m : MeasId) → measureStep h ops x t .answer ≡ MeasuredMade h′ m
+      → gateWord (measureStep h ops x t .words) (h .operations) ≡ handMark
+  unfolding measureStep
+  measure-by-hand t h′ m e =
+      let a = measure-made t h′ m e in
+      rw (a .0) (gate-put ops (h .operations) _ _ _ _ handMark (fits-measure h (length ops) x t (a .0) .0 .room .lent))
+
+  pub measure-sources-older : (t : Target) (h′ : Header) (m : MeasId) → measureStep h ops x t .answer ≡ MeasuredMade h′ m
+      → (i : ℕ) → i < h .operations → gateWord (measureStep h ops x t .words) i ≡ gateWord ops i
+  unfolding lent checked after
+  measure-sources-older t h′ m e =
+      gate-older (h .operations) ops (measureStep h ops x t .words)
+      (λ j lt. accepted-used-only lent (callMeasure h x t) (measure-made t h′ m e .0) .operations .outside j (inl lt))
 
   pub measure-older : (t : Target) (h′ : Header) (m : MeasId) → measureStep h ops x t .answer ≡ MeasuredMade h′ m
       → (i : ℕ) → i < h .operations → opAt h′ (measureStep h ops x t .words) i ≡ opAt h ops i
@@ -161,9 +194,23 @@ module _ (h : Header) (ops : List ℕ) (x : PauliAxis) where
   conditional-read k m h′ e =
       let a = conditional-made k m h′ e in
       let f = fits-conditional h (length ops) x m (a .0) in
-      rw (← (a .1), a .0) (op-put (withOperation (h .measurements) h) ops (h .operations) _ _ _ _ (f .room .lent)
+      rw (← (a .1), a .0) (op-put (withOperation (h .measurements) h) ops (h .operations) _ _ _ _ _ (f .room .lent)
       ∙ conditional-decodes (h .owner) (h .cbits) (x .0 .word) (eighthsOf k) (m .1) (omega arith)
       ∙ ap₂ (λ axis outcome. ConditionalRotate axis (angleOf (eighthsOf k)) outcome) (own-axis h x (f .axis-own)) (own-outcome h m (known m (a .0))))
+
+  pub conditional-by-hand : (k : PauliAngle) (m : MeasId) (h′ : Header) → conditionalStep h ops x k m .answer ≡ PushedMade h′
+      → gateWord (conditionalStep h ops x k m .words) (h .operations) ≡ handMark
+  unfolding conditionalStep
+  conditional-by-hand k m h′ e =
+      let a = conditional-made k m h′ e in
+      rw (a .0) (gate-put ops (h .operations) _ _ _ _ handMark (fits-conditional h (length ops) x m (a .0) .room .lent))
+
+  pub conditional-sources-older : (k : PauliAngle) (m : MeasId) (h′ : Header) → conditionalStep h ops x k m .answer ≡ PushedMade h′
+      → (i : ℕ) → i < h .operations → gateWord (conditionalStep h ops x k m .words) i ≡ gateWord ops i
+  unfolding lent checked after
+  conditional-sources-older k m h′ e =
+      gate-older (h .operations) ops (conditionalStep h ops x k m .words)
+      (λ j lt. accepted-used-only lent (callConditional h x k m) (conditional-made k m h′ e .0) .operations .outside j (inl lt))
 
   pub conditional-older : (k : PauliAngle) (m : MeasId) (h′ : Header) → conditionalStep h ops x k m .answer ≡ PushedMade h′
       → (i : ℕ) → i < h .operations → opAt h′ (conditionalStep h ops x k m .words) i ≡ opAt h ops i

@@ -7,7 +7,7 @@ use lib.ListN.{length, drop}
 use lib.Seq.{sets}
 use Rattle.pauli.specs.Angle.{eighthsOf}
 use Rattle.arena.specs.Types.{Pauli, I, X, Y, Z, PauliAngle}
-use Rattle.arena.specs.Limits.{maxQubits, maxCbits, nodeWords, operationWords}
+use Rattle.arena.specs.Limits.{maxQubits, maxCbits, nodeWords, operationWords, handMark}
 use Rattle.arena.specs.Errors.{PbcError, TooManyQubits, BadStore, ForeignPauli, QubitOutOfRange, ClassicalBitOutOfRange, UnknownMeasurement, NoFrame, NoNodes, NoOperations, Checked, Fine}
 use Rattle.arena.specs.Errors.{Wrong, _⟫_⇒_}
 use Rattle.arena.specs.References.{PauliRef, PauliAxis, axisOf}
@@ -127,7 +127,7 @@ productStep h ws l r =
     decided (productCheck h (length ws) l r) MultipliedRefused ws
     (stepOf (MultipliedMade (withNodes (h .nodes + 1) h) (refTo h (h .nodes))) (nodePut h ws (productWord (l .word)) (r .word)))
 
--- ---- operations
+-- ---- operations: what a call adds is marked as added by hand
 
 -- one more operation, and so many measurements
 abbrev pub withOperation : ℕ → Header → Header
@@ -150,7 +150,7 @@ rotateCheck h len axis = axisCheck h len axis ⟫ noOperationRoom h len 1 ⇒ No
 unfoldable pub rotateStep : Header → List ℕ → PauliAxis → PauliAngle → Step Pushed (List ℕ)
 rotateStep h ws axis angle =
     decided (rotateCheck h (length ws) axis) PushedRefused ws
-    (stepOf (PushedMade (withOperation (h .measurements) h)) (operationPut h ws (rotateWords (axis .0 .word) (eighthsOf angle))))
+    (stepOf (PushedMade (withOperation (h .measurements) h)) (operationPut h ws (rotateWords (axis .0 .word) (eighthsOf angle) handMark)))
 
 unfoldable pub measureCheck : Header → ℕ → PauliAxis → Target → Checked
 measureCheck h len axis target =
@@ -160,7 +160,7 @@ unfoldable pub measureStep : Header → List ℕ → PauliAxis → Target → St
 measureStep h ws axis target =
     decided (measureCheck h (length ws) axis target) MeasuredRefused ws
     (stepOf (MeasuredMade (withOperation (h .measurements + 1) h) (measId (h .owner) (h .measurements)))
-    (operationPut h ws (measureWords (axis .0 .word) (h .measurements) target)))
+    (operationPut h ws (measureWords (axis .0 .word) (h .measurements) target handMark)))
 
 unfoldable pub conditionalCheck : Header → ℕ → PauliAxis → MeasId → Checked
 conditionalCheck h len axis outcome = axisCheck h len axis ⟫ unknown h outcome ⇒ UnknownMeasurement ⟫ noOperationRoom h len 1 ⇒ NoOperations
@@ -168,4 +168,4 @@ conditionalCheck h len axis outcome = axisCheck h len axis ⟫ unknown h outcome
 unfoldable pub conditionalStep : Header → List ℕ → PauliAxis → PauliAngle → MeasId → Step Pushed (List ℕ)
 conditionalStep h ws axis angle outcome =
     decided (conditionalCheck h (length ws) axis outcome) PushedRefused ws
-    (stepOf (PushedMade (withOperation (h .measurements) h)) (operationPut h ws (conditionalWords (axis .0 .word) (eighthsOf angle) (outcome .1))))
+    (stepOf (PushedMade (withOperation (h .measurements) h)) (operationPut h ws (conditionalWords (axis .0 .word) (eighthsOf angle) (outcome .1) handMark)))

@@ -10,7 +10,7 @@ use Rattle.arena.specs.Limits.{operationWords, capOf}
 use Rattle.arena.specs.Errors.{BadStore, ForeignPauli, NoScratch, Checked, Fine, Wrong, _⟫_⇒_}
 use Rattle.arena.specs.References.{PauliRef, axisOf}
 use Rattle.arena.specs.Nodes.{PauliNode, Identity, Single, Product, Malformed, nodeAt}
-use Rattle.arena.specs.Operations.{PbcOp, Rotate, Measure, ConditionalRotate, decodeOp, Malformed as MalformedOp}
+use Rattle.arena.specs.Operations.{PbcOp, Rotate, Measure, ConditionalRotate, decodeOp, Malformed as MalformedOp, Source, OfGate, ByHand, NoSource, sourceOf}
 use Rattle.arena.specs.Store.{Header, breaksLimit, exceedsNodes, exceedsOperations, foreign, unknown}
 use Rattle.arena.specs.Walk.{Out, fine, refused}
 use Rattle.arena.specs.Readers.{Expanded, expandWalk, hermitianWalk, Weighed, Report, reportWalk}
@@ -53,11 +53,18 @@ anyMalformed node (suc k) = anyMalformed node k || isMalformed (node k)
 abbrev pub badNodes : Header → List ℕ → Bool
 badNodes h nodes = breaksLimit h || exceedsNodes h (length nodes) || anyMalformed (nodeAt (h .qubits) nodes) (h .nodes)
 
--- ---- and for a walk over operations: a used one is malformed, or names an unused node or measurement
+-- ---- and for a walk over operations: a used one is malformed, names an unused node or measurement, or came from nowhere
 
 unfoldable pub opAt : Header → List ℕ → ℕ → PbcOp
 opAt h ops i = decodeOp (h .owner) (h .cbits) (getD ops (operationWords * i) 0) (getD ops (operationWords * i + 1) 0)
     (getD ops (operationWords * i + 2) 0) (getD ops (operationWords * i + 3) 0)
+
+-- the last word of operation i, and what it stands for
+abbrev pub gateWord : List ℕ → ℕ → ℕ
+gateWord ops i = getD ops (operationWords * i + 4) 0
+
+abbrev pub sourceAt : List ℕ → ℕ → Source
+sourceAt ops i = sourceOf (gateWord ops i)
 
 abbrev pub isBadOp : Header → PbcOp → Bool
 isBadOp h (Rotate x k) = foreign h (x .0)
@@ -65,12 +72,22 @@ isBadOp h (Measure x m t) = foreign h (x .0) || unknown h m
 isBadOp h (ConditionalRotate x k m) = foreign h (x .0) || unknown h m
 isBadOp h MalformedOp = true
 
-abbrev pub anyBadOp : Header → (ℕ → PbcOp) → ℕ → Bool
-anyBadOp h op zero = false
-anyBadOp h op (suc k) = anyBadOp h op k || isBadOp h (op k)
+abbrev pub isNoSource : Source → Bool
+isNoSource (OfGate i) = false
+isNoSource ByHand = false
+isNoSource NoSource = true
+
+-- operation i
+abbrev pub isBadAt : Header → List ℕ → ℕ → Bool
+isBadAt h ops i = isBadOp h (opAt h ops i) || isNoSource (sourceAt ops i)
+
+-- some operation below k
+abbrev pub anyBadOp : Header → List ℕ → ℕ → Bool
+anyBadOp h ops zero = false
+anyBadOp h ops (suc k) = anyBadOp h ops k || isBadAt h ops k
 
 abbrev pub badOperations : Header → List ℕ → Bool
-badOperations h ops = exceedsOperations h (length ops) || anyBadOp h (opAt h ops) (h .operations)
+badOperations h ops = exceedsOperations h (length ops) || anyBadOp h ops (h .operations)
 
 -- ---- scratch and pool: four words a used node; all counted records but record 0 can be lent
 

@@ -18,7 +18,15 @@ abbrev pub nodeWords : ℕ
 nodeWords = 2
 
 abbrev pub operationWords : ℕ
-operationWords = 4
+operationWords = 5
+
+-- gate records of a list
+abbrev pub maxGates : ℕ
+maxGates = 65536
+
+-- the last word of an operation that was added by hand (document 02, E2)
+abbrev pub handMark : ℕ
+handMark = 4294967295
 
 -- the records of a pool that count: a third of its words, and at most 65,536
 abbrev pub capOf : ℕ → ℕ

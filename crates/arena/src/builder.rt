@@ -10,6 +10,7 @@ use crate::checks::nodes_for;
 use crate::error::Checked;
 use crate::error::PbcError;
 use crate::header::Header;
+use crate::limits::HAND_MARK;
 use crate::limits::MAX_QUBITS;
 use crate::limits::NODE_WORDS;
 use crate::limits::OPERATION_WORDS;
@@ -121,7 +122,7 @@ impl Header {
         Multiplied::Made(self.with_nodes(node + 1), reference(self, node))
     }
 
-    /// One more operation: the rotation exp(-i k π/8 P). Refuses with 3, 4, 15. O(1). Promise: `rotateStep`.
+    /// One more operation, by hand: the rotation exp(-i k π/8 P). Refuses with 3, 4, 15. O(1). Promise: `rotateStep`.
     pub fn rotate(self, operations: &mut [u32], axis: PauliAxis, angle: PauliAngle) -> Pushed
         ensures { λ r. ⌜ r ≡ rotateStep self (now (operations .entry)) axis angle .answer ⌝ }
         ensures { λ r. ⌜ now (operations .exit) ≡ rotateStep self (now (operations .entry)) axis angle .words ⌝ }
@@ -131,11 +132,19 @@ impl Header {
             return Pushed::Refused(error);
         }
         let first = 4 * (angle.eighths() as u32);
-        put_operation(operations, self.operations, first, axis.as_ref().word, 0, 0);
+        put_operation(
+            operations,
+            self.operations,
+            first,
+            axis.as_ref().word,
+            0,
+            0,
+            HAND_MARK,
+        );
         Pushed::Made(with_operation(self, self.measurements))
     }
 
-    /// One more operation: a measurement, into a classical bit or none. Refuses with 3, 4, 9, 15. O(1). Promise: `measureStep`.
+    /// One more operation, by hand: a measurement, into a classical bit or none. Refuses with 3, 4, 9, 15. O(1). Promise: `measureStep`.
     pub fn measure(self, operations: &mut [u32], axis: PauliAxis, target: Target) -> Measured
         ensures { λ r. ⌜ r ≡ measureStep self (now (operations .entry)) axis target .answer ⌝ }
         ensures { λ r. ⌜ now (operations .exit) ≡ measureStep self (now (operations .entry)) axis target .words ⌝ }
@@ -152,6 +161,7 @@ impl Header {
             axis.as_ref().word,
             number,
             target_word(target),
+            HAND_MARK,
         );
         Measured::Made(
             with_operation(self, number + 1),
@@ -159,7 +169,7 @@ impl Header {
         )
     }
 
-    /// One more operation: a rotation where a measurement gave 1. Refuses with 3, 4, 10, 15. O(1). Promise: `conditionalStep`.
+    /// One more operation, by hand: a rotation where a measurement gave 1. Refuses with 3, 4, 10, 15. O(1). Promise: `conditionalStep`.
     pub fn conditional_rotate(
         self,
         operations: &mut [u32],
@@ -182,6 +192,7 @@ impl Header {
             axis.as_ref().word,
             outcome.index(),
             0,
+            HAND_MARK,
         );
         Pushed::Made(with_operation(self, self.measurements))
     }
@@ -206,8 +217,9 @@ pub fn put_operation(
     axis: u32,
     measurement: u32,
     target: u32,
+    gate: u32,
 )
-    ensures { λ _. ⌜ now (operations .exit) ≡ operationWritten index (first ∷ axis ∷ measurement ∷ target ∷ []) (now (operations .entry)) ⌝ }
+    ensures { λ _. ⌜ now (operations .exit) ≡ operationWritten index (first ∷ axis ∷ measurement ∷ target ∷ gate ∷ []) (now (operations .entry)) ⌝ }
 {
     let at = OPERATION_WORDS * (index as usize);
     if operations.len() < at + OPERATION_WORDS {
@@ -217,6 +229,7 @@ pub fn put_operation(
     operations[at + 1] = axis;
     operations[at + 2] = measurement;
     operations[at + 3] = target;
+    operations[at + 4] = gate;
 }
 
 fn with_operation(header: Header, measurements: u32) -> Header

@@ -1,10 +1,13 @@
-//! Operations: measurement numbers, targets, what four words stand for, and the kind of an operation's axis. Every function is O(1).
+//! Operations: measurement numbers, targets, what the words of one stand for, where it came from, and the kind of its axis.
+//! Every function is O(1).
 
+use crate::limits::HAND_MARK;
+use crate::limits::MAX_GATES;
 use crate::pauli_ref::PauliAxis;
 use crate::pauli_ref::PauliRef;
 use pauli::PauliAngle;
 ghost use mathlib.Core.Path.{_≡_};
-ghost use Rattle.arena.specs.Operations.{measId, targetOf, decodeOp, decodeOpAs, angleKind, axisKind};
+ghost use Rattle.arena.specs.Operations.{measId, targetOf, sourceOf, decodeOp, decodeOpAs, angleKind, axisKind};
 
 /// A measurement of one circuit: the owner's number and the measurement's.
 pub struct MeasId(u64, u32);
@@ -37,7 +40,7 @@ pub enum Target {
 }
 
 impl Target {
-    /// What an operation's last word names: one more than the bit, 0 for none. Promise: `targetOf`.
+    /// What an operation's fourth word names: one more than the bit, 0 for none. Promise: `targetOf`.
     pub fn of_word(word: u32) -> Target
         ensures { λ r. ⌜ r ≡ targetOf word ⌝ }
     {
@@ -45,6 +48,28 @@ impl Target {
             return Target::None;
         }
         Target::Bit(word - 1)
+    }
+}
+
+/// Where an operation came from: a gate record by its index, or a caller's hand.
+pub enum Source {
+    Gate(u32),
+    Hand,
+    Malformed,
+}
+
+impl Source {
+    /// What an operation's fifth word names: an index below 65,536, or the mark 4,294,967,295 for one added by hand. Promise: `sourceOf`.
+    pub fn of_word(word: u32) -> Source
+        ensures { λ r. ⌜ r ≡ sourceOf word ⌝ }
+    {
+        if word < MAX_GATES {
+            return Source::Gate(word);
+        }
+        if word == HAND_MARK {
+            return Source::Hand;
+        }
+        Source::Malformed
     }
 }
 
@@ -65,7 +90,7 @@ pub enum AxisKind {
 }
 
 impl PbcOp {
-    /// The operation that four words stand for in a circuit with this owner and so many classical bits. Promise: `decodeOp`.
+    /// The operation that its first four words stand for in a circuit with this owner and so many classical bits. Promise: `decodeOp`.
     pub fn decode(
         owner: u64,
         cbits: u32,

@@ -6,10 +6,11 @@ use crate::limits::OPERATION_WORDS;
 use crate::node::PauliNode;
 use crate::op::AxisKind;
 use crate::op::PbcOp;
+use crate::op::Source;
 ghost use mathlib.Core.Path.{_≡_};
 ghost use lib.ListN.{getD};
 ghost use Rattle.arena.specs.Nodes.{nodeAt};
-ghost use Rattle.arena.specs.Expansion.{isMalformed, anyMalformed, badNodes, opAt, isBadOp, anyBadOp, badOperations, weighedOf};
+ghost use Rattle.arena.specs.Expansion.{isMalformed, anyMalformed, badNodes, opAt, gateWord, isBadOp, isNoSource, isBadAt, anyBadOp, badOperations, weighedOf};
 ghost use Rattle.arena.specs.Code.Roots.{countsClifford};
 
 // A word, or 0 past the end.
@@ -94,13 +95,37 @@ fn is_bad_op(header: Header, op: PbcOp) -> bool
     }
 }
 
+// The last word of an operation.
+fn gate_word(operations: &[u32], index: u32) -> u32
+    ensures { λ r. ⌜ r ≡ gateWord (now (operations .entry)) index ⌝ }
+{
+    word_at(operations, OPERATION_WORDS * (index as usize) + 4)
+}
+
+fn is_no_source(source: Source) -> bool
+    ensures { λ r. ⌜ r ≡ isNoSource source ⌝ }
+{
+    match source {
+        Source::Gate(_) => false,
+        Source::Hand => false,
+        Source::Malformed => true,
+    }
+}
+
+fn is_bad_at(header: Header, operations: &[u32], index: u32) -> bool
+    ensures { λ r. ⌜ r ≡ isBadAt header (now (operations .entry)) index ⌝ }
+{
+    let bad = is_bad_op(header, op_at(header, operations, index));
+    bad | is_no_source(Source::of_word(gate_word(operations, index)))
+}
+
 fn any_bad_op(header: Header, operations: &[u32]) -> bool
-    ensures { λ r. ⌜ r ≡ anyBadOp header (opAt header (now (operations .entry))) (header .operations) ⌝ }
+    ensures { λ r. ⌜ r ≡ anyBadOp header (now (operations .entry)) (header .operations) ⌝ }
 {
     let mut any = false;
     let mut i = 0;
     while i < header.operations {
-        any = any | is_bad_op(header, op_at(header, operations, i));
+        any = any | is_bad_at(header, operations, i);
         i += 1;
     }
     any

@@ -21,6 +21,7 @@ use Rattle.arena.specs.Code.Results.{Ledger, Value, Says}
 use Rattle.arena.specs.Code.WalkWords.{Inv, none, edge, usesAt, withUse, valueAt, Uses, Rooted}
 use Rattle.arena.specs.Expansion.{maxWeightsOf, WeightsMade, WeightsRefused, opAt, isBadOp, anyBadOp, badNodes, weighedOf, axesTo, reportCheck}
 use Rattle.arena.specs.Code.Roots.{Rootable, tallyOf, startOf, Begun, showRoot, RootShown, Releasable, Released, Fit, weighedAt, axesOf, AxesNamed, Countable, AxesCounted, RootWeight, weightOf, weighRoot, RootWeighed, weighRoots, weightsOf, Resting, Weighing}
+use Rattle.arena.proofs.Readable.{each-good}
 use Rattle.arena.proofs.walk.Outcomes.{bind-assoc}
 use Rattle.arena.proofs.DecodedNodes.{node-fits}
 use Rattle.arena.proofs.walk.Uses.{plus-edge}
@@ -366,15 +367,8 @@ axis-named h (Measure x m t) e = own h (x .0) (left-false (foreign h (x .0)) _ e
 axis-named h (ConditionalRotate x k m) e = own h (x .0) (left-false (foreign h (x .0)) _ e) .used
 axis-named h Malformed e = let z : _≡_ {A = ℕ} 0 1 = cc in absurd (omega arith)
 
-all-named : (h : Header) (op : ℕ → PbcOp) (k : ℕ) → anyBadOp h op k ≡ false → (i : ℕ) → i < k → nodeIn (weighedOf (op i) .word) < h .nodes
-all-named h op zero e i l = absurd (not-suc-le-zero l)
-all-named h op (suc k) e i l = go (ltb i k) refl (all-named h op k (left-false (anyBadOp h op k) (isBadOp h (op k)) e) i)
-  where
-    go : (b : Bool) → ltb i k ≡ b → (i < k → nodeIn (weighedOf (op i) .word) < h .nodes) → nodeIn (weighedOf (op i) .word) < h .nodes
-    go true q ih = ih (ltb-true i k q)
-    go false q ih =
-        let s : k ≡ i = omega (arith, ltb-false i k q) in
-        subst (λ (j : ℕ). nodeIn (weighedOf (op j) .word) < h .nodes) s (axis-named h (op k) (right-false (anyBadOp h op k) (isBadOp h (op k)) e))
+all-named : (h : Header) (ops : List ℕ) (k : ℕ) → anyBadOp h ops k ≡ false → (i : ℕ) → i < k → nodeIn (weighedOf (opAt h ops i) .word) < h .nodes
+all-named h ops k e i l = axis-named h (opAt h ops i) (left-false (isBadOp h (opAt h ops i)) _ (each-good h ops k e i l))
 
 pub fits-report : (h : Header) (words ops : List ℕ) (scratch : ℕ) → reportCheck h words ops scratch ≡ Fine → Walkable h words scratch × AxesNamed h ops
 unfolding reportCheck
@@ -382,5 +376,5 @@ fits-report h words ops scratch e =
     let t = test-passed _ _ _ (passed-before _ _ _ e) in
     let o = right-false (badNodes h words) _ t in (
       walkable h words scratch (left-false (badNodes h words) _ t) (test-passed _ _ _ e),
-      all-named h (opAt h ops) (h .operations) (right-false (exceedsOperations h (length ops)) _ o),
+      all-named h ops (h .operations) (right-false (exceedsOperations h (length ops)) _ o),
     )

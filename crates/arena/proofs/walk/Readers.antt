@@ -203,10 +203,11 @@ op-named h (Measure x m t) e = own h (x .0) (left-false (foreign h (x .0)) _ e) 
 op-named h (ConditionalRotate x k m) e = own h (x .0) (left-false (foreign h (x .0)) _ e) .used
 op-named h MalformedOp e = let z : _≡_ {A = ℕ} 0 1 = cc in absurd (zero-is-one z)
 
-axes-named : (h : Header) (op : ℕ → PbcOp) (k : ℕ) → anyBadOp h op k ≡ false → Named (h .nodes) (wordsOf (axesTo op k))
-axes-named h op zero e = tt
-axes-named h op (suc k) e =
-    named-snoc (h .nodes) (axesTo op k) (weighedOf (op k)) (axes-named h op k (left-false (anyBadOp h op k) _ e)) (op-named h (op k) (right-false (anyBadOp h op k) _ e))
+axes-named : (h : Header) (ops : List ℕ) (k : ℕ) → anyBadOp h ops k ≡ false → Named (h .nodes) (wordsOf (axesTo (opAt h ops) k))
+axes-named h ops zero e = tt
+axes-named h ops (suc k) e =
+    named-snoc (h .nodes) (axesTo (opAt h ops) k) (weighedOf (opAt h ops k)) (axes-named h ops k (left-false (anyBadOp h ops k) _ e))
+    (op-named h (opAt h ops k) (left-false (isBadOp h (opAt h ops k)) _ (right-false (anyBadOp h ops k) _ e)))
 
 module _ (h : Header) (nodes ops scratch pool : List ℕ) (limit : ℕ) where
   abbrev axes : List Weighed
@@ -220,7 +221,7 @@ module _ (h : Header) (nodes ops scratch pool : List ℕ) (limit : ℕ) where
 
   report-named : reportCheck h nodes ops (length scratch) ≡ Fine → Named (h .nodes) (wordsOf axes)
   unfolding reportCheck
-  report-named p = axes-named h (opAt h ops) (h .operations)
+  report-named p = axes-named h ops (h .operations)
       (right-false (exceedsOperations h (length ops)) _ (right-false (badNodes h nodes) _ (test-passed _ _ _ (passed-before _ _ _ p))))
 
   abbrev weighs : Weights

@@ -6,7 +6,7 @@ use borrow.Author.Needs.{needs}
 use borrow.Author.Tests.{lt-ltb}
 use lib.ListN.{length-set}
 use Rattle.arena.specs.Builder.{operationWritten}
-use Rattle.arena.proofs.Overlay.{sets₄, operation-written}
+use Rattle.arena.proofs.Overlay.{sets₅, operation-written}
 use Rattle.arena.proofs.builder.put_operation.Statement.{statement}
 use Rattle.arena.proofs.builder.put_operation.Tie as tie
 
@@ -53,14 +53,23 @@ mul-operations-4 c = search needs
 slice-write-operations-4 : tie.Need-slice-write-operations-4
 slice-write-operations-4 c = simp length-set (omega (arith, c .if1 .left))
 
+add-operations-4 : tie.Need-add-operations-4
+add-operations-4 c = search needs
+
+mul-operations-5 : tie.Need-mul-operations-5
+mul-operations-5 c = search needs
+
+slice-write-operations-5 : tie.Need-slice-write-operations-5
+slice-write-operations-5 c = simp length-set (omega (arith, c .if1 .left))
+
 same-length : tie.Need-same-length
 same-length c = search needs
 
 returns-2 : tie.Need-returns-2
 returns-2 c =
     let args = c .before .args in
-    sets₄ (args .operations .now) _ (args .first) (args .axis) (args .measurement) (args .target) ∙ sym (operation-written (args .index)
-    (args .first ∷ args .axis ∷ args .measurement ∷ args .target ∷ []) (args .operations .now) (omega (arith, c .if1 .left)))
+    sets₅ (args .operations .now) _ (args .first) (args .axis) (args .measurement) (args .target) (args .gate) ∙ sym (operation-written (args .index)
+    (args .first ∷ args .axis ∷ args .measurement ∷ args .target ∷ args .gate ∷ []) (args .operations .now) (omega (arith, c .if1 .left)))
 
 pub put-operation-spec : {M : Type 1} → statement M
 put-operation-spec =
@@ -80,5 +89,8 @@ put-operation-spec =
     add-operations-3
     mul-operations-4
     slice-write-operations-4
+    add-operations-4
+    mul-operations-5
+    slice-write-operations-5
     same-length
     returns-2)

@@ -6,7 +6,7 @@ use native.Mathlib.Omega.{arith}
 use borrow.Author.Needs.{needs}
 use lib.Seq.{sets}
 use lib.ListN.{length}
-use Rattle.arena.specs.Limits.{operationWords}
+use Rattle.arena.specs.Limits.{operationWords, handMark}
 use Rattle.pauli.specs.Angle.{eighthsOf}
 use Rattle.arena.specs.Builder.{conditionalStep, PushedMade}
 use Rattle.arena.proofs.Overlay.{operation-written}
@@ -75,9 +75,9 @@ returns-2 c =
     let room = fits-conditional (args .self) (length (args .operations .now)) (args .axis) (args .outcome) (sym (check-conditional .ensures) ∙ the-enum-told .given .1) in
     rw (sym (check-conditional .ensures) ∙ the-enum-told .given .1) (
       ap PushedMade (c .with-operation .ensures),
-      put-operation .ensures ∙ operation-written (args .self .operations) _ (args .operations .now) (omega (arith, room)) ∙ ap₂ (λ k r. sets (args .operations .now) (operationWords * args .self .operations) ((2 + 4 * k) ∷ r .word ∷ index .result ∷ 0 ∷ []))
+      put-operation .ensures ∙ operation-written (args .self .operations) _ (args .operations .now) (omega (arith, room)) ∙ ap₂ (λ k r. sets (args .operations .now) (operationWords * args .self .operations) ((2 + 4 * k) ∷ r .word ∷ index .result ∷ 0 ∷ handMark ∷ []))
           (eighths .ensures) (as-ref .ensures)
-          ∙ ap (λ m. sets (args .operations .now) (operationWords * args .self .operations) ((2 + 4 * eighthsOf (args .angle)) ∷ args .axis .0 .word ∷ m ∷ 0 ∷ []))
+          ∙ ap (λ m. sets (args .operations .now) (operationWords * args .self .operations) ((2 + 4 * eighthsOf (args .angle)) ∷ args .axis .0 .word ∷ m ∷ 0 ∷ handMark ∷ []))
           (index .ensures),
     )
 

@@ -6,7 +6,7 @@ use native.Mathlib.Omega.{arith}
 use borrow.Author.Needs.{needs}
 use lib.Seq.{sets}
 use lib.ListN.{length}
-use Rattle.arena.specs.Limits.{operationWords}
+use Rattle.arena.specs.Limits.{operationWords, handMark}
 use Rattle.arena.specs.Builder.{measureStep, MeasuredMade}
 use Rattle.arena.proofs.Overlay.{operation-written}
 use Rattle.arena.proofs.Accepted.{fits-measure}
@@ -80,7 +80,7 @@ returns-2 c =
     let room = (fits-measure (args .self) (length (args .operations .now)) (args .axis) (args .target) (sym (check-measure .ensures) ∙ the-enum-told .given .1)) .0 in
     rw (sym (check-measure .ensures) ∙ the-enum-told .given .1) (
       λ i. MeasuredMade (with-operation .ensures i) (c .new .ensures i),
-      put-operation .ensures ∙ operation-written (args .self .operations) _ (args .operations .now) (omega (arith, room)) ∙ ap₂ (λ r t. sets (args .operations .now) (operationWords * args .self .operations) (1 ∷ r .word ∷ args .self .measurements ∷ t ∷ []))
+      put-operation .ensures ∙ operation-written (args .self .operations) _ (args .operations .now) (omega (arith, room)) ∙ ap₂ (λ r t. sets (args .operations .now) (operationWords * args .self .operations) (1 ∷ r .word ∷ args .self .measurements ∷ t ∷ handMark ∷ []))
           (as-ref .ensures) (target-word .ensures),
     )
 

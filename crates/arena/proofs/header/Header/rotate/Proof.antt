@@ -6,7 +6,7 @@ use native.Mathlib.Omega.{arith}
 use borrow.Author.Needs.{needs}
 use lib.Seq.{sets}
 use lib.ListN.{length}
-use Rattle.arena.specs.Limits.{operationWords}
+use Rattle.arena.specs.Limits.{operationWords, handMark}
 use Rattle.arena.specs.Builder.{rotateStep, PushedMade}
 use Rattle.arena.proofs.Overlay.{operation-written}
 use Rattle.arena.proofs.Accepted.{fits-rotate}
@@ -63,7 +63,7 @@ returns-2 c =
     let room = fits-rotate (args .self) (length (args .operations .now)) (args .axis) (sym (check-rotate .ensures) ∙ the-enum-told .given .1) in
     rw (sym (check-rotate .ensures) ∙ the-enum-told .given .1) (
       ap PushedMade (c .with-operation .ensures),
-      put-operation .ensures ∙ operation-written (args .self .operations) _ (args .operations .now) (omega (arith, room)) ∙ ap₂ (λ k r. sets (args .operations .now) (operationWords * args .self .operations) ((4 * k) ∷ r .word ∷ 0 ∷ 0 ∷ [])) (eighths .ensures)
+      put-operation .ensures ∙ operation-written (args .self .operations) _ (args .operations .now) (omega (arith, room)) ∙ ap₂ (λ k r. sets (args .operations .now) (operationWords * args .self .operations) ((4 * k) ∷ r .word ∷ 0 ∷ 0 ∷ handMark ∷ [])) (eighths .ensures)
           (as-ref .ensures),
     )
 
