@@ -12,7 +12,7 @@ use Rattle.arena.specs.Walk.{Out, fine, refused}
 use Rattle.arena.specs.Readers.{Expanded, Report}
 use Rattle.arena.specs.Expansion.{expandStep, hermitianStep, reportStep}
 use Rattle.convert.specs.Types.{I, Y, Z, One, MinusOne, Header, PauliRef, ExpansionLimit, NoPool, NonHermitianAxis, MultipliedMade}
-use Rattle.convert.specs.Records.{Cap, NoCap, AtMost}
+use Rattle.convert.specs.Records.{Cap, NoCap, AtMost, from}
 use Rattle.convert.specs.Plain.{rotateBy}
 use Rattle.convert.specs.Words.{flat, operationsIn}
 use Rattle.convert.specs.Conversion.{Input, inputOf, ConvertedMade, convertStep}
@@ -23,7 +23,7 @@ gate kind a b c = kind ∷ a ∷ b ∷ c ∷ []
 
 -- a conversion of owner 7 with room for 20 nodes and 10 operations, where all words that are lent are 9
 abbrev pub small : ℕ → Cap → List ℕ → Input
-small n cap gates = inputOf n 0 7 cap gates (replicate 40 9) (replicate 40 9) (replicate 8 9) (replicate 12 9)
+small n cap gates = inputOf n 0 7 cap gates (replicate 40 9) (replicate 50 9) (replicate 8 9) (replicate 12 9)
 
 -- a header of owner 7 without classical bits and measurements
 abbrev pub smallHeader : (qubits nodes operations : ℕ) → Header
@@ -34,9 +34,9 @@ abbrev pub Makes : Input → ℕ → List (List ℕ) → Type 0
 Makes x nodes ops =
     (convertStep x .answer ≡ ConvertedMade (smallHeader (x .qubits) nodes (length ops))) × (take (operationWords * length ops) (convertStep x .operations) ≡ flat ops)
 
--- a rotation along a node with a phase, by so many eighths
-abbrev pub aboutNode : ℕ → ℕ → ℕ → List ℕ
-aboutNode node phase angle = rotateWords (4 * node + phase) angle
+-- a rotation along a node with a phase, by so many eighths, of a gate record
+abbrev pub aboutNode : (node phase angle gate : ℕ) → List ℕ
+aboutNode node phase angle gate = rotateWords (4 * node + phase) angle gate
 
 abbrev pub reference : ℕ → PauliRef
 reference word = record { owner = 7; word = word }
@@ -73,20 +73,20 @@ pub record HandCircuits : Type 0 where
   -- A: n = 0, no gates: 1 node, no operation
   pub a : Makes (small 0 NoCap []) 1 []
   -- C: n = 1; s, h, t: one rotation by 1 along -Y
-  pub c : Makes circuitC 4 (aboutNode 3 3 1 ∷ [])
-  pub c-axis : operationsIn (smallHeader 1 4 1) (convertStep circuitC .nodes) (convertStep circuitC .operations) ≡ rotateBy 1 (record { letters = Y ∷ []; phase = MinusOne }) ∷ []
+  pub c : Makes circuitC 4 (aboutNode 3 3 1 2 ∷ [])
+  pub c-axis : operationsIn (smallHeader 1 4 1) (convertStep circuitC .nodes) (convertStep circuitC .operations) ≡ from 2 (rotateBy 1 (record { letters = Y ∷ []; phase = MinusOne })) ∷ []
   -- `expand` passes at 7, gives 17 at 6
   pub c-expands : expands circuitC (smallHeader 1 4 1) 15 7 ≡ fine (record { row = record { letters = Y ∷ []; phase = MinusOne }; work = 6 })
   pub c-stops : expands circuitC (smallHeader 1 4 1) 15 6 ≡ refused ExpansionLimit
   -- D: n = 2; cnot 0 1, t 1, no cap: 7 nodes, node 6 by 1, letters ZZ; at cap 2 the same
-  pub d : Makes (circuitD NoCap) 7 (aboutNode 6 0 1 ∷ [])
+  pub d : Makes (circuitD NoCap) 7 (aboutNode 6 0 1 1 ∷ [])
   pub d-axis : operationsIn (smallHeader 2 7 1) (convertStep (circuitD NoCap) .nodes) (convertStep (circuitD NoCap) .operations)
-      ≡ rotateBy 1 (record { letters = Z ∷ Z ∷ []; phase = One }) ∷ []
-  pub d-cap : Makes (circuitD (AtMost 2)) 7 (aboutNode 6 0 1 ∷ [])
-  -- E: D at cap 1: 8 nodes; node 2 by 2, node 3 by 2, node 7 by 6, node 4 by 1
-  pub e : Makes (circuitD (AtMost 1)) 8 (aboutNode 2 0 2 ∷ aboutNode 3 0 2 ∷ aboutNode 7 0 6 ∷ aboutNode 4 0 1 ∷ [])
+      ≡ from 1 (rotateBy 1 (record { letters = Z ∷ Z ∷ []; phase = One })) ∷ []
+  pub d-cap : Makes (circuitD (AtMost 2)) 7 (aboutNode 6 0 1 1 ∷ [])
+  -- E: D at cap 1: 8 nodes; node 2 by 2, node 3 by 2, node 7 by 6, all of the cnot, and node 4 by 1
+  pub e : Makes (circuitD (AtMost 1)) 8 (aboutNode 2 0 2 0 ∷ aboutNode 3 0 2 0 ∷ aboutNode 7 0 6 0 ∷ aboutNode 4 0 1 1 ∷ [])
   -- F: n = 3; ccx 0 1 2: 11 nodes; nodes 2, 4, 5, 7, 8, 9, 10 by 1, 1, 1, 7, 7, 7, 1
-  pub f : Makes circuitF 11 (aboutNode 2 0 1 ∷ aboutNode 4 0 1 ∷ aboutNode 5 0 1 ∷ aboutNode 7 0 7 ∷ aboutNode 8 0 7 ∷ aboutNode 9 0 7 ∷ aboutNode 10 0 1 ∷ [])
+  pub f : Makes circuitF 11 (aboutNode 2 0 1 0 ∷ aboutNode 4 0 1 0 ∷ aboutNode 5 0 1 0 ∷ aboutNode 7 0 7 0 ∷ aboutNode 8 0 7 0 ∷ aboutNode 9 0 7 0 ∷ aboutNode 10 0 1 0 ∷ [])
   -- the report is non-Clifford 3, Clifford 0, with work 34; 33 gives 17; a pool of 7 records serves; 6 give 18
   pub f-report : reports circuitF (smallHeader 3 11 7) 7 34 ≡ fine (record { weights = record { nonClifford = 3; clifford = 0 }; work = 34 })
   pub f-stops : reports circuitF (smallHeader 3 11 7) 7 33 ≡ refused ExpansionLimit
@@ -102,4 +102,4 @@ pub record HandCircuits : Type 0 where
   pub l-phase : hermitian 6 ≡ refused NonHermitianAxis
   pub l-stops : hermitian 5 ≡ refused ExpansionLimit
   -- M: n = 1; y, t: node 2 with phase MinusOne, by 1
-  pub m : Makes (small 1 NoCap (gate 15 0 0 0 ++ gate 5 0 0 0)) 3 (aboutNode 2 2 1 ∷ [])
+  pub m : Makes (small 1 NoCap (gate 15 0 0 0 ++ gate 5 0 0 0)) 3 (aboutNode 2 2 1 1 ∷ [])

@@ -6,13 +6,12 @@ use lib.Dec.{ltb, leb, eqb}
 use lib.ListN.{length}
 use Rattle.pauli.specs.Rows.{Row}
 use Rattle.pauli.specs.Table.{start}
-use Rattle.pauli.specs.Rotations.{flush}
-use Rattle.arena.specs.Limits.{maxQubits, maxCbits, maxNodes, maxOperations, nodeWords, operationWords}
+use Rattle.arena.specs.Limits.{maxQubits, maxCbits, maxNodes, maxOperations, maxGates, nodeWords, operationWords}
 use Rattle.arena.specs.Errors.{_⟫_⇒_}
 use Rattle.arena.specs.Builder.{overlay, headerOf}
 use Rattle.convert.specs.Types.{Header, TooManyQubits, BrokenGateList, UnsupportedGate, ClassicalBitOutOfRange, CapTooSmall, NoPlanes, NoFrame, NoNodes, NoOperations, Checked, Fine, Wrong}
 use Rattle.convert.specs.Records.{GateKind, NoShape, ThreeQubits, Measured, hasShape, Cap, NoCap, AtMost, Record, records, kindOf, Elementary, Placed, lowerAll, bare}
-use Rattle.convert.specs.Plain.{Plain, plainBegin, plainRun, tableRun}
+use Rattle.convert.specs.Plain.{Plain, flushFrom, plainBegin, plainRun, tableRun}
 use Rattle.convert.specs.Paper.{Paper, paperRun, paperBegin}
 use Rattle.convert.specs.Frame.{qubitsOf, operandsChecked}
 use Rattle.convert.specs.Words.{Words, flat, startWords, wordRun}
@@ -40,13 +39,13 @@ unfoldable pub gatesIn : Input → List (Placed Elementary)
 gatesIn x = lowerAll (records (x .gates))
 
 unfoldable pub plainEnd : Input → Plain
-plainEnd x = plainRun flush (x .qubits) (x .cap) (gatesIn x) (plainBegin (x .qubits))
+plainEnd x = plainRun flushFrom (x .qubits) (x .cap) (gatesIn x) (plainBegin (x .qubits))
 
 unfoldable pub tableEnd : Input → List Row
 tableEnd x = tableRun (x .qubits) (x .cap) (bare (gatesIn x)) (start (x .qubits))
 
 unfoldable pub paperEnd : Input → Paper
-paperEnd x = paperRun flush (x .qubits) (x .cap) (bare (gatesIn x)) paperBegin
+paperEnd x = paperRun flushFrom (x .qubits) (x .cap) (gatesIn x) paperBegin
 
 unfoldable pub wordEnd : Input → Words
 wordEnd x = wordRun (x .qubits) (x .cap) (gatesIn x) (plainBegin (x .qubits)) (startWords (x .qubits))
@@ -96,7 +95,7 @@ planesTooFew (AtMost cap) n m = ltb m (planeWords n)
 
 -- the words of a gate list
 abbrev pub maxGateWords : ℕ
-maxGateWords = 262144
+maxGateWords = 4 * maxGates
 
 -- the limits that a conversion keeps
 pub record Limits : Type 0 where

@@ -6,15 +6,15 @@ use Prim.Native.Nat.{ℕ, suc}
 use Rattle.pauli.specs.Letters.{real}
 use Rattle.pauli.specs.Rows.{Row, single}
 use Rattle.pauli.specs.Gates.{Gate, back}
-use Rattle.pauli.specs.Rotations.{Rotation}
 use Rattle.pauli.specs.Doubly.{sevenRows}
 use Rattle.convert.specs.Types.{X, Z, Target, Bit}
-use Rattle.convert.specs.Records.{Cap, NoCap, AtMost, Elementary, clifford, elT, elTdg, elCcx, elCcz, elMeasure}
-use Rattle.convert.specs.Plain.{Operation, rotateBy, measureOf, conditionalBy, malformed, seven, anyAbove, asRotation}
+use Rattle.convert.specs.Records.{Cap, NoCap, AtMost, Elementary, clifford, elT, elTdg, elCcx, elCcz, elMeasure, Placed, placed, bare, From, from, mapFrom}
+use Rattle.convert.specs.Plain.{Operation, rotateBy, measureOf, conditionalBy, malformed, seven, anyAbove, Flush, asRotation}
 
+-- the Clifford gates since the last flush, the operations with the gate records that they are of, and the measurements given
 pub record Paper : Type 0 where
-  pub since : List Gate
-  pub operations : List Operation
+  pub since : List (Placed Gate)
+  pub operations : List (From Operation)
   pub given : ℕ
 
 -- the Pauli products that a gate turns about or measures
@@ -56,24 +56,29 @@ writes n gs m (elCcx a b d) = rotateAll sevenAngles (axes n gs (elCcx a b d))
 writes n gs m (elCcz a b d) = rotateAll sevenAngles (axes n gs (elCcz a b d))
 writes n gs m (elMeasure q k) = measureFirst m (Bit k) (axes n gs (elMeasure q k))
 
-abbrev pub paperAdds : Paper → List Operation → Paper
-paperAdds p os = record { since = p .since; operations = p .operations ++ os; given = p .given }
+-- part j of record i is performed
+abbrev pub paperAdds : ℕ → Paper → List Operation → Paper
+paperAdds i p os = record { since = p .since; operations = p .operations ++ map (from i) os; given = p .given }
 
-unfoldable pub paperPerform : ℕ → Elementary → Paper → Paper
-paperPerform n (clifford g) p = record { since = p .since ++ g ∷ []; operations = p .operations; given = p .given }
-paperPerform n (elT q) p = paperAdds p (writes n (p .since) (p .given) (elT q))
-paperPerform n (elTdg q) p = paperAdds p (writes n (p .since) (p .given) (elTdg q))
-paperPerform n (elCcx a b d) p = paperAdds p (writes n (p .since) (p .given) (elCcx a b d))
-paperPerform n (elCcz a b d) p = paperAdds p (writes n (p .since) (p .given) (elCcz a b d))
-paperPerform n (elMeasure q k) p = record { since = p .since; operations = p .operations ++ writes n (p .since) (p .given) (elMeasure q k); given = suc (p .given) }
+unfoldable pub paperPerform : ℕ → ℕ → ℕ → Elementary → Paper → Paper
+paperPerform n i j (clifford g) p = record { since = p .since ++ placed i j g ∷ []; operations = p .operations; given = p .given }
+paperPerform n i j (elT q) p = paperAdds i p (writes n (bare (p .since)) (p .given) (elT q))
+paperPerform n i j (elTdg q) p = paperAdds i p (writes n (bare (p .since)) (p .given) (elTdg q))
+paperPerform n i j (elCcx a b d) p = paperAdds i p (writes n (bare (p .since)) (p .given) (elCcx a b d))
+paperPerform n i j (elCcz a b d) p = paperAdds i p (writes n (bare (p .since)) (p .given) (elCcz a b d))
+paperPerform n i j (elMeasure q k) p = record {
+  since = p .since;
+  operations = p .operations ++ map (from i) (writes n (bare (p .since)) (p .given) (elMeasure q k));
+  given = suc (p .given);
+}
 
-abbrev pub paperFlushed : (ℕ → List Gate → List Rotation) → ℕ → Paper → Paper
-paperFlushed flush n p = record { since = []; operations = p .operations ++ map asRotation (flush n (p .since)); given = p .given }
+abbrev pub paperFlushed : Flush → ℕ → Paper → Paper
+paperFlushed flush n p = record { since = []; operations = p .operations ++ map (mapFrom asRotation) (flush n (p .since)); given = p .given }
 
-unfoldable pub paperStep : (ℕ → List Gate → List Rotation) → ℕ → Cap → Elementary → Paper → Paper
-paperStep flush n cap e p = paperPerform n e (cond (tooHeavy n cap (p .since) e) (paperFlushed flush n p) p)
+unfoldable pub paperStep : Flush → ℕ → Cap → Placed Elementary → Paper → Paper
+paperStep flush n cap e p = paperPerform n (e .index) (e .part) (e .gate) (cond (tooHeavy n cap (bare (p .since)) (e .gate)) (paperFlushed flush n p) p)
 
-unfoldable pub paperRun : (ℕ → List Gate → List Rotation) → ℕ → Cap → List Elementary → Paper → Paper
+unfoldable pub paperRun : Flush → ℕ → Cap → List (Placed Elementary) → Paper → Paper
 paperRun flush n cap [] p = p
 paperRun flush n cap (e ∷ es) p = paperRun flush n cap es (paperStep flush n cap e p)
 

@@ -6,10 +6,10 @@ use lib.Dec.{ltb}
 use Rattle.pauli.specs.Rows.{Row, _★_, weight}
 use Rattle.pauli.specs.Gates.{Gate}
 use Rattle.pauli.specs.Table.{start, step, xRow, zRow}
-use Rattle.pauli.specs.Rotations.{Rotation}
+use Rattle.pauli.specs.Rotations.{Rotation, written}
 use Rattle.pauli.specs.Doubly.{Term, sevenRows}
 use Rattle.convert.specs.Types.{One, Target, Bit}
-use Rattle.convert.specs.Records.{Cap, NoCap, AtMost, Elementary, clifford, elT, elTdg, elCcx, elCcz, elMeasure, Placed, placed, bare}
+use Rattle.convert.specs.Records.{Cap, NoCap, AtMost, Elementary, clifford, elT, elTdg, elCcx, elCcz, elMeasure, Placed, placed, From, from, mapFrom}
 
 pub data Operation : Type 0 where
   rotateBy : ℕ → Row → Operation  -- angle, axis
@@ -17,14 +17,14 @@ pub data Operation : Type 0 where
   conditionalBy : ℕ → Row → ℕ → Operation  -- angle, axis, number
   malformed : Operation
 
--- the table, the Clifford gates since the last flush, what is written, and the measurements given
+-- the table, the Clifford gates since the last flush, what is written and for which gate record, and the measurements given
 pub record Plain : Type 0 where
   pub table : List Row
   pub pending : List (Placed Gate)
-  pub operations : List Operation
+  pub operations : List (From Operation)
   pub given : ℕ
 
-abbrev pub plainOf : List Row → List (Placed Gate) → List Operation → ℕ → Plain
+abbrev pub plainOf : List Row → List (Placed Gate) → List (From Operation) → ℕ → Plain
 plainOf t gs os m = record { table = t; pending = gs; operations = os; given = m }
 
 unfoldable pub plainBegin : ℕ → Plain
@@ -75,33 +75,42 @@ exceeds n (AtMost cap) t e = anyAbove cap (tested n t e)
 
 -- ---- the conversion; what a flush writes for pending gates of n qubits is its first argument
 
+abbrev pub Flush : Type 1
+Flush = ℕ → List (Placed Gate) → List (From Rotation)
+
+-- the rotations of each pending gate, in order, name that gate's record
+unfoldable pub flushFrom : Flush
+flushFrom n [] = []
+flushFrom n (g ∷ gs) = map (from (g .index)) (written n (g .gate)) ++ flushFrom n gs
+
 abbrev pub asRotation : Rotation → Operation
 asRotation r = rotateBy (r .angle) (r .axis)
 
 -- the pending gates are written in order on identity images, then the table starts again
-unfoldable pub flushed : (ℕ → List Gate → List Rotation) → ℕ → Plain → Plain
-flushed flush n p = plainOf (start n) [] (p .operations ++ map asRotation (flush n (bare (p .pending)))) (p .given)
+unfoldable pub flushed : Flush → ℕ → Plain → Plain
+flushed flush n p = plainOf (start n) [] (p .operations ++ map (mapFrom asRotation) (flush n (p .pending))) (p .given)
 
-abbrev pub adds : Plain → List Operation → Plain
-adds p os = plainOf (p .table) (p .pending) (p .operations ++ os) (p .given)
+-- operations of record i
+abbrev pub adds : ℕ → Plain → List Operation → Plain
+adds i p os = plainOf (p .table) (p .pending) (p .operations ++ map (from i) os) (p .given)
 
 -- an elementary gate that is part j of record i
 unfoldable pub performAs : ℕ → ℕ → ℕ → Elementary → Plain → Plain
 performAs n i j (clifford g) p = plainOf (step n g (p .table)) (p .pending ++ placed i j g ∷ []) (p .operations) (p .given)
-performAs n i j (elT q) p = adds p (rotateBy 1 (zRow n (p .table) q) ∷ [])
-performAs n i j (elTdg q) p = adds p (rotateBy 7 (zRow n (p .table) q) ∷ [])
-performAs n i j (elCcx a b d) p = adds p (rotateSeven (zRow n (p .table) a) (zRow n (p .table) b) (xRow n (p .table) d))
-performAs n i j (elCcz a b d) p = adds p (rotateSeven (zRow n (p .table) a) (zRow n (p .table) b) (zRow n (p .table) d))
+performAs n i j (elT q) p = adds i p (rotateBy 1 (zRow n (p .table) q) ∷ [])
+performAs n i j (elTdg q) p = adds i p (rotateBy 7 (zRow n (p .table) q) ∷ [])
+performAs n i j (elCcx a b d) p = adds i p (rotateSeven (zRow n (p .table) a) (zRow n (p .table) b) (xRow n (p .table) d))
+performAs n i j (elCcz a b d) p = adds i p (rotateSeven (zRow n (p .table) a) (zRow n (p .table) b) (zRow n (p .table) d))
 performAs n i j (elMeasure q k) p =
-    plainOf (p .table) (p .pending) (p .operations ++ measureOf (zRow n (p .table) q) (p .given) (Bit k) ∷ []) (suc (p .given))
+    plainOf (p .table) (p .pending) (p .operations ++ from i (measureOf (zRow n (p .table) q) (p .given) (Bit k)) ∷ []) (suc (p .given))
 
 abbrev pub perform : ℕ → Placed Elementary → Plain → Plain
 perform n e p = performAs n (e .index) (e .part) (e .gate) p
 
-unfoldable pub plainStep : (ℕ → List Gate → List Rotation) → ℕ → Cap → Placed Elementary → Plain → Plain
+unfoldable pub plainStep : Flush → ℕ → Cap → Placed Elementary → Plain → Plain
 plainStep flush n cap e p = perform n e (cond (exceeds n cap (p .table) (e .gate)) (flushed flush n p) p)
 
-unfoldable pub plainRun : (ℕ → List Gate → List Rotation) → ℕ → Cap → List (Placed Elementary) → Plain → Plain
+unfoldable pub plainRun : Flush → ℕ → Cap → List (Placed Elementary) → Plain → Plain
 plainRun flush n cap [] p = p
 plainRun flush n cap (e ∷ es) p = plainRun flush n cap es (plainStep flush n cap e p)
 

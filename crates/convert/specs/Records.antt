@@ -109,8 +109,8 @@ pub record Placed (A : Type 0) : Type 0 where
 abbrev pub placed : {A : Type 0} → ℕ → ℕ → A → Placed A
 placed i j g = record { gate = g; index = i; part = j }
 
--- the elementary gates of record i, from part j on
-abbrev pub placedFrom : ℕ → ℕ → List Elementary → List (Placed Elementary)
+-- the gates of record i, from part j on
+abbrev pub placedFrom : {A : Type 0} → ℕ → ℕ → List A → List (Placed A)
 placedFrom i j [] = []
 placedFrom i j (e ∷ es) = placed i j e ∷ placedFrom i (suc j) es
 
@@ -125,6 +125,22 @@ lowerAll rs = lowerFrom 0 rs
 -- the gates without their places
 abbrev pub bare : {A : Type 0} → List (Placed A) → List A
 bare gs = map (λ g. g .gate) gs
+
+-- what came of a gate record, with the record's index
+pub record From (A : Type 0) : Type 0 where
+  pub what : A
+  pub index : ℕ
+
+abbrev pub from : {A : Type 0} → ℕ → A → From A
+from i a = record { what = a; index = i }
+
+-- another thing of the same record
+abbrev pub mapFrom : {A B : Type 0} → (A → B) → From A → From B
+mapFrom f x = from (x .index) (f (x .what))
+
+-- the things without their records
+abbrev pub withoutIndex : {A : Type 0} → List (From A) → List A
+withoutIndex xs = map (λ x. x .what) xs
 
 -- ---- what the checks of a conversion leave
 

@@ -10,7 +10,7 @@ use Rattle.pauli.specs.Rows.{Row, identity, weight}
 use Rattle.pauli.specs.Gates.{Gate, back}
 use Rattle.pauli.specs.Table.{start, run, productOver}
 use Rattle.arena.specs.Nodes.{image}
-use Rattle.convert.specs.Records.{Cap, NoCap, AtMost, bare}
+use Rattle.convert.specs.Records.{Cap, NoCap, AtMost, bare, mapFrom, withoutIndex}
 use Rattle.convert.specs.Plain.{Operation, rotateBy, measureOf, conditionalBy, malformed, Plain}
 use Rattle.convert.specs.Paper.{AllHermitian}
 use Rattle.convert.specs.Frame.{word}
@@ -28,7 +28,7 @@ pub record Frame (n : ℕ) (gs : List Gate) (t : List Row) : Type 0 where
 -- Means: the words w of a conversion stand for its plain state p
 pub record Means (n owner cbits : ℕ) (p : Plain) (w : Words) : Type 0 where
   pub places : (j : ℕ) → j < n + n → image n (w .arena .count) (w .arena .nodes) (word (w .arena) j) ≡ getD (p .table) j (identity n)
-  pub operations : map (λ o. meaning n (w .arena .count) (w .arena .nodes) (decoded owner cbits o)) (w .ops) ≡ p .operations
+  pub operations : map (λ o. mapFrom (meaning n (w .arena .count) (w .arena .nodes)) (decoded owner cbits o)) (w .ops) ≡ p .operations
   pub frame : Frame n (bare (p .pending)) (p .table)
 
 -- the images of the 2n frame words, read through the used nodes
@@ -50,13 +50,13 @@ abbrev pub Capped : Cap → List Operation → Type 0
 Capped NoCap os = Unit {0}
 Capped (AtMost cap) os = AllWithin cap os
 
--- an accepted conversion: its operation words, read through its node words, are the operations of the papers
+-- an accepted conversion: its operation words, read through its node words, are the operations of the papers, each with its gate record
 pub record Converts (x : Input) : Type 0 where
   pub operations : operationsIn (convertedHeader x) (convertStep x .nodes) (convertStep x .operations) ≡ paperEnd x .operations
-  pub hermitian : AllHermitian (paperEnd x .operations)
-  pub capped : Capped (x .cap) (paperEnd x .operations)
+  pub hermitian : AllHermitian (withoutIndex (paperEnd x .operations))
+  pub capped : Capped (x .cap) (withoutIndex (paperEnd x .operations))
   pub measurements : convertedHeader x .measurements ≡ paperEnd x .given
-  pub frame : Frame (x .qubits) (paperEnd x .since) (frameImages (converted x))
+  pub frame : Frame (x .qubits) (bare (paperEnd x .since)) (frameImages (converted x))
 
 -- the plain table after a conversion and later calls, and the frame gates since the last flush
 unfoldable pub endTable : Input → List LaterCall → List Row

@@ -14,9 +14,10 @@ ghost use lib.Seq.{sets};
 ghost use Rattle.pauli.specs.Gates.{gateH, gateX, gateZ, gateS, gateSdg, gateCnot, gateCz};
 ghost use Rattle.arena.specs.Limits.{maxQubits, maxNodes, maxOperations, nodeWords, operationWords};
 ghost use Rattle.arena.specs.Operations.{rotateWords};
-ghost use Rattle.convert.specs.Records.{TwoQubits, hasShape};
+ghost use Rattle.convert.specs.Records.{TwoQubits, hasShape, from};
+ghost use Rattle.convert.specs.Conversion.{maxGateWords};
 ghost use Rattle.convert.specs.Words.{idX, idZ};
-ghost use Rattle.convert.specs.Code.Raw.{maxWord, writing, putJoint, FlushReady, Flushed, recordGates, gatesOver};
+ghost use Rattle.convert.specs.Code.Raw.{maxWord, writing, putJoint, FlushReady, Flushed, recordGates, recordFrom, gatesOver};
 
 /// The nodes and operations used.
 pub struct Used {
@@ -30,12 +31,18 @@ pub(crate) fn made(nodes: u32, operations: u32) -> Used
     Used { nodes, operations }
 }
 
-// A rotation by so many eighths; the count of operations after it.
-pub(crate) fn put_rotation(operations: &mut [u32], index: u32, axis: u32, angle: u32) -> u32
+// A rotation by so many eighths, of a gate record; the count of operations after it.
+pub(crate) fn put_rotation(
+    operations: &mut [u32],
+    index: u32,
+    axis: u32,
+    angle: u32,
+    gate: u32,
+) -> u32
     requires { ⌜ (index < maxOperations) × (operationWords * index + operationWords ≤ length (now operations)) × (angle < 8) ⌝ }
-    ensures { λ r. ⌜ (r ≡ index + 1) × (now (operations .exit) ≡ sets (now (operations .entry)) (operationWords * index) (rotateWords axis angle)) ⌝ }
+    ensures { λ r. ⌜ (r ≡ index + 1) × (now (operations .exit) ≡ sets (now (operations .entry)) (operationWords * index) (rotateWords axis angle gate)) ⌝ }
 {
-    put_operation(operations, index, 4 * angle, axis, 0, 0);
+    put_operation(operations, index, 4 * angle, axis, 0, 0, gate);
     index + 1
 }
 
@@ -56,147 +63,207 @@ fn id_z(q: usize) -> u32
 }
 
 // Two words and their product, turned about by 2, 2 and -2.
-fn put_joint(w: Used, nodes: &mut [u32], operations: &mut [u32], left: u32, right: u32) -> Used
+fn put_joint(
+    w: Used,
+    nodes: &mut [u32],
+    operations: &mut [u32],
+    left: u32,
+    right: u32,
+    gate: u32,
+) -> Used
     requires { ⌜ (w .nodes < maxNodes) × (nodeWords * w .nodes + nodeWords ≤ length (now nodes))
         × (w .operations + 3 ≤ maxOperations) × (operationWords * (w .operations + 3) ≤ length (now operations)) × (left < maxWord) ⌝ }
     ensures { λ r. ⌜ writing (r .nodes) (now (nodes .exit)) (r .operations) (now (operations .exit))
-        ≡ putJoint left right (writing (w .nodes) (now (nodes .entry)) (w .operations) (now (operations .entry))) ⌝ }
+        ≡ putJoint gate left right (writing (w .nodes) (now (nodes .entry)) (w .operations) (now (operations .entry))) ⌝ }
 {
     let joint = 4 * w.nodes;
     let count = push(w.nodes, nodes, left, right);
-    let first = put_rotation(operations, w.operations, left, 2);
-    let second = put_rotation(operations, first, right, 2);
-    made(count, put_rotation(operations, second, joint, 6))
+    let first = put_rotation(operations, w.operations, left, 2, gate);
+    let second = put_rotation(operations, first, right, 2, gate);
+    made(count, put_rotation(operations, second, joint, 6, gate))
 }
 
 // ---- one gate: h as z 2, x 2, z 2; x as x 4; z as z 4; s as z 2; sdg as z -2; cnot and cz with their joint node
 
-fn flush_h(w: Used, nodes: &mut [u32], operations: &mut [u32], n: usize, q: usize) -> Used
-    requires { ⌜ FlushReady n (gateH q ∷ []) (w .nodes) (now nodes) (w .operations) (now operations) ⌝ }
-    ensures { λ r. ⌜ Flushed (gateH q ∷ []) (w .nodes) (now (nodes .entry)) (w .operations) (now (operations .entry))
+fn flush_h(
+    w: Used,
+    nodes: &mut [u32],
+    operations: &mut [u32],
+    gate: u32,
+    n: usize,
+    q: usize,
+) -> Used
+    requires { ⌜ FlushReady n (from gate (gateH q) ∷ []) (w .nodes) (now nodes) (w .operations) (now operations) ⌝ }
+    ensures { λ r. ⌜ Flushed (from gate (gateH q) ∷ []) (w .nodes) (now (nodes .entry)) (w .operations) (now (operations .entry))
         (r .nodes) (now (nodes .exit)) (r .operations) (now (operations .exit)) ⌝ }
 {
     let z = id_z(q);
-    let first = put_rotation(operations, w.operations, z, 2);
-    let second = put_rotation(operations, first, id_x(q), 2);
-    made(w.nodes, put_rotation(operations, second, z, 2))
+    let first = put_rotation(operations, w.operations, z, 2, gate);
+    let second = put_rotation(operations, first, id_x(q), 2, gate);
+    made(w.nodes, put_rotation(operations, second, z, 2, gate))
 }
 
-fn flush_x(w: Used, nodes: &mut [u32], operations: &mut [u32], n: usize, q: usize) -> Used
-    requires { ⌜ FlushReady n (gateX q ∷ []) (w .nodes) (now nodes) (w .operations) (now operations) ⌝ }
-    ensures { λ r. ⌜ Flushed (gateX q ∷ []) (w .nodes) (now (nodes .entry)) (w .operations) (now (operations .entry))
+fn flush_x(
+    w: Used,
+    nodes: &mut [u32],
+    operations: &mut [u32],
+    gate: u32,
+    n: usize,
+    q: usize,
+) -> Used
+    requires { ⌜ FlushReady n (from gate (gateX q) ∷ []) (w .nodes) (now nodes) (w .operations) (now operations) ⌝ }
+    ensures { λ r. ⌜ Flushed (from gate (gateX q) ∷ []) (w .nodes) (now (nodes .entry)) (w .operations) (now (operations .entry))
         (r .nodes) (now (nodes .exit)) (r .operations) (now (operations .exit)) ⌝ }
 {
-    made(w.nodes, put_rotation(operations, w.operations, id_x(q), 4))
+    made(w.nodes, put_rotation(operations, w.operations, id_x(q), 4, gate))
 }
 
-fn flush_z(w: Used, nodes: &mut [u32], operations: &mut [u32], n: usize, q: usize) -> Used
-    requires { ⌜ FlushReady n (gateZ q ∷ []) (w .nodes) (now nodes) (w .operations) (now operations) ⌝ }
-    ensures { λ r. ⌜ Flushed (gateZ q ∷ []) (w .nodes) (now (nodes .entry)) (w .operations) (now (operations .entry))
+fn flush_z(
+    w: Used,
+    nodes: &mut [u32],
+    operations: &mut [u32],
+    gate: u32,
+    n: usize,
+    q: usize,
+) -> Used
+    requires { ⌜ FlushReady n (from gate (gateZ q) ∷ []) (w .nodes) (now nodes) (w .operations) (now operations) ⌝ }
+    ensures { λ r. ⌜ Flushed (from gate (gateZ q) ∷ []) (w .nodes) (now (nodes .entry)) (w .operations) (now (operations .entry))
         (r .nodes) (now (nodes .exit)) (r .operations) (now (operations .exit)) ⌝ }
 {
-    made(w.nodes, put_rotation(operations, w.operations, id_z(q), 4))
+    made(w.nodes, put_rotation(operations, w.operations, id_z(q), 4, gate))
 }
 
-fn flush_s(w: Used, nodes: &mut [u32], operations: &mut [u32], n: usize, q: usize) -> Used
-    requires { ⌜ FlushReady n (gateS q ∷ []) (w .nodes) (now nodes) (w .operations) (now operations) ⌝ }
-    ensures { λ r. ⌜ Flushed (gateS q ∷ []) (w .nodes) (now (nodes .entry)) (w .operations) (now (operations .entry))
+fn flush_s(
+    w: Used,
+    nodes: &mut [u32],
+    operations: &mut [u32],
+    gate: u32,
+    n: usize,
+    q: usize,
+) -> Used
+    requires { ⌜ FlushReady n (from gate (gateS q) ∷ []) (w .nodes) (now nodes) (w .operations) (now operations) ⌝ }
+    ensures { λ r. ⌜ Flushed (from gate (gateS q) ∷ []) (w .nodes) (now (nodes .entry)) (w .operations) (now (operations .entry))
         (r .nodes) (now (nodes .exit)) (r .operations) (now (operations .exit)) ⌝ }
 {
-    made(w.nodes, put_rotation(operations, w.operations, id_z(q), 2))
+    made(w.nodes, put_rotation(operations, w.operations, id_z(q), 2, gate))
 }
 
-fn flush_sdg(w: Used, nodes: &mut [u32], operations: &mut [u32], n: usize, q: usize) -> Used
-    requires { ⌜ FlushReady n (gateSdg q ∷ []) (w .nodes) (now nodes) (w .operations) (now operations) ⌝ }
-    ensures { λ r. ⌜ Flushed (gateSdg q ∷ []) (w .nodes) (now (nodes .entry)) (w .operations) (now (operations .entry))
+fn flush_sdg(
+    w: Used,
+    nodes: &mut [u32],
+    operations: &mut [u32],
+    gate: u32,
+    n: usize,
+    q: usize,
+) -> Used
+    requires { ⌜ FlushReady n (from gate (gateSdg q) ∷ []) (w .nodes) (now nodes) (w .operations) (now operations) ⌝ }
+    ensures { λ r. ⌜ Flushed (from gate (gateSdg q) ∷ []) (w .nodes) (now (nodes .entry)) (w .operations) (now (operations .entry))
         (r .nodes) (now (nodes .exit)) (r .operations) (now (operations .exit)) ⌝ }
 {
-    made(w.nodes, put_rotation(operations, w.operations, id_z(q), 6))
+    made(w.nodes, put_rotation(operations, w.operations, id_z(q), 6, gate))
 }
 
 fn flush_cnot(
     w: Used,
     nodes: &mut [u32],
     operations: &mut [u32],
+    gate: u32,
     n: usize,
     c: usize,
     t: usize,
 ) -> Used
-    requires { ⌜ FlushReady n (gateCnot c t ∷ []) (w .nodes) (now nodes) (w .operations) (now operations) ⌝ }
-    ensures { λ r. ⌜ Flushed (gateCnot c t ∷ []) (w .nodes) (now (nodes .entry)) (w .operations) (now (operations .entry))
+    requires { ⌜ FlushReady n (from gate (gateCnot c t) ∷ []) (w .nodes) (now nodes) (w .operations) (now operations) ⌝ }
+    ensures { λ r. ⌜ Flushed (from gate (gateCnot c t) ∷ []) (w .nodes) (now (nodes .entry)) (w .operations) (now (operations .entry))
         (r .nodes) (now (nodes .exit)) (r .operations) (now (operations .exit)) ⌝ }
 {
-    put_joint(w, nodes, operations, id_z(c), id_x(t))
+    put_joint(w, nodes, operations, id_z(c), id_x(t), gate)
 }
 
 fn flush_cz(
     w: Used,
     nodes: &mut [u32],
     operations: &mut [u32],
+    gate: u32,
     n: usize,
     c: usize,
     t: usize,
 ) -> Used
-    requires { ⌜ FlushReady n (gateCz c t ∷ []) (w .nodes) (now nodes) (w .operations) (now operations) ⌝ }
-    ensures { λ r. ⌜ Flushed (gateCz c t ∷ []) (w .nodes) (now (nodes .entry)) (w .operations) (now (operations .entry))
+    requires { ⌜ FlushReady n (from gate (gateCz c t) ∷ []) (w .nodes) (now nodes) (w .operations) (now operations) ⌝ }
+    ensures { λ r. ⌜ Flushed (from gate (gateCz c t) ∷ []) (w .nodes) (now (nodes .entry)) (w .operations) (now (operations .entry))
         (r .nodes) (now (nodes .exit)) (r .operations) (now (operations .exit)) ⌝ }
 {
-    put_joint(w, nodes, operations, id_z(c), id_z(t))
+    put_joint(w, nodes, operations, id_z(c), id_z(t), gate)
 }
 
 // ---- a record that stands for several gates, as specs/Records lowers it
 
-fn flush_y(w: Used, nodes: &mut [u32], operations: &mut [u32], n: usize, q: usize) -> Used
-    requires { ⌜ FlushReady n (gateZ q ∷ gateX q ∷ []) (w .nodes) (now nodes) (w .operations) (now operations) ⌝ }
-    ensures { λ r. ⌜ Flushed (gateZ q ∷ gateX q ∷ []) (w .nodes) (now (nodes .entry)) (w .operations) (now (operations .entry))
+fn flush_y(
+    w: Used,
+    nodes: &mut [u32],
+    operations: &mut [u32],
+    gate: u32,
+    n: usize,
+    q: usize,
+) -> Used
+    requires { ⌜ FlushReady n (from gate (gateZ q) ∷ from gate (gateX q) ∷ []) (w .nodes) (now nodes) (w .operations) (now operations) ⌝ }
+    ensures { λ r. ⌜ Flushed (from gate (gateZ q) ∷ from gate (gateX q) ∷ []) (w .nodes) (now (nodes .entry)) (w .operations) (now (operations .entry))
         (r .nodes) (now (nodes .exit)) (r .operations) (now (operations .exit)) ⌝ }
 {
-    let w1 = flush_z(w, nodes, operations, n, q);
-    flush_x(w1, nodes, operations, n, q)
+    let w1 = flush_z(w, nodes, operations, gate, n, q);
+    flush_x(w1, nodes, operations, gate, n, q)
 }
 
-fn flush_sx(w: Used, nodes: &mut [u32], operations: &mut [u32], n: usize, q: usize) -> Used
-    requires { ⌜ FlushReady n (gateH q ∷ gateS q ∷ gateH q ∷ []) (w .nodes) (now nodes) (w .operations) (now operations) ⌝ }
-    ensures { λ r. ⌜ Flushed (gateH q ∷ gateS q ∷ gateH q ∷ []) (w .nodes) (now (nodes .entry)) (w .operations) (now (operations .entry))
+fn flush_sx(
+    w: Used,
+    nodes: &mut [u32],
+    operations: &mut [u32],
+    gate: u32,
+    n: usize,
+    q: usize,
+) -> Used
+    requires { ⌜ FlushReady n (from gate (gateH q) ∷ from gate (gateS q) ∷ from gate (gateH q) ∷ []) (w .nodes) (now nodes) (w .operations) (now operations) ⌝ }
+    ensures { λ r. ⌜ Flushed (from gate (gateH q) ∷ from gate (gateS q) ∷ from gate (gateH q) ∷ []) (w .nodes) (now (nodes .entry)) (w .operations) (now (operations .entry))
         (r .nodes) (now (nodes .exit)) (r .operations) (now (operations .exit)) ⌝ }
 {
-    let w1 = flush_h(w, nodes, operations, n, q);
-    let w2 = flush_s(w1, nodes, operations, n, q);
-    flush_h(w2, nodes, operations, n, q)
+    let w1 = flush_h(w, nodes, operations, gate, n, q);
+    let w2 = flush_s(w1, nodes, operations, gate, n, q);
+    flush_h(w2, nodes, operations, gate, n, q)
 }
 
 fn flush_swap(
     w: Used,
     nodes: &mut [u32],
     operations: &mut [u32],
+    gate: u32,
     n: usize,
     c: usize,
     t: usize,
 ) -> Used
-    requires { ⌜ FlushReady n (gateCnot c t ∷ gateCnot t c ∷ gateCnot c t ∷ []) (w .nodes) (now nodes) (w .operations) (now operations) ⌝ }
-    ensures { λ r. ⌜ Flushed (gateCnot c t ∷ gateCnot t c ∷ gateCnot c t ∷ []) (w .nodes) (now (nodes .entry)) (w .operations) (now (operations .entry))
+    requires { ⌜ FlushReady n (from gate (gateCnot c t) ∷ from gate (gateCnot t c) ∷ from gate (gateCnot c t) ∷ []) (w .nodes) (now nodes) (w .operations) (now operations) ⌝ }
+    ensures { λ r. ⌜ Flushed (from gate (gateCnot c t) ∷ from gate (gateCnot t c) ∷ from gate (gateCnot c t) ∷ []) (w .nodes) (now (nodes .entry)) (w .operations) (now (operations .entry))
         (r .nodes) (now (nodes .exit)) (r .operations) (now (operations .exit)) ⌝ }
 {
-    let w1 = flush_cnot(w, nodes, operations, n, c, t);
-    let w2 = flush_cnot(w1, nodes, operations, n, t, c);
-    flush_cnot(w2, nodes, operations, n, c, t)
+    let w1 = flush_cnot(w, nodes, operations, gate, n, c, t);
+    let w2 = flush_cnot(w1, nodes, operations, gate, n, t, c);
+    flush_cnot(w2, nodes, operations, gate, n, c, t)
 }
 
 fn flush_cy(
     w: Used,
     nodes: &mut [u32],
     operations: &mut [u32],
+    gate: u32,
     n: usize,
     c: usize,
     t: usize,
 ) -> Used
-    requires { ⌜ FlushReady n (gateSdg t ∷ gateCnot c t ∷ gateS t ∷ []) (w .nodes) (now nodes) (w .operations) (now operations) ⌝ }
-    ensures { λ r. ⌜ Flushed (gateSdg t ∷ gateCnot c t ∷ gateS t ∷ []) (w .nodes) (now (nodes .entry)) (w .operations) (now (operations .entry))
+    requires { ⌜ FlushReady n (from gate (gateSdg t) ∷ from gate (gateCnot c t) ∷ from gate (gateS t) ∷ []) (w .nodes) (now nodes) (w .operations) (now operations) ⌝ }
+    ensures { λ r. ⌜ Flushed (from gate (gateSdg t) ∷ from gate (gateCnot c t) ∷ from gate (gateS t) ∷ []) (w .nodes) (now (nodes .entry)) (w .operations) (now (operations .entry))
         (r .nodes) (now (nodes .exit)) (r .operations) (now (operations .exit)) ⌝ }
 {
-    let w1 = flush_sdg(w, nodes, operations, n, t);
-    let w2 = flush_cnot(w1, nodes, operations, n, c, t);
-    flush_s(w2, nodes, operations, n, t)
+    let w1 = flush_sdg(w, nodes, operations, gate, n, t);
+    let w2 = flush_cnot(w1, nodes, operations, gate, n, c, t);
+    flush_s(w2, nodes, operations, gate, n, t)
 }
 
 // Those of a kind that has two qubits, or no frame gate.
@@ -204,21 +271,22 @@ fn flush_pair(
     w: Used,
     nodes: &mut [u32],
     operations: &mut [u32],
+    gate: u32,
     n: usize,
     kind: GateKind,
     a: usize,
     b: usize,
 ) -> Used
-    requires { ⌜ FlushReady n (recordGates kind a b) (w .nodes) (now nodes) (w .operations) (now operations) ⌝ }
+    requires { ⌜ FlushReady n (recordFrom gate kind a b) (w .nodes) (now nodes) (w .operations) (now operations) ⌝ }
     requires { ⌜ (hasShape kind TwoQubits ≡ false → recordGates kind a b ≡ []) ⌝ }
-    ensures { λ r. ⌜ Flushed (recordGates kind a b) (w .nodes) (now (nodes .entry)) (w .operations) (now (operations .entry))
+    ensures { λ r. ⌜ Flushed (recordFrom gate kind a b) (w .nodes) (now (nodes .entry)) (w .operations) (now (operations .entry))
         (r .nodes) (now (nodes .exit)) (r .operations) (now (operations .exit)) ⌝ }
 {
     match kind {
-        GateKind::Cnot => flush_cnot(w, nodes, operations, n, a, b),
-        GateKind::Cz => flush_cz(w, nodes, operations, n, a, b),
-        GateKind::Swap => flush_swap(w, nodes, operations, n, a, b),
-        GateKind::Cy => flush_cy(w, nodes, operations, n, a, b),
+        GateKind::Cnot => flush_cnot(w, nodes, operations, gate, n, a, b),
+        GateKind::Cz => flush_cz(w, nodes, operations, gate, n, a, b),
+        GateKind::Swap => flush_swap(w, nodes, operations, gate, n, a, b),
+        GateKind::Cy => flush_cy(w, nodes, operations, gate, n, a, b),
         _ => w,
     }
 }
@@ -228,24 +296,25 @@ fn flush_record(
     w: Used,
     nodes: &mut [u32],
     operations: &mut [u32],
+    gate: u32,
     n: usize,
     kind: GateKind,
     a: usize,
     b: usize,
 ) -> Used
-    requires { ⌜ FlushReady n (recordGates kind a b) (w .nodes) (now nodes) (w .operations) (now operations) ⌝ }
-    ensures { λ r. ⌜ Flushed (recordGates kind a b) (w .nodes) (now (nodes .entry)) (w .operations) (now (operations .entry))
+    requires { ⌜ FlushReady n (recordFrom gate kind a b) (w .nodes) (now nodes) (w .operations) (now operations) ⌝ }
+    ensures { λ r. ⌜ Flushed (recordFrom gate kind a b) (w .nodes) (now (nodes .entry)) (w .operations) (now (operations .entry))
         (r .nodes) (now (nodes .exit)) (r .operations) (now (operations .exit)) ⌝ }
 {
     match kind {
-        GateKind::H => flush_h(w, nodes, operations, n, a),
-        GateKind::X => flush_x(w, nodes, operations, n, a),
-        GateKind::Z => flush_z(w, nodes, operations, n, a),
-        GateKind::S => flush_s(w, nodes, operations, n, a),
-        GateKind::Sdg => flush_sdg(w, nodes, operations, n, a),
-        GateKind::Y => flush_y(w, nodes, operations, n, a),
-        GateKind::Sx => flush_sx(w, nodes, operations, n, a),
-        _ => flush_pair(w, nodes, operations, n, kind, a, b),
+        GateKind::H => flush_h(w, nodes, operations, gate, n, a),
+        GateKind::X => flush_x(w, nodes, operations, gate, n, a),
+        GateKind::Z => flush_z(w, nodes, operations, gate, n, a),
+        GateKind::S => flush_s(w, nodes, operations, gate, n, a),
+        GateKind::Sdg => flush_sdg(w, nodes, operations, gate, n, a),
+        GateKind::Y => flush_y(w, nodes, operations, gate, n, a),
+        GateKind::Sx => flush_sx(w, nodes, operations, gate, n, a),
+        _ => flush_pair(w, nodes, operations, gate, n, kind, a, b),
     }
 }
 
@@ -260,7 +329,7 @@ pub(crate) fn flush_records(
     count: usize,
 ) -> Used
     requires { ⌜ FlushReady n (gatesOver (now gates) from count) (w0 .nodes) (now nodes) (w0 .operations) (now operations) ⌝ }
-    requires { ⌜ from + count ≤ length (now gates) / 4 ⌝ }
+    requires { ⌜ (from + count ≤ length (now gates) / 4) × (length (now gates) ≤ maxGateWords) ⌝ }
     ensures { λ r. ⌜ Flushed (gatesOver (now (gates .entry)) from count) (w0 .nodes) (now (nodes .entry)) (w0 .operations) (now (operations .entry))
         (r .nodes) (now (nodes .exit)) (r .operations) (now (operations .exit)) ⌝ }
 {
@@ -270,7 +339,8 @@ pub(crate) fn flush_records(
         let kind = kind_at(gates, from + k);
         let a = operand_at(gates, from + k, 1);
         let b = operand_at(gates, from + k, 2);
-        w = flush_record(w, nodes, operations, n, kind, a, b);
+        let gate = (from + k) as u32;
+        w = flush_record(w, nodes, operations, gate, n, kind, a, b);
         k += 1;
     }
     w

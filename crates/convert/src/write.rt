@@ -63,15 +63,23 @@ fn subset_word(subset: u32, a: u32, b: u32, d: u32, joint: u32) -> u32
 }
 
 // The rotations by the seven rows.
-fn put_rows(index: u32, operations: &mut [u32], a: u32, b: u32, d: u32, joint: u32) -> u32
+fn put_rows(
+    index: u32,
+    operations: &mut [u32],
+    a: u32,
+    b: u32,
+    d: u32,
+    joint: u32,
+    gate: u32,
+) -> u32
     requires { ⌜ (joint + 3 < maxNodes) × (index + 7 ≤ maxOperations) × (operationWords * (index + 7) ≤ length (now operations)) ⌝ }
-    ensures { λ r. ⌜ (r ≡ index + 7) × (putRows 7 a b d joint (writing 0 [] index (now (operations .entry))) ≡ writing 0 [] r (now (operations .exit))) ⌝ }
+    ensures { λ r. ⌜ (r ≡ index + 7) × (putRows gate 7 a b d joint (writing 0 [] index (now (operations .entry))) ≡ writing 0 [] r (now (operations .exit))) ⌝ }
 {
     let mut next = index;
     let mut row: usize = 0;
     while row < 7 {
         let axis = subset_word(row_subset(row), a, b, d, joint);
-        next = put_rotation(operations, next, axis, row_angle(row));
+        next = put_rotation(operations, next, axis, row_angle(row), gate);
         row += 1;
     }
     next
@@ -88,14 +96,22 @@ fn put_four(count: u32, nodes: &mut [u32], a: u32, b: u32, d: u32) -> u32
     push(third, nodes, 4 * count, d)
 }
 
-fn put_seven(w: Used, nodes: &mut [u32], operations: &mut [u32], a: u32, b: u32, d: u32) -> Used
+fn put_seven(
+    w: Used,
+    nodes: &mut [u32],
+    operations: &mut [u32],
+    a: u32,
+    b: u32,
+    d: u32,
+    gate: u32,
+) -> Used
     requires { ⌜ (w .nodes + 4 ≤ maxNodes) × (nodeWords * (w .nodes + 4) ≤ length (now nodes))
         × (w .operations + 7 ≤ maxOperations) × (operationWords * (w .operations + 7) ≤ length (now operations)) × (a < maxWord) × (b < maxWord) ⌝ }
     ensures { λ r. ⌜ writing (r .nodes) (now (nodes .exit)) (r .operations) (now (operations .exit))
-        ≡ putSeven a b d (writing (w .nodes) (now (nodes .entry)) (w .operations) (now (operations .entry))) ⌝ }
+        ≡ putSeven gate a b d (writing (w .nodes) (now (nodes .entry)) (w .operations) (now (operations .entry))) ⌝ }
 {
     let count = put_four(w.nodes, nodes, a, b, d);
-    let next = put_rows(w.operations, operations, a, b, d, w.nodes);
+    let next = put_rows(w.operations, operations, a, b, d, w.nodes, gate);
     made(count, next)
 }
 
@@ -145,13 +161,14 @@ fn last_place(kind: GateKind, n: usize, d: usize) -> usize
     d
 }
 
-// What a record writes that is no frame gate.
+// What a record, of this index, writes that is no frame gate.
 fn write_record(
     w: Used,
     given: u32,
     nodes: &mut [u32],
     operations: &mut [u32],
     frame: &[u32],
+    gate: u32,
     n: usize,
     kind: GateKind,
     a: usize,
@@ -160,7 +177,7 @@ fn write_record(
 ) -> Used
     requires { ⌜ RecordReady n given kind a b d (w .nodes) (now nodes) (w .operations) (now operations) (now frame) ⌝ }
     ensures { λ r. ⌜ writing (r .nodes) (now (nodes .exit)) (r .operations) (now (operations .exit))
-        ≡ putRecord n given kind a b d (now (frame .entry)) (writing (w .nodes) (now (nodes .entry)) (w .operations) (now (operations .entry))) ⌝ }
+        ≡ putRecord n given gate kind a b d (now (frame .entry)) (writing (w .nodes) (now (nodes .entry)) (w .operations) (now (operations .entry))) ⌝ }
 {
     match kind {
         GateKind::T | GateKind::Tdg | GateKind::Measure => {
@@ -171,6 +188,7 @@ fn write_record(
                 frame[n + a],
                 given_word(kind, given),
                 bit_word(kind, b),
+                gate,
             );
             made(w.nodes, w.operations + 1)
         }
@@ -181,6 +199,7 @@ fn write_record(
             frame[n + a],
             frame[n + b],
             frame[last_place(kind, n, d)],
+            gate,
         ),
         _ => w,
     }
@@ -199,7 +218,7 @@ fn flush_if(
     count: usize,
 ) -> Used
     requires { ⌜ (flushed ≡ true → FlushReady n (gatesOver (now gates) from count) (w .nodes) (now nodes) (w .operations) (now operations)) ⌝ }
-    requires { ⌜ (from + count ≤ length (now gates) / 4) × (n ≤ maxQubits) × (2 * n ≤ length (now frame)) ⌝ }
+    requires { ⌜ (from + count ≤ length (now gates) / 4) × (length (now gates) ≤ maxGateWords) × (n ≤ maxQubits) × (2 * n ≤ length (now frame)) ⌝ }
     ensures { λ r. ⌜ FlushedIf flushed n (gatesOver (now (gates .entry)) from count) (w .nodes) (now (nodes .entry)) (now (frame .entry)) (w .operations) (now (operations .entry))
         (r .nodes) (now (nodes .exit)) (now (frame .exit)) (r .operations) (now (operations .exit)) ⌝ }
 {
@@ -287,7 +306,8 @@ pub(crate) fn write_records(
         );
         let c = frame_record(w1.nodes, nodes, frame, n, kind, a, b);
         let w2 = made(c, w1.operations);
-        w = write_record(w2, given, nodes, operations, frame, n, kind, a, b, d);
+        let gate = i as u32;
+        w = write_record(w2, given, nodes, operations, frame, gate, n, kind, a, b, d);
         given = given + measures(kind);
         place = later(flushed, i, place);
         i += 1;

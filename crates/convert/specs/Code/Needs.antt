@@ -4,9 +4,8 @@ use mathlib.Core.List.{List, [], _∷_}
 use Prim.Native.Nat.{ℕ, _+_}
 use lib.ListN.{drop}
 use Rattle.pauli.specs.Gates.{Gate, gateH, gateX, gateZ, gateS, gateSdg, gateCnot, gateCz}
-use Rattle.pauli.specs.Rotations.{flush}
 use Rattle.convert.specs.Records.{Cap, Record, Elementary, clifford, elT, elTdg, elCcx, elCcz, elMeasure, Placed, placed, bare, lowerFrom}
-use Rattle.convert.specs.Plain.{Plain, exceeds, plainStep}
+use Rattle.convert.specs.Plain.{Plain, exceeds, flushFrom, plainStep}
 use Rattle.convert.specs.Frame.{gateNodes, total}
 
 -- ---- nodes and operations
@@ -58,7 +57,7 @@ needStep n cap e p k = record {
 
 unfoldable pub needRun : ℕ → Cap → List (Placed Elementary) → Plain → Needs → Needs
 needRun n cap [] p k = k
-needRun n cap (e ∷ es) p k = needRun n cap es (plainStep flush n cap e p) (needStep n cap e p k)
+needRun n cap (e ∷ es) p k = needRun n cap es (plainStep flushFrom n cap e p) (needStep n cap e p k)
 
 -- ---- the place of the last flush: a record, and how many of its elementary gates are past
 
@@ -74,7 +73,7 @@ placeStep n cap e p at = cond (exceeds n cap (p .table) (e .gate)) (placeOf e) a
 
 unfoldable pub placeRun : ℕ → Cap → List (Placed Elementary) → Plain → Place → Place
 placeRun n cap [] p at = at
-placeRun n cap (e ∷ es) p at = placeRun n cap es (plainStep flush n cap e p) (placeStep n cap e p at)
+placeRun n cap (e ∷ es) p at = placeRun n cap es (plainStep flushFrom n cap e p) (placeStep n cap e p at)
 
 -- the elementary gates of a list of records from a place on
 unfoldable pub gatesFrom : Place → List Record → List (Placed Elementary)

@@ -1,7 +1,7 @@
 -- What the code does to the lent words, where they lie; and the numbers by which it knows a kind.
 use mathlib.Core.Path.{_≡_}
 use mathlib.Core.Bool.{Bool, true, false, not, cond, _||_}
-use mathlib.Core.List.{List, [], _∷_, _++_}
+use mathlib.Core.List.{List, [], _∷_, _++_, map}
 use Prim.Native.Nat.{ℕ, zero, suc, _+_, _*_, _/_, _<_, _≤_}
 use lib.Dec.{eqb}
 use lib.Seq.{sets}
@@ -16,13 +16,12 @@ use Rattle.arena.specs.Operations.{rotateWords, measureWords}
 use Rattle.convert.specs.Words.{Words, startWords, wordRun, idX, idZ}
 use Rattle.convert.specs.Types.{One, PlusI, MinusOne, MinusI, Bit, PbcError, Checked, Fine, Wrong}
 use Rattle.convert.specs.Records.{GateKind, KindH, KindX, KindZ, KindS, KindSdg, KindT, KindTdg, KindCnot, KindCz, KindCcx, KindCcz, KindMeasure, KindY, KindSx, KindSwap, KindCy, Unsupported}
-use Rattle.convert.specs.Records.{Cap, NoCap, AtMost, Elementary, clifford, elT, elTdg, elCcx, elCcz, elMeasure, bare, lowerAs, Record, records, kindOf, AllProper, lowerAll}
+use Rattle.convert.specs.Records.{Cap, NoCap, AtMost, Elementary, clifford, elT, elTdg, elCcx, elCcz, elMeasure, bare, From, from, withoutIndex, lowerAs, Record, records, kindOf, AllProper, lowerAll}
 use Rattle.pauli.specs.Letters.{phaseNumber}
 use Rattle.pauli.specs.Rows.{Row, tally}
 use Rattle.pauli.specs.Doubly.{Term, term, sevenRows}
 use Rattle.pauli.specs.Table.{start, run}
-use Rattle.pauli.specs.Rotations.{flush}
-use Rattle.convert.specs.Plain.{Plain, plainBegin, exceeds, plainRun}
+use Rattle.convert.specs.Plain.{Plain, plainBegin, exceeds, flushFrom, plainRun}
 use Rattle.convert.specs.Code.Needs.{Needs, elementNodes, elementOps, writtenNodes, writtenOps, needRun}
 use Rattle.convert.specs.Planes.{packed}
 use Rattle.convert.specs.Code.RawPlanes.{Wide, planeReset}
@@ -205,42 +204,52 @@ putOp vs s = writing (s .count) (s .nodes) (s .used + 1) (sets (s .operations) (
 abbrev pub putNode : ℕ → ℕ → Writing → Writing
 putNode l r s = writing (s .count + 1) (set (set (s .nodes) (nodeWords * s .count) (productWord l)) (nodeWords * s .count + 1) r) (s .used) (s .operations)
 
-unfoldable pub putJoint : ℕ → ℕ → Writing → Writing
-putJoint l r s = putOp (rotateWords (4 * s .count) 6) (putOp (rotateWords r 2) (putOp (rotateWords l 2) (putNode l r s)))
+unfoldable pub putJoint : ℕ → ℕ → ℕ → Writing → Writing
+putJoint i l r s = putOp (rotateWords (4 * s .count) 6 i) (putOp (rotateWords r 2 i) (putOp (rotateWords l 2 i) (putNode l r s)))
 
 -- as flushGate, in the buffers
-unfoldable pub putFlush : Gate → Writing → Writing
-putFlush (gateH q) s = putOp (rotateWords (idZ q) 2) (putOp (rotateWords (idX q) 2) (putOp (rotateWords (idZ q) 2) s))
-putFlush (gateX q) s = putOp (rotateWords (idX q) 4) s
-putFlush (gateZ q) s = putOp (rotateWords (idZ q) 4) s
-putFlush (gateS q) s = putOp (rotateWords (idZ q) 2) s
-putFlush (gateSdg q) s = putOp (rotateWords (idZ q) 6) s
-putFlush (gateCnot c t) s = putJoint (idZ c) (idX t) s
-putFlush (gateCz c t) s = putJoint (idZ c) (idZ t) s
+unfoldable pub putFlush : ℕ → Gate → Writing → Writing
+putFlush i (gateH q) s = putOp (rotateWords (idZ q) 2 i) (putOp (rotateWords (idX q) 2 i) (putOp (rotateWords (idZ q) 2 i) s))
+putFlush i (gateX q) s = putOp (rotateWords (idX q) 4 i) s
+putFlush i (gateZ q) s = putOp (rotateWords (idZ q) 4 i) s
+putFlush i (gateS q) s = putOp (rotateWords (idZ q) 2 i) s
+putFlush i (gateSdg q) s = putOp (rotateWords (idZ q) 6 i) s
+putFlush i (gateCnot c t) s = putJoint i (idZ c) (idX t) s
+putFlush i (gateCz c t) s = putJoint i (idZ c) (idZ t) s
 
-unfoldable pub putFlushes : List Gate → Writing → Writing
+unfoldable pub putFlushes : List (From Gate) → Writing → Writing
 putFlushes [] s = s
-putFlushes (g ∷ gs) s = putFlushes gs (putFlush g s)
+putFlushes (g ∷ gs) s = putFlushes gs (putFlush (g .index) (g .what) s)
+
+-- what gates that are flushed write in all
+abbrev pub flushedNodes : List (From Gate) → ℕ
+flushedNodes gs = total writtenNodes (withoutIndex gs)
+
+abbrev pub flushedOps : List (From Gate) → ℕ
+flushedOps gs = total writtenOps (withoutIndex gs)
 
 -- what a flush of gates asks of the buffers
-pub record FlushReady (n : ℕ) (gs : List Gate) (c : ℕ) (ns : List ℕ) (u : ℕ) (os : List ℕ) : Type 0 where
-  pub valid : AllValid n gs
+pub record FlushReady (n : ℕ) (gs : List (From Gate)) (c : ℕ) (ns : List ℕ) (u : ℕ) (os : List ℕ) : Type 0 where
+  pub valid : AllValid n (withoutIndex gs)
   pub qubits : n ≤ maxQubits
-  pub few : c + total writtenNodes gs ≤ maxNodes
-  pub room : nodeWords * (c + total writtenNodes gs) ≤ length ns
-  pub fewer : u + total writtenOps gs ≤ maxOperations
-  pub place : operationWords * (u + total writtenOps gs) ≤ length os
+  pub few : c + flushedNodes gs ≤ maxNodes
+  pub room : nodeWords * (c + flushedNodes gs) ≤ length ns
+  pub fewer : u + flushedOps gs ≤ maxOperations
+  pub place : operationWords * (u + flushedOps gs) ≤ length os
 
 -- what it makes of them
-pub record Flushed (gs : List Gate) (c : ℕ) (ns : List ℕ) (u : ℕ) (os : List ℕ) (c′ : ℕ) (ns′ : List ℕ) (u′ : ℕ) (os′ : List ℕ) : Type 0 where
+pub record Flushed (gs : List (From Gate)) (c : ℕ) (ns : List ℕ) (u : ℕ) (os : List ℕ) (c′ : ℕ) (ns′ : List ℕ) (u′ : ℕ) (os′ : List ℕ) : Type 0 where
   pub same : writing c′ ns′ u′ os′ ≡ putFlushes gs (writing c ns u os)
-  pub counted : c′ ≡ c + total writtenNodes gs
-  pub turned : u′ ≡ u + total writtenOps gs
+  pub counted : c′ ≡ c + flushedNodes gs
+  pub turned : u′ ≡ u + flushedOps gs
 
--- the frame gates of so many records from i on
-abbrev pub gatesOver : List ℕ → ℕ → ℕ → List Gate
+-- the frame gates of record i, and of so many records from i on
+abbrev pub recordFrom : ℕ → GateKind → ℕ → ℕ → List (From Gate)
+recordFrom i kind a b = map (from i) (recordGates kind a b)
+
+abbrev pub gatesOver : List ℕ → ℕ → ℕ → List (From Gate)
 gatesOver gs i zero = []
-gatesOver gs i (suc k) = recordGates (kindOf (getD gs (4 * i) 0)) (getD gs (4 * i + 1) 0) (getD gs (4 * i + 2) 0) ++ gatesOver gs (suc i) k
+gatesOver gs i (suc k) = recordFrom i (kindOf (getD gs (4 * i) 0)) (getD gs (4 * i + 1) 0) (getD gs (4 * i + 2) 0) ++ gatesOver gs (suc i) k
 
 -- ---- ccx and ccz, by the words of a, b and d
 
@@ -263,17 +272,17 @@ subsetWord (suc (suc (suc (suc (suc zero))))) a b d k = 4 * (k + 1)
 subsetWord (suc (suc (suc (suc (suc (suc zero)))))) a b d k = 4 * (k + 2)
 subsetWord (suc (suc (suc (suc (suc (suc (suc j))))))) a b d k = 4 * (k + 3)
 
--- the first j rotations
-unfoldable pub putRows : ℕ → ℕ → ℕ → ℕ → ℕ → Writing → Writing
-putRows zero a b d k s = s
-putRows (suc j) a b d k s = putOp (rotateWords (subsetWord (subsetOf (rowAt j)) a b d k) (rowAt j .angle)) (putRows j a b d k s)
+-- the first j rotations, for record i
+unfoldable pub putRows : ℕ → ℕ → ℕ → ℕ → ℕ → ℕ → Writing → Writing
+putRows i zero a b d k s = s
+putRows i (suc j) a b d k s = putOp (rotateWords (subsetWord (subsetOf (rowAt j)) a b d k) (rowAt j .angle) i) (putRows i j a b d k s)
 
 -- ab, ad, bd and (ab)d are pushed
 unfoldable pub putFour : ℕ → ℕ → ℕ → Writing → Writing
 putFour a b d s = putNode (4 * s .count) d (putNode b d (putNode a d (putNode a b s)))
 
-unfoldable pub putSeven : ℕ → ℕ → ℕ → Writing → Writing
-putSeven a b d s = putRows 7 a b d (s .count) (putFour a b d s)
+unfoldable pub putSeven : ℕ → ℕ → ℕ → ℕ → Writing → Writing
+putSeven i a b d s = putRows i 7 a b d (s .count) (putFour a b d s)
 
 -- the first word of what an elementary gate writes alone
 abbrev pub firstWordOf : Elementary → ℕ
@@ -287,33 +296,33 @@ firstWordOf (elMeasure q k) = 1
 unfoldable pub firstWord : GateKind → ℕ
 firstWord kind = over firstWordOf (lowerAs kind 0 0 0)
 
--- the words of t, tdg or measure, after so many measurements
-abbrev pub loneWords : GateKind → ℕ → ℕ → ℕ → List ℕ
-loneWords kind axis given bit = firstWord kind ∷ axis ∷ cond (isMeasure kind) given 0 ∷ cond (isMeasure kind) (bit + 1) 0 ∷ []
+-- the words of t, tdg or measure, record i, after so many measurements
+abbrev pub loneWords : GateKind → ℕ → ℕ → ℕ → ℕ → List ℕ
+loneWords kind axis given bit i = firstWord kind ∷ axis ∷ cond (isMeasure kind) given 0 ∷ cond (isMeasure kind) (bit + 1) 0 ∷ i ∷ []
 
 -- where the frame has the third operand: ccz its z, ccx its x
 abbrev pub lastPlace : GateKind → ℕ → ℕ → ℕ
 lastPlace kind n d = cond (eqb (testsOf kind) 3) (n + d) d
 
--- what a record writes that is no frame gate, after so many measurements, by the frame words
-unfoldable pub putRecord : ℕ → ℕ → GateKind → ℕ → ℕ → ℕ → List ℕ → Writing → Writing
-putRecord n given KindH a b d fs s = s
-putRecord n given KindX a b d fs s = s
-putRecord n given KindZ a b d fs s = s
-putRecord n given KindS a b d fs s = s
-putRecord n given KindSdg a b d fs s = s
-putRecord n given KindT a b d fs s = putOp (rotateWords (getD fs (n + a) 0) 1) s
-putRecord n given KindTdg a b d fs s = putOp (rotateWords (getD fs (n + a) 0) 7) s
-putRecord n given KindCnot a b d fs s = s
-putRecord n given KindCz a b d fs s = s
-putRecord n given KindCcx a b d fs s = putSeven (getD fs (n + a) 0) (getD fs (n + b) 0) (getD fs d 0) s
-putRecord n given KindCcz a b d fs s = putSeven (getD fs (n + a) 0) (getD fs (n + b) 0) (getD fs (n + d) 0) s
-putRecord n given KindMeasure a b d fs s = putOp (measureWords (getD fs (n + a) 0) given (Bit b)) s
-putRecord n given KindY a b d fs s = s
-putRecord n given KindSx a b d fs s = s
-putRecord n given KindSwap a b d fs s = s
-putRecord n given KindCy a b d fs s = s
-putRecord n given Unsupported a b d fs s = s
+-- what record i writes that is no frame gate, after so many measurements, by the frame words
+unfoldable pub putRecord : ℕ → ℕ → ℕ → GateKind → ℕ → ℕ → ℕ → List ℕ → Writing → Writing
+putRecord n given i KindH a b d fs s = s
+putRecord n given i KindX a b d fs s = s
+putRecord n given i KindZ a b d fs s = s
+putRecord n given i KindS a b d fs s = s
+putRecord n given i KindSdg a b d fs s = s
+putRecord n given i KindT a b d fs s = putOp (rotateWords (getD fs (n + a) 0) 1 i) s
+putRecord n given i KindTdg a b d fs s = putOp (rotateWords (getD fs (n + a) 0) 7 i) s
+putRecord n given i KindCnot a b d fs s = s
+putRecord n given i KindCz a b d fs s = s
+putRecord n given i KindCcx a b d fs s = putSeven i (getD fs (n + a) 0) (getD fs (n + b) 0) (getD fs d 0) s
+putRecord n given i KindCcz a b d fs s = putSeven i (getD fs (n + a) 0) (getD fs (n + b) 0) (getD fs (n + d) 0) s
+putRecord n given i KindMeasure a b d fs s = putOp (measureWords (getD fs (n + a) 0) given (Bit b) i) s
+putRecord n given i KindY a b d fs s = s
+putRecord n given i KindSx a b d fs s = s
+putRecord n given i KindSwap a b d fs s = s
+putRecord n given i KindCy a b d fs s = s
+putRecord n given i Unsupported a b d fs s = s
 
 -- what it asks of the buffers
 pub record RecordReady (n given : ℕ) (kind : GateKind) (a b d c : ℕ) (ns : List ℕ) (u : ℕ) (os fs : List ℕ) : Type 0 where
@@ -327,7 +336,7 @@ pub record RecordReady (n given : ℕ) (kind : GateKind) (a b d c : ℕ) (ns : L
   pub place : operationWords * (u + costOf kind .operations) ≤ length os
 
 -- what a flush, if there is one, makes of the buffers: the pending gates are written and the frame starts again
-pub record FlushedIf (f : Bool) (n : ℕ) (gs : List Gate) (c : ℕ) (ns fs : List ℕ) (u : ℕ) (os : List ℕ) (c′ : ℕ) (ns′ fs′ : List ℕ) (u′ : ℕ) (os′ : List ℕ) : Type 0 where
+pub record FlushedIf (f : Bool) (n : ℕ) (gs : List (From Gate)) (c : ℕ) (ns fs : List ℕ) (u : ℕ) (os : List ℕ) (c′ : ℕ) (ns′ fs′ : List ℕ) (u′ : ℕ) (os′ : List ℕ) : Type 0 where
   pub is : f ≡ true → Flushed gs c ns u os c′ ns′ u′ os′
   pub frame : f ≡ true → fs′ ≡ overlay (startFrame n) fs
   pub not : f ≡ false → (c′ ≡ c) × (ns′ ≡ ns) × (fs′ ≡ fs) × (u′ ≡ u) × (os′ ≡ os)
@@ -335,7 +344,7 @@ pub record FlushedIf (f : Bool) (n : ℕ) (gs : List Gate) (c : ℕ) (ns fs : Li
 -- ---- the ends of a conversion
 
 abbrev pub plainLast : ℕ → Cap → List ℕ → Plain
-plainLast n cap gs = plainRun flush n cap (lowerAll (records gs)) (plainBegin n)
+plainLast n cap gs = plainRun flushFrom n cap (lowerAll (records gs)) (plainBegin n)
 
 abbrev pub wordsLast : ℕ → Cap → List ℕ → Words
 wordsLast n cap gs = wordRun n cap (lowerAll (records gs)) (plainBegin n) (startWords n)
