@@ -75,7 +75,7 @@ exceeds n (AtMost cap) t e = anyAbove cap (tested n t e)
 
 -- ---- the conversion; what a flush writes for pending gates of n qubits is its first argument
 
-abbrev pub Flush : Type 1
+abbrev pub Flush : Type 0
 Flush = ℕ → List (Placed Gate) → List (From Rotation)
 
 -- the rotations of each pending gate, in order, name that gate's record
