@@ -23,7 +23,7 @@ use Rattle.arena.proofs.Readable.{both-false, formed-over}
 use Rattle.arena.proofs.walk.Readers.{report-reads}
 use Rattle.convert.specs.Types.{Header, PbcOp, Rotate, Measure, ConditionalRotate, Malformed, Checked, Fine, Wrong}
 use Rattle.convert.specs.Records.{records, From, mapFrom, withoutIndex}
-use Rattle.convert.specs.Plain.{Operation, plainBegin}
+use Rattle.convert.specs.Plain.{plainBegin}
 use Rattle.convert.specs.Words.{startWords, flat, decoded, meaning, opFrom, opsFrom, operationsIn}
 use Rattle.convert.specs.Conversion.{limits, Input, gatesIn, plainEnd, wordEnd, gatesCheck, convertCheck, planesAfter, convertedHeader, ConvertedMade, convertAs, convertWithin, convertStep}
 use Rattle.convert.specs.Later.{converted}

@@ -1,5 +1,5 @@
 -- Which gate record an operation names: one whose gate wrote it, in order but for what a flush writes.
-use mathlib.Core.Path.{_≡_, refl, ap, ap₂, sym, _∙_}
+use mathlib.Core.Path.{_≡_, refl, ap, sym, _∙_}
 use mathlib.Core.Logic.{inl, inr}
 use mathlib.Core.Bool.{Bool, true, false, cond}
 use mathlib.Core.List.{List, [], _∷_, _++_, map, append-nil}
@@ -199,6 +199,9 @@ module _ (n : ℕ) (rs : List Record) (b : ℕ) (p : Paper) (S : Sourced n rs b 
         (all-append (λ k. k ≤ i) old added (all-imply (λ k. k ≤ b) (λ k. k ≤ i) old (λ k h. omega arith) (S .most))
         (all-imply (λ k. k ≡ i) (λ k. k ≤ i) added (λ k e. omega arith) added-same))
 
+    sourced-more : (given : ℕ) → Sourced n rs i (record { since = p .since; operations = p .operations ++ map (from i) new; given = given })
+    sourced-more given = record { pending = S .pending; named = more-named; never-fall = more-never-fall; most = more-most }
+
   sourced-perform : (i j : ℕ) → b ≤ i → (e : Elementary) → Member e (getD (map lower rs) i []) → Sourced n rs i (paperPerform n i j e p)
   unfolding paperPerform new
   sourced-perform i j le (clifford g) m = record {
@@ -207,11 +210,11 @@ module _ (n : ℕ) (rs : List Record) (b : ℕ) (p : Paper) (S : Sourced n rs b 
     never-fall = S .never-fall;
     most = all-imply (λ k. k ≤ b) (λ k. k ≤ i) (unflushedIndices (p .operations)) (λ k h. omega arith) (S .most);
   }
-  sourced-perform i j le (elT q) m = record { pending = S .pending; named = more-named i le (elT q) m; never-fall = more-never-fall i le (elT q) m; most = more-most i le (elT q) m }
-  sourced-perform i j le (elTdg q) m = record { pending = S .pending; named = more-named i le (elTdg q) m; never-fall = more-never-fall i le (elTdg q) m; most = more-most i le (elTdg q) m }
-  sourced-perform i j le (elCcx a c d) m = record { pending = S .pending; named = more-named i le (elCcx a c d) m; never-fall = more-never-fall i le (elCcx a c d) m; most = more-most i le (elCcx a c d) m }
-  sourced-perform i j le (elCcz a c d) m = record { pending = S .pending; named = more-named i le (elCcz a c d) m; never-fall = more-never-fall i le (elCcz a c d) m; most = more-most i le (elCcz a c d) m }
-  sourced-perform i j le (elMeasure q k) m = record { pending = S .pending; named = more-named i le (elMeasure q k) m; never-fall = more-never-fall i le (elMeasure q k) m; most = more-most i le (elMeasure q k) m }
+  sourced-perform i j le (elT q) m = sourced-more i le (elT q) m (p .given)
+  sourced-perform i j le (elTdg q) m = sourced-more i le (elTdg q) m (p .given)
+  sourced-perform i j le (elCcx a c d) m = sourced-more i le (elCcx a c d) m (p .given)
+  sourced-perform i j le (elCcz a c d) m = sourced-more i le (elCcz a c d) m (p .given)
+  sourced-perform i j le (elMeasure q k) m = sourced-more i le (elMeasure q k) m (suc (p .given))
 
 abbrev Claims : ℕ → List Record → List (From Operation) → Type 0
 Claims n rs os = All (OfRecord n rs) os × NeverFall (unflushedIndices os)
