@@ -141,16 +141,16 @@ record Sourced (n : ℕ) (rs : List Record) (b : ℕ) (p : Paper) : Type 0 where
   never-fall : NeverFall (unflushedIndices (p .operations))
   most : All (λ i. i ≤ b) (unflushedIndices (p .operations))
 
-module _ (n : ℕ) (rs : List Record) (b : ℕ) (p : Paper) (S : Sourced n rs b p) where
-  flush-named : (gs : List (Placed Gate)) → All (Pends rs) gs → All (OfRecord n rs) (map (mapFrom asRotation) (flushFrom n gs))
-  unfolding flushFrom
-  flush-named [] h = tt
-  flush-named (g ∷ gs) h =
-      rw (map-append (mapFrom asRotation) (map (from (g .index)) (written n (g .gate))) (flushFrom n gs), map-from asRotation (g .index) (written n (g .gate)))
-      (all-append (OfRecord n rs) (map (from (g .index)) (map asRotation (written n (g .gate)))) (map (mapFrom asRotation) (flushFrom n gs))
-      (each-from (OfRecord n rs) (g .index) (map asRotation (written n (g .gate))) (λ o m. record { gate = clifford (g .gate); lowered = h .0; wrote = inl m }))
-      (flush-named gs (h .1)))
+flush-named : (n : ℕ) (rs : List Record) (gs : List (Placed Gate)) → All (Pends rs) gs → All (OfRecord n rs) (map (mapFrom asRotation) (flushFrom n gs))
+unfolding flushFrom
+flush-named n rs [] h = tt
+flush-named n rs (g ∷ gs) h =
+    rw (map-append (mapFrom asRotation) (map (from (g .index)) (written n (g .gate))) (flushFrom n gs), map-from asRotation (g .index) (written n (g .gate)))
+    (all-append (OfRecord n rs) (map (from (g .index)) (map asRotation (written n (g .gate)))) (map (mapFrom asRotation) (flushFrom n gs))
+    (each-from (OfRecord n rs) (g .index) (map asRotation (written n (g .gate))) (λ o m. record { gate = clifford (g .gate); lowered = h .0; wrote = inl m }))
+    (flush-named n rs gs (h .1)))
 
+module _ (n : ℕ) (rs : List Record) (b : ℕ) (p : Paper) (S : Sourced n rs b p) where
   flushed-indices : unflushedIndices (paperFlushed flushFrom n p .operations) ≡ unflushedIndices (p .operations)
   flushed-indices =
       unflushed-append (p .operations) (map (mapFrom asRotation) (flushFrom n (p .since)))
@@ -159,7 +159,7 @@ module _ (n : ℕ) (rs : List Record) (b : ℕ) (p : Paper) (S : Sourced n rs b 
   sourced-flushed : Sourced n rs b (paperFlushed flushFrom n p)
   sourced-flushed = record {
     pending = tt;
-    named = all-append (OfRecord n rs) (p .operations) _ (S .named) (flush-named (p .since) (S .pending));
+    named = all-append (OfRecord n rs) (p .operations) _ (S .named) (flush-named n rs (p .since) (S .pending));
     never-fall = rw flushed-indices (S .never-fall);
     most = rw flushed-indices (S .most);
   }
@@ -246,8 +246,7 @@ paper-never-falls x = sourced (x .qubits) (x .cap) (records (x .gates)) .1
 
 -- an operation of a record names one of the list
 named-below : (n : ℕ) (rs : List Record) (os : List (From Operation)) → All (OfRecord n rs) os → All (λ o. o .index < length rs) os
-named-below n rs [] h = tt
-named-below n rs (o ∷ os) h = (omega (arith, length-map rs lower, member-inside (map lower rs) (o .index) (h .0 .gate) (h .0 .lowered)), named-below n rs os (h .1))
+named-below n rs os = all-imply (OfRecord n rs) (λ o. o .index < length rs) os (λ o h. omega (arith, length-map rs lower, member-inside (map lower rs) (o .index) (h .gate) (h .lowered)))
 
 pub paper-below : (x : Input) → All (λ o. o .index < length (records (x .gates))) (paperEnd x .operations)
 paper-below x = named-below (x .qubits) (records (x .gates)) (paperEnd x .operations) (paper-named x)
