@@ -182,7 +182,7 @@ write-start n cap gs ns fs os ps h en ef ep = record {
     used = refl;
     operations = refl;
     even = record { nodes = omega (arith, length-qubitNodes n); frame = length-start n };
-    four = refl;
+    sized = refl;
   };
   small = λ i lt. rw ef (small-start n fs h i lt);
   planes = ep;
