@@ -1,0 +1,170 @@
+/* The library as it is beside the library as it was, in one process, on the same inputs: conversions and weight reports, adders and random lists.
+ * Times are the least of repeated rounds, both libraries in turn; a round of a random workload goes over several lists, so that none is learnt by heart.
+ * usage: before WORDS_NOW WORDS_BEFORE [FILE.pbc..]     (u32 words of an operation in each; files with one `convert` line each) */
+#include <stdint.h>
+#include <stdio.h>
+#include <stdlib.h>
+#include <string.h>
+#include <time.h>
+
+#define CONVERT(NAME)                                                                                                                       \
+    uint32_t NAME(uint32_t qubits, uint32_t cbits, uint64_t owner, uint64_t cap, const uint32_t *gates, size_t gates_len, uint32_t *nodes,   \
+                  size_t nodes_len, uint32_t *operations, size_t operations_len, uint32_t *frame, size_t frame_len, uint64_t *planes,       \
+                  size_t planes_len, uint64_t *header, size_t header_len, uint64_t *answer, size_t answer_len)
+#define WEIGHTS(NAME)                                                                                                                       \
+    uint32_t NAME(uint64_t *header, size_t header_len, const uint32_t *nodes, size_t nodes_len, const uint32_t *operations,                 \
+                  size_t operations_len, uint32_t *scratch, size_t scratch_len, uint32_t *pool, size_t pool_len, uint64_t limit,            \
+                  uint64_t *answer, size_t answer_len)
+typedef CONVERT((*Convert));
+typedef WEIGHTS((*Weights));
+CONVERT(pbc_convert);
+CONVERT(before_pbc_convert);
+WEIGHTS(pbc_max_axis_weights);
+WEIGHTS(before_pbc_max_axis_weights);
+
+enum { NODES = 131072, OPERATIONS = 5 * 65536, FRAME = 512, PLANES = 4096, SCRATCH = 262144, POOL = 196608, LISTS = 8, NO_POOL = 18 };
+
+typedef struct {
+    Convert convert;
+    Weights weights;
+    size_t words;
+    uint32_t nodes[NODES], operations[OPERATIONS], frame[FRAME], scratch[SCRATCH], pool[POOL];
+    uint64_t planes[PLANES], header[6], answer[4];
+} Library;
+
+typedef struct {
+    uint32_t qubits, cbits;
+    size_t len;
+    uint32_t *words;
+} List;
+
+static Library now, before;
+static double sums[2];
+static int count[2];
+
+static double seconds(void) {
+    struct timespec t;
+    clock_gettime(CLOCK_MONOTONIC, &t);
+    return (double)t.tv_sec + 1e-9 * (double)t.tv_nsec;
+}
+
+static uint32_t next(uint64_t *seed) {
+    *seed = *seed * 6364136223846793005u + 1442695040888963407u;
+    return (uint32_t)(*seed >> 33);
+}
+
+static List random_list(uint32_t qubits, size_t gates, uint64_t *seed) {
+    static const uint32_t kinds[] = {0, 1, 2, 3, 4, 5, 6, 8, 9, 10, 11, 12, 15, 16, 19, 20};
+    List list = {qubits, 65536, 4 * gates, malloc(16 * gates)};
+    for (size_t i = 0; i < gates; i++) {
+        uint32_t *w = list.words + 4 * i;
+        w[0] = kinds[next(seed) % 16];
+        w[1] = next(seed) % qubits;
+        do w[2] = next(seed) % qubits; while (w[2] == w[1]);
+        do w[3] = next(seed) % qubits; while (w[3] == w[1] || w[3] == w[2]);
+    }
+    return list;
+}
+
+static List read_list(const char *name) {
+    List list = {0, 0, 0, malloc(4 * 262144)};
+    long cap;
+    FILE *file = fopen(name, "r");
+    if (!file || fscanf(file, "convert %u %u %ld", &list.qubits, &list.cbits, &cap) != 3) exit(2);
+    while (fscanf(file, "%u", list.words + list.len) == 1) list.len++;
+    fclose(file);
+    return list;
+}
+
+static uint32_t convert(Library *l, const List *g, uint64_t cap) {
+    return l->convert(g->qubits, g->cbits, 1, cap, g->words, g->len, l->nodes, NODES, l->operations, 65536 * l->words, l->frame, FRAME, l->planes, PLANES, l->header, 6,
+                      l->answer, 4);
+}
+
+static uint32_t report(Library *l, size_t records) {
+    return l->weights(l->header, 6, l->nodes, NODES, l->operations, 65536 * l->words, l->scratch, 4 * l->header[3], l->pool, 3 * records, UINT64_MAX >> 1, l->answer, 4);
+}
+
+/* The least power of two of records, from 1,024 on, that serves. */
+static size_t records_for(Library *l) {
+    size_t records = 1024;
+    while (records < 65536 && report(l, records) == NO_POOL) records *= 2;
+    return records;
+}
+
+static void line(const char *name, const double *least, int kind) {
+    double ratio = least[0] / least[1];
+    printf("%-58s %10.2f us %10.2f us   %.3f\n", name, 1e6 * least[0], 1e6 * least[1], ratio);
+    sums[kind] += ratio;
+    count[kind]++;
+}
+
+static void workload(const char *name, const List *lists, int many, uint64_t cap) {
+    Library *both[2] = {&now, &before};
+    double least[2] = {1e9, 1e9}, all = 0;
+    char text[128];
+    for (int k = 0; k < many; k++)
+        for (int b = 0; b < 2; b++)
+            if (convert(both[b], lists + k, cap)) {
+                printf("%-58s refused\n", name);
+                return;
+            }
+    for (int round = 0; round < 400 && (all < 1.0 || round < 20); round++)
+        for (int turn = 0; turn < 2; turn++) {
+            int b = (round + turn) % 2;
+            double start = seconds();
+            for (int k = 0; k < many; k++) convert(both[b], lists + k, cap);
+            double took = seconds() - start;
+            all += took;
+            if (took < least[b]) least[b] = took;
+        }
+    line(name, least, 0);
+    least[0] = least[1] = 1e9;
+    convert(&now, lists, cap);
+    convert(&before, lists, cap);
+    size_t records = records_for(&now);
+    all = 0;
+    for (int round = 0; round < 400 && (all < 0.5 || round < 10); round++)
+        for (int turn = 0; turn < 2; turn++) {
+            int b = (round + turn) % 2;
+            double start = seconds();
+            if (report(both[b], records)) return;
+            double took = seconds() - start;
+            all += took;
+            if (took < least[b]) least[b] = took;
+        }
+    snprintf(text, sizeof text, "report, %s", name);
+    line(text, least, 1);
+}
+
+int main(int argc, char **argv) {
+    static const uint64_t caps[] = {UINT64_C(1) << 32, 3, 8};
+    static const char *names[] = {"no cap", "cap 3", "cap 8"};
+    char text[128];
+    if (argc < 3) return 2;
+    now.convert = pbc_convert, now.weights = pbc_max_axis_weights, now.words = (size_t)atoi(argv[1]);
+    before.convert = before_pbc_convert, before.weights = before_pbc_max_axis_weights, before.words = (size_t)atoi(argv[2]);
+    printf("%-58s %13s %13s   now/before\n", "", "now", "before");
+    for (int f = 3; f < argc; f++)
+        for (int c = 0; c < 3; c++) {
+            List list = read_list(argv[f]);
+            const char *base = strrchr(argv[f], '/') ? strrchr(argv[f], '/') + 1 : argv[f];
+            snprintf(text, sizeof text, "%s, %s", base, names[c]);
+            workload(text, &list, 1, caps[c]);
+            free(list.words);
+        }
+    static const uint32_t qubits[] = {16, 64, 256};
+    static const size_t gates[] = {1000, 8000, 32000};
+    for (int q = 0; q < 3; q++)
+        for (int g = 0; g < 3; g++)
+            for (int c = 0; c < 3; c++) {
+                uint64_t seed = 2026;
+                List lists[LISTS];
+                for (int k = 0; k < LISTS; k++) lists[k] = random_list(qubits[q], gates[g], &seed);
+                snprintf(text, sizeof text, "random, %u qubits, %zu gates, %s", qubits[q], gates[g], names[c]);
+                workload(text, lists, LISTS, caps[c]);
+                for (int k = 0; k < LISTS; k++) free(lists[k].words);
+            }
+    printf("mean of the ratios: conversions %.3f, reports %.3f\n", sums[0] / count[0], sums[1] / count[1]);
+    return 0;
+}
