@@ -6,8 +6,8 @@ use lib.ListN.{replicate}
 use Rattle.pauli.specs.Angle.{angleOf}
 use Rattle.pauli.specs.Letters.{power}
 use Rattle.pauli.specs.Gates.{gateH, gateS, gateCz}
-use Rattle.pauli.specs.Rotations.{flush}
 use Rattle.pauli.specs.Table.{start, step}
+use Rattle.arena.specs.Limits.{operationWords, handMark}
 use Rattle.arena.specs.Errors.{_⟫_⇒_}
 use Rattle.arena.specs.References.{axisOf}
 use Rattle.arena.specs.Nodes.{decode, nodeAt}
@@ -20,7 +20,7 @@ use Rattle.arena.specs.Readers.{expandWalk}
 use Rattle.arena.specs.Expansion.{expandCheck, expandStep}
 use Rattle.convert.specs.Types.{X, Bit, NoTarget, PauliRef, TooManyQubits, BrokenGateList, UnsupportedGate, QubitOutOfRange, RepeatedOperand, ClassicalBitOutOfRange, CapTooSmall, NoPlanes, NoFrame, NoNodes, NoOperations, Fine, Wrong}
 use Rattle.convert.specs.Records.{Cap, NoCap, AtMost, records, kindOf, lowerAs, lower, lowerFrom, lowerAll}
-use Rattle.convert.specs.Plain.{plainBegin, tested, exceeds, flushed, performAs, plainStep, plainRun, rowsAfter, tableRun}
+use Rattle.convert.specs.Plain.{plainBegin, flushFrom, tested, exceeds, flushed, performAs, plainStep, plainRun, rowsAfter, tableRun}
 use Rattle.convert.specs.Frame.{startArena, pushed, multiplied, frameStep, qubitsOf, operandsChecked, frameGates, frameRun, cliffordCheck, cliffordStep}
 use Rattle.convert.specs.Words.{startWords, flushGate, flushGates, flushWords, writeSeven, write, wordStep, wordRun}
 use Rattle.convert.specs.Planes.{mask, digits, rowWords, rowsWords, images, packed}
@@ -30,7 +30,7 @@ use Rattle.convert.specs.Circuits.{gate, reference}
 
 -- n qubits, 2 classical bits, owner 7, room for so many nodes and operations
 input : ℕ → Cap → ℕ → ℕ → List ℕ → Input
-unfolding power flush start step _⟫_⇒_ decode nodeAt dense walk breaksLimit exceedsNodes exceedsOperations foreign unknown noNodeRoom noOperationRoom singleCheck singleStep
+unfolding power flushFrom start step _⟫_⇒_ decode nodeAt dense walk breaksLimit exceedsNodes exceedsOperations foreign unknown noNodeRoom noOperationRoom singleCheck singleStep
     productCheck productStep rotateCheck rotateStep measureCheck measureStep conditionalCheck conditionalStep expandWalk expandCheck expandStep records kindOf lowerAs lower
     lowerFrom lowerAll plainBegin tested exceeds flushed performAs plainStep plainRun rowsAfter tableRun startArena pushed multiplied frameStep qubitsOf operandsChecked frameGates
     frameRun cliffordCheck cliffordStep startWords flushGate flushGates flushWords writeSeven write wordStep wordRun mask digits rowWords rowsWords images packed gatesIn plainEnd
@@ -42,7 +42,7 @@ input n cap nodes ops gs = record {
   cap = cap;
   gates = gs;
   nodes = replicate (2 * nodes) 9;
-  operations = replicate (4 * ops) 9;
+  operations = replicate (operationWords * ops) 9;
   frame = replicate 7 9;
   planes = replicate 12 9;
 }
@@ -152,7 +152,7 @@ calls =
     ∷ callRotate (axisOf (reference 13)) (angleOf 3)
     ∷ lendOperations (9 ∷ [])
     ∷ callRotate (axisOf (reference 13)) (angleOf 3)  -- 3
-    ∷ lendOperations (replicate 16 0)
+    ∷ lendOperations (replicate 20 0)
     ∷ callMeasure (axisOf (reference 8)) (Bit 2)  -- 9
     ∷ callMeasure (axisOf (reference 8)) NoTarget
     ∷ callConditional (axisOf (reference 8)) (angleOf 5) (measId 7 1)
@@ -172,7 +172,7 @@ after : laters calls (converted measured)
     ≡ record {
       header = record { qubits = 2; cbits = 2; owner = 7; nodes = 8; operations = 4; measurements = 2 };
       nodes = 0 ∷ 0 ∷ 5 ∷ 0 ∷ 13 ∷ 0 ∷ 5 ∷ 1 ∷ 13 ∷ 1 ∷ 34 ∷ 4 ∷ 94 ∷ 16 ∷ 18 ∷ 12 ∷ [];
-      operations = 0 ∷ 0 ∷ 0 ∷ 0 ∷ 0 ∷ 0 ∷ 0 ∷ 0 ∷ 1 ∷ 8 ∷ 1 ∷ 0 ∷ 22 ∷ 8 ∷ 1 ∷ 0 ∷ [];
+      operations = 0 ∷ 0 ∷ 0 ∷ 0 ∷ 0 ∷ 0 ∷ 0 ∷ 0 ∷ 0 ∷ 0 ∷ 1 ∷ 8 ∷ 1 ∷ 0 ∷ handMark ∷ 22 ∷ 8 ∷ 1 ∷ 0 ∷ handMark ∷ [];
       frame = 24 ∷ 16 ∷ 4 ∷ 28 ∷ 9 ∷ 9 ∷ 9 ∷ [];
     }
 unfolding measured calls

@@ -5,13 +5,13 @@ use Prim.Native.Nat.{ℕ}
 use lib.ListN.{replicate}
 use Rattle.pauli.specs.Letters.{power}
 use Rattle.pauli.specs.Gates.{gateH, gateS, gateCz}
-use Rattle.pauli.specs.Rotations.{flush}
 use Rattle.pauli.specs.Table.{start, step}
+use Rattle.arena.specs.Limits.{handMark}
 use Rattle.arena.specs.Errors.{_⟫_⇒_}
 use Rattle.arena.specs.Store.{breaksLimit, exceedsNodes, exceedsOperations, foreign, unknown, noNodeRoom, noOperationRoom}
 use Rattle.arena.specs.Builder.{singleCheck, singleStep, productCheck, productStep, rotateCheck, rotateStep, measureCheck, measureStep, conditionalCheck, conditionalStep}
 use Rattle.convert.specs.Records.{NoCap, records, kindOf, lowerAs, lower, lowerFrom, lowerAll}
-use Rattle.convert.specs.Plain.{plainBegin, tested, exceeds, flushed, performAs, plainStep, plainRun, rowsAfter, tableRun}
+use Rattle.convert.specs.Plain.{plainBegin, flushFrom, tested, exceeds, flushed, performAs, plainStep, plainRun, rowsAfter, tableRun}
 use Rattle.convert.specs.Frame.{startArena, pushed, multiplied, frameStep, qubitsOf, operandsChecked, frameGates, frameRun, cliffordCheck, cliffordStep}
 use Rattle.convert.specs.Words.{startWords, write, wordStep, wordRun}
 use Rattle.convert.specs.Conversion.{Input, gatesIn, plainEnd, tableEnd, wordEnd, recordChecked, recordsChecked, gatesCheck, convertCheck, convertWithin, convertStep, ConvertedMade, inputOf, gatesChecked, roomChecked}
@@ -21,12 +21,12 @@ use Rattle.convert.specs.Circuits.{gate}
 
 -- n = 2, 2 classical bits, owner 7; h 0, measure 0 into 1; room for 8 nodes and 5 operations
 lent : Input
-unfolding power flush start step _⟫_⇒_ breaksLimit exceedsNodes exceedsOperations foreign unknown noNodeRoom noOperationRoom singleCheck singleStep productCheck productStep
+unfolding power flushFrom start step _⟫_⇒_ breaksLimit exceedsNodes exceedsOperations foreign unknown noNodeRoom noOperationRoom singleCheck singleStep productCheck productStep
     rotateCheck rotateStep measureCheck measureStep conditionalCheck conditionalStep records kindOf lowerAs lower lowerFrom lowerAll plainBegin tested exceeds flushed performAs
     plainStep plainRun rowsAfter tableRun startArena pushed multiplied frameStep qubitsOf operandsChecked frameGates frameRun cliffordCheck cliffordStep startWords write wordStep
     wordRun gatesIn plainEnd tableEnd wordEnd recordChecked recordsChecked gatesCheck gatesChecked convertCheck roomChecked convertWithin convertStep converted later laters gatesOf
     fed callIn wordsAt callsTo callsIn runStep
-lent = inputOf 2 2 7 NoCap (gate 0 0 0 0 ++ gate 12 0 1 0) (replicate 16 9) (replicate 20 9) (replicate 5 9) []
+lent = inputOf 2 2 7 NoCap (gate 0 0 0 0 ++ gate 12 0 1 0) (replicate 16 9) (replicate 25 9) (replicate 5 9) []
 
 words : List ℕ
 words =
@@ -52,7 +52,7 @@ left : runStep lent words
     ≡ record {
       answer = ConvertedMade (record { qubits = 2; cbits = 2; owner = 7; nodes = 8; operations = 4; measurements = 2 });
       nodes = 0 ∷ 0 ∷ 5 ∷ 0 ∷ 13 ∷ 0 ∷ 5 ∷ 1 ∷ 13 ∷ 1 ∷ 34 ∷ 4 ∷ 94 ∷ 16 ∷ 18 ∷ 12 ∷ [];
-      operations = 1 ∷ 4 ∷ 0 ∷ 2 ∷ 12 ∷ 13 ∷ 0 ∷ 0 ∷ 1 ∷ 8 ∷ 1 ∷ 2 ∷ 22 ∷ 8 ∷ 1 ∷ 0 ∷ 9 ∷ 9 ∷ 9 ∷ 9 ∷ [];
+      operations = 1 ∷ 4 ∷ 0 ∷ 2 ∷ 1 ∷ 12 ∷ 13 ∷ 0 ∷ 0 ∷ handMark ∷ 1 ∷ 8 ∷ 1 ∷ 2 ∷ handMark ∷ 22 ∷ 8 ∷ 1 ∷ 0 ∷ handMark ∷ 9 ∷ 9 ∷ 9 ∷ 9 ∷ 9 ∷ [];
       frame = 24 ∷ 16 ∷ 4 ∷ 28 ∷ 9 ∷ [];
       planes = [];
     }

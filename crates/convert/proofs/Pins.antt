@@ -3,13 +3,12 @@ use mathlib.Core.Path.{_≡_, refl}
 use mathlib.Core.List.{List, [], _∷_, _++_, map}
 use Prim.Native.Nat.{ℕ}
 use lib.ListN.{replicate, drop}
-use Rattle.pauli.specs.Rotations.{flush}
 use Rattle.pauli.specs.Table.{start, step}
 use Rattle.arena.specs.Errors.{_⟫_⇒_}
 use Rattle.arena.specs.Builder.{headerOf}
 use Rattle.convert.specs.Types.{TooManyQubits, BrokenGateList, UnsupportedGate, QubitOutOfRange, RepeatedOperand, ClassicalBitOutOfRange, CapTooSmall, NoPlanes, NoFrame, NoNodes, NoOperations, PbcError}
 use Rattle.convert.specs.Records.{Cap, NoCap, AtMost, records, kindOf, lowerAs, lower, lowerFrom, lowerAll}
-use Rattle.convert.specs.Plain.{plainBegin, tested, exceeds, flushed, performAs, plainStep, plainRun, rowsAfter, tableRun}
+use Rattle.convert.specs.Plain.{plainBegin, flushFrom, tested, exceeds, flushed, performAs, plainStep, plainRun, rowsAfter, tableRun}
 use Rattle.convert.specs.Frame.{startArena, pushed, multiplied, frameStep, qubitsOf, operandsChecked}
 use Rattle.convert.specs.Words.{flat, startWords, flushGate, flushGates, flushWords, writeSeven, write, wordStep, wordRun}
 use Rattle.convert.specs.Planes.{mask, digits, rowWords, rowsWords, images, packed}
@@ -21,7 +20,7 @@ nines k = replicate k 9
 
 -- owner 7; so many words of nodes, operations, frame and planes are lent, all 9
 lent : (qubits cbits : ℕ) → Cap → List ℕ → (nodes operations frame planes : ℕ) → Input
-unfolding flush start step _⟫_⇒_ records kindOf lowerAs lower lowerFrom lowerAll plainBegin tested exceeds flushed performAs plainStep plainRun rowsAfter tableRun startArena
+unfolding flushFrom start step _⟫_⇒_ records kindOf lowerAs lower lowerFrom lowerAll plainBegin tested exceeds flushed performAs plainStep plainRun rowsAfter tableRun startArena
     pushed multiplied frameStep qubitsOf operandsChecked startWords flushGate flushGates flushWords writeSeven write wordStep wordRun mask digits rowWords rowsWords images packed
     gatesIn plainEnd tableEnd wordEnd recordChecked recordsChecked gatesCheck gatesChecked roomChecked convertCheck convertWithin convertStep
 lent n cbits cap gates nodes operations frame planes = inputOf n cbits 7 cap gates (nines nodes) (nines operations) (nines frame) (nines planes)
@@ -37,7 +36,7 @@ record Written : Type 0 where
 written : ℕ → Written
 unfolding lent
 written kind =
-    let x = convertStep (lent 3 2 NoCap (gate kind 0 1 2) 26 28 6 0) in
+    let x = convertStep (lent 3 2 NoCap (gate kind 0 1 2) 26 35 6 0) in
     record { answer = x .answer; added = drop 14 (x .nodes); frame = x .frame; operations = x .operations }
 
 abbrev wrote : (nodes operations measurements : ℕ) → (added frame words : List ℕ) → Written
@@ -45,34 +44,34 @@ wrote nodes operations measurements added frame words =
     record { answer = ConvertedMade (headerOf 3 2 7 nodes operations measurements); added = added; frame = frame; operations = words }
 
 abbrev unsupported : ℕ → Written
-unsupported kind = record { answer = ConvertedRefused (UnsupportedGate 0 kind); added = nines 12; frame = nines 6; operations = nines 28 }
+unsupported kind = record { answer = ConvertedRefused (UnsupportedGate 0 kind); added = nines 12; frame = nines 6; operations = nines 35 }
 
 abbrev below27 : List ℕ
 below27 = 0 ∷ 1 ∷ 2 ∷ 3 ∷ 4 ∷ 5 ∷ 6 ∷ 7 ∷ 8 ∷ 9 ∷ 10 ∷ 11 ∷ 12 ∷ 13 ∷ 14 ∷ 15 ∷ 16 ∷ 17 ∷ 18 ∷ 19 ∷ 20 ∷ 21 ∷ 22 ∷ 23 ∷ 24 ∷ 25 ∷ 26 ∷ []
 
 kinds-write : map written below27
     ≡
-    wrote 7 0 0 (nines 12) (8 ∷ 12 ∷ 20 ∷ 4 ∷ 16 ∷ 24 ∷ []) (nines 28)  -- h
-    ∷ wrote 7 0 0 (nines 12) (4 ∷ 12 ∷ 20 ∷ 10 ∷ 16 ∷ 24 ∷ []) (nines 28)  -- x
-    ∷ wrote 7 0 0 (nines 12) (6 ∷ 12 ∷ 20 ∷ 8 ∷ 16 ∷ 24 ∷ []) (nines 28)  -- z
-    ∷ wrote 8 0 0 (18 ∷ 8 ∷ nines 10) (31 ∷ 12 ∷ 20 ∷ 8 ∷ 16 ∷ 24 ∷ []) (nines 28)  -- s
-    ∷ wrote 8 0 0 (18 ∷ 8 ∷ nines 10) (29 ∷ 12 ∷ 20 ∷ 8 ∷ 16 ∷ 24 ∷ []) (nines 28)  -- sdg
-    ∷ wrote 7 1 0 (nines 12) (4 ∷ 12 ∷ 20 ∷ 8 ∷ 16 ∷ 24 ∷ []) (4 ∷ 8 ∷ 0 ∷ 0 ∷ nines 24)  -- t
-    ∷ wrote 7 1 0 (nines 12) (4 ∷ 12 ∷ 20 ∷ 8 ∷ 16 ∷ 24 ∷ []) (28 ∷ 8 ∷ 0 ∷ 0 ∷ nines 24)  -- tdg
+    wrote 7 0 0 (nines 12) (8 ∷ 12 ∷ 20 ∷ 4 ∷ 16 ∷ 24 ∷ []) (nines 35)  -- h
+    ∷ wrote 7 0 0 (nines 12) (4 ∷ 12 ∷ 20 ∷ 10 ∷ 16 ∷ 24 ∷ []) (nines 35)  -- x
+    ∷ wrote 7 0 0 (nines 12) (6 ∷ 12 ∷ 20 ∷ 8 ∷ 16 ∷ 24 ∷ []) (nines 35)  -- z
+    ∷ wrote 8 0 0 (18 ∷ 8 ∷ nines 10) (31 ∷ 12 ∷ 20 ∷ 8 ∷ 16 ∷ 24 ∷ []) (nines 35)  -- s
+    ∷ wrote 8 0 0 (18 ∷ 8 ∷ nines 10) (29 ∷ 12 ∷ 20 ∷ 8 ∷ 16 ∷ 24 ∷ []) (nines 35)  -- sdg
+    ∷ wrote 7 1 0 (nines 12) (4 ∷ 12 ∷ 20 ∷ 8 ∷ 16 ∷ 24 ∷ []) (4 ∷ 8 ∷ 0 ∷ 0 ∷ 0 ∷ nines 30)  -- t
+    ∷ wrote 7 1 0 (nines 12) (4 ∷ 12 ∷ 20 ∷ 8 ∷ 16 ∷ 24 ∷ []) (28 ∷ 8 ∷ 0 ∷ 0 ∷ 0 ∷ nines 30)  -- tdg
     ∷ unsupported 7
-    ∷ wrote 9 0 0 (18 ∷ 12 ∷ 34 ∷ 16 ∷ nines 8) (28 ∷ 12 ∷ 20 ∷ 8 ∷ 32 ∷ 24 ∷ []) (nines 28)  -- cnot
-    ∷ wrote 9 0 0 (18 ∷ 16 ∷ 34 ∷ 12 ∷ nines 8) (28 ∷ 32 ∷ 20 ∷ 8 ∷ 16 ∷ 24 ∷ []) (nines 28)  -- cz
-    ∷ wrote 11 7 0 (34 ∷ 16 ∷ 34 ∷ 20 ∷ 66 ∷ 20 ∷ 114 ∷ 20 ∷ nines 4) (4 ∷ 12 ∷ 20 ∷ 8 ∷ 16 ∷ 24 ∷ []) (4 ∷ 8 ∷ 0 ∷ 0 ∷ 4 ∷ 16 ∷ 0 ∷ 0 ∷ 4 ∷ 20 ∷ 0 ∷ 0 ∷ 28 ∷ 28 ∷ 0 ∷ 0 ∷ 28 ∷ 32 ∷ 0 ∷ 0 ∷ 28 ∷ 36 ∷ 0 ∷ 0 ∷ 4 ∷ 40 ∷ 0 ∷ 0 ∷ [])  -- ccx
-    ∷ wrote 11 7 0 (34 ∷ 16 ∷ 34 ∷ 24 ∷ 66 ∷ 24 ∷ 114 ∷ 24 ∷ nines 4) (4 ∷ 12 ∷ 20 ∷ 8 ∷ 16 ∷ 24 ∷ []) (4 ∷ 8 ∷ 0 ∷ 0 ∷ 4 ∷ 16 ∷ 0 ∷ 0 ∷ 4 ∷ 24 ∷ 0 ∷ 0 ∷ 28 ∷ 28 ∷ 0 ∷ 0 ∷ 28 ∷ 32 ∷ 0 ∷ 0 ∷ 28 ∷ 36 ∷ 0 ∷ 0 ∷ 4 ∷ 40 ∷ 0 ∷ 0 ∷ [])  -- ccz
-    ∷ wrote 7 1 1 (nines 12) (4 ∷ 12 ∷ 20 ∷ 8 ∷ 16 ∷ 24 ∷ []) (1 ∷ 8 ∷ 0 ∷ 2 ∷ nines 24)  -- measure
+    ∷ wrote 9 0 0 (18 ∷ 12 ∷ 34 ∷ 16 ∷ nines 8) (28 ∷ 12 ∷ 20 ∷ 8 ∷ 32 ∷ 24 ∷ []) (nines 35)  -- cnot
+    ∷ wrote 9 0 0 (18 ∷ 16 ∷ 34 ∷ 12 ∷ nines 8) (28 ∷ 32 ∷ 20 ∷ 8 ∷ 16 ∷ 24 ∷ []) (nines 35)  -- cz
+    ∷ wrote 11 7 0 (34 ∷ 16 ∷ 34 ∷ 20 ∷ 66 ∷ 20 ∷ 114 ∷ 20 ∷ nines 4) (4 ∷ 12 ∷ 20 ∷ 8 ∷ 16 ∷ 24 ∷ []) (4 ∷ 8 ∷ 0 ∷ 0 ∷ 0 ∷ 4 ∷ 16 ∷ 0 ∷ 0 ∷ 0 ∷ 4 ∷ 20 ∷ 0 ∷ 0 ∷ 0 ∷ 28 ∷ 28 ∷ 0 ∷ 0 ∷ 0 ∷ 28 ∷ 32 ∷ 0 ∷ 0 ∷ 0 ∷ 28 ∷ 36 ∷ 0 ∷ 0 ∷ 0 ∷ 4 ∷ 40 ∷ 0 ∷ 0 ∷ 0 ∷ [])  -- ccx
+    ∷ wrote 11 7 0 (34 ∷ 16 ∷ 34 ∷ 24 ∷ 66 ∷ 24 ∷ 114 ∷ 24 ∷ nines 4) (4 ∷ 12 ∷ 20 ∷ 8 ∷ 16 ∷ 24 ∷ []) (4 ∷ 8 ∷ 0 ∷ 0 ∷ 0 ∷ 4 ∷ 16 ∷ 0 ∷ 0 ∷ 0 ∷ 4 ∷ 24 ∷ 0 ∷ 0 ∷ 0 ∷ 28 ∷ 28 ∷ 0 ∷ 0 ∷ 0 ∷ 28 ∷ 32 ∷ 0 ∷ 0 ∷ 0 ∷ 28 ∷ 36 ∷ 0 ∷ 0 ∷ 0 ∷ 4 ∷ 40 ∷ 0 ∷ 0 ∷ 0 ∷ [])  -- ccz
+    ∷ wrote 7 1 1 (nines 12) (4 ∷ 12 ∷ 20 ∷ 8 ∷ 16 ∷ 24 ∷ []) (1 ∷ 8 ∷ 0 ∷ 2 ∷ 0 ∷ nines 30)  -- measure
     ∷ unsupported 13
     ∷ unsupported 14
-    ∷ wrote 7 0 0 (nines 12) (6 ∷ 12 ∷ 20 ∷ 10 ∷ 16 ∷ 24 ∷ []) (nines 28)  -- y
-    ∷ wrote 8 0 0 (34 ∷ 4 ∷ nines 10) (4 ∷ 12 ∷ 20 ∷ 31 ∷ 16 ∷ 24 ∷ []) (nines 28)  -- sx
+    ∷ wrote 7 0 0 (nines 12) (6 ∷ 12 ∷ 20 ∷ 10 ∷ 16 ∷ 24 ∷ []) (nines 35)  -- y
+    ∷ wrote 8 0 0 (34 ∷ 4 ∷ nines 10) (4 ∷ 12 ∷ 20 ∷ 31 ∷ 16 ∷ 24 ∷ []) (nines 35)  -- sx
     ∷ unsupported 17
     ∷ unsupported 18
-    ∷ wrote 13 0 0 (18 ∷ 12 ∷ 34 ∷ 16 ∷ 50 ∷ 28 ∷ 130 ∷ 8 ∷ 114 ∷ 36 ∷ 162 ∷ 32 ∷ []) (44 ∷ 36 ∷ 20 ∷ 40 ∷ 48 ∷ 24 ∷ []) (nines 28)  -- swap
-    ∷ wrote 11 0 0 (50 ∷ 16 ∷ 18 ∷ 29 ∷ 34 ∷ 16 ∷ 118 ∷ 36 ∷ nines 4) (32 ∷ 43 ∷ 20 ∷ 8 ∷ 36 ∷ 24 ∷ []) (nines 28)  -- cy
+    ∷ wrote 13 0 0 (18 ∷ 12 ∷ 34 ∷ 16 ∷ 50 ∷ 28 ∷ 130 ∷ 8 ∷ 114 ∷ 36 ∷ 162 ∷ 32 ∷ []) (44 ∷ 36 ∷ 20 ∷ 40 ∷ 48 ∷ 24 ∷ []) (nines 35)  -- swap
+    ∷ wrote 11 0 0 (50 ∷ 16 ∷ 18 ∷ 29 ∷ 34 ∷ 16 ∷ 118 ∷ 36 ∷ nines 4) (32 ∷ 43 ∷ 20 ∷ 8 ∷ 36 ∷ 24 ∷ []) (nines 35)  -- cy
     ∷ unsupported 21
     ∷ unsupported 22
     ∷ unsupported 23
@@ -94,59 +93,61 @@ unfolding lent
 operationsOf n cap gates = flat (wordEnd (lent n 2 (AtMost cap) gates 0 0 0 0) .ops)
 
 -- Z₀ Z₁ has two letters
-t-fits : operationsOf 2 2 (gate 8 0 1 0 ++ gate 5 1 0 0) ≡ 4 ∷ 24 ∷ 0 ∷ 0 ∷ []
+t-fits : operationsOf 2 2 (gate 8 0 1 0 ++ gate 5 1 0 0) ≡ 4 ∷ 24 ∷ 0 ∷ 0 ∷ 1 ∷ []
 unfolding operationsOf
 t-fits = refl
 
-t-exceeds : operationsOf 2 1 (gate 8 0 1 0 ++ gate 5 1 0 0) ≡ 8 ∷ 8 ∷ 0 ∷ 0 ∷ 8 ∷ 12 ∷ 0 ∷ 0 ∷ 24 ∷ 28 ∷ 0 ∷ 0 ∷ 4 ∷ 16 ∷ 0 ∷ 0 ∷ []
+t-exceeds : operationsOf 2 1 (gate 8 0 1 0 ++ gate 5 1 0 0) ≡ 8 ∷ 8 ∷ 0 ∷ 0 ∷ 0 ∷ 8 ∷ 12 ∷ 0 ∷ 0 ∷ 0 ∷ 24 ∷ 28 ∷ 0 ∷ 0 ∷ 0 ∷ 4 ∷ 16 ∷ 0 ∷ 0 ∷ 1 ∷ []
 unfolding operationsOf
 t-exceeds = refl
 
-tdg-fits : operationsOf 2 2 (gate 8 0 1 0 ++ gate 6 1 0 0) ≡ 28 ∷ 24 ∷ 0 ∷ 0 ∷ []
+tdg-fits : operationsOf 2 2 (gate 8 0 1 0 ++ gate 6 1 0 0) ≡ 28 ∷ 24 ∷ 0 ∷ 0 ∷ 1 ∷ []
 unfolding operationsOf
 tdg-fits = refl
 
-tdg-exceeds : operationsOf 2 1 (gate 8 0 1 0 ++ gate 6 1 0 0) ≡ 8 ∷ 8 ∷ 0 ∷ 0 ∷ 8 ∷ 12 ∷ 0 ∷ 0 ∷ 24 ∷ 28 ∷ 0 ∷ 0 ∷ 28 ∷ 16 ∷ 0 ∷ 0 ∷ []
+tdg-exceeds : operationsOf 2 1 (gate 8 0 1 0 ++ gate 6 1 0 0) ≡ 8 ∷ 8 ∷ 0 ∷ 0 ∷ 0 ∷ 8 ∷ 12 ∷ 0 ∷ 0 ∷ 0 ∷ 24 ∷ 28 ∷ 0 ∷ 0 ∷ 0 ∷ 28 ∷ 16 ∷ 0 ∷ 0 ∷ 1 ∷ []
 unfolding operationsOf
 tdg-exceeds = refl
 
-measure-fits : operationsOf 2 2 (gate 8 0 1 0 ++ gate 12 1 0 0) ≡ 1 ∷ 24 ∷ 0 ∷ 1 ∷ []
+measure-fits : operationsOf 2 2 (gate 8 0 1 0 ++ gate 12 1 0 0) ≡ 1 ∷ 24 ∷ 0 ∷ 1 ∷ 1 ∷ []
 unfolding operationsOf
 measure-fits = refl
 
-measure-exceeds : operationsOf 2 1 (gate 8 0 1 0 ++ gate 12 1 0 0) ≡ 8 ∷ 8 ∷ 0 ∷ 0 ∷ 8 ∷ 12 ∷ 0 ∷ 0 ∷ 24 ∷ 28 ∷ 0 ∷ 0 ∷ 1 ∷ 16 ∷ 0 ∷ 1 ∷ []
+measure-exceeds : operationsOf 2 1 (gate 8 0 1 0 ++ gate 12 1 0 0) ≡ 8 ∷ 8 ∷ 0 ∷ 0 ∷ 0 ∷ 8 ∷ 12 ∷ 0 ∷ 0 ∷ 0 ∷ 24 ∷ 28 ∷ 0 ∷ 0 ∷ 0 ∷ 1 ∷ 16 ∷ 0 ∷ 1 ∷ 1 ∷ []
 unfolding operationsOf
 measure-exceeds = refl
 
 -- Z₀, Z₁ Z₃ and X₂: of the seven products only the last has four letters
 ccx-fits : operationsOf 4 4 (gate 8 3 1 0 ++ gate 10 0 1 2)
-    ≡ 4 ∷ 8 ∷ 0 ∷ 0 ∷ 4 ∷ 40 ∷ 0 ∷ 0 ∷ 4 ∷ 20 ∷ 0 ∷ 0 ∷ 28 ∷ 44 ∷ 0 ∷ 0 ∷ 28 ∷ 48 ∷ 0 ∷ 0 ∷ 28 ∷ 52 ∷ 0 ∷ 0 ∷ 4 ∷ 56 ∷ 0 ∷ 0 ∷ []
+    ≡ 4 ∷ 8 ∷ 0 ∷ 0 ∷ 1 ∷ 4 ∷ 40 ∷ 0 ∷ 0 ∷ 1 ∷ 4 ∷ 20 ∷ 0 ∷ 0 ∷ 1 ∷ 28 ∷ 44 ∷ 0 ∷ 0 ∷ 1 ∷ 28 ∷ 48 ∷ 0 ∷ 0 ∷ 1 ∷ 28 ∷ 52 ∷ 0 ∷ 0 ∷ 1
+    ∷ 4 ∷ 56 ∷ 0 ∷ 0 ∷ 1 ∷ []
 unfolding operationsOf
 ccx-fits = refl
 
 ccx-exceeds : operationsOf 4 3 (gate 8 3 1 0 ++ gate 10 0 1 2)
-    ≡ 8 ∷ 32 ∷ 0 ∷ 0 ∷ 8 ∷ 12 ∷ 0 ∷ 0 ∷ 24 ∷ 44 ∷ 0 ∷ 0
-    ∷ 4 ∷ 8 ∷ 0 ∷ 0 ∷ 4 ∷ 16 ∷ 0 ∷ 0 ∷ 4 ∷ 20 ∷ 0 ∷ 0 ∷ 28 ∷ 48 ∷ 0 ∷ 0 ∷ 28 ∷ 52 ∷ 0 ∷ 0 ∷ 28 ∷ 56 ∷ 0 ∷ 0 ∷ 4 ∷ 60 ∷ 0 ∷ 0 ∷ []
+    ≡ 8 ∷ 32 ∷ 0 ∷ 0 ∷ 0 ∷ 8 ∷ 12 ∷ 0 ∷ 0 ∷ 0 ∷ 24 ∷ 44 ∷ 0 ∷ 0 ∷ 0 ∷ 4 ∷ 8 ∷ 0 ∷ 0 ∷ 1 ∷ 4 ∷ 16 ∷ 0 ∷ 0 ∷ 1 ∷ 4 ∷ 20 ∷ 0 ∷ 0 ∷ 1
+    ∷ 28 ∷ 48 ∷ 0 ∷ 0 ∷ 1 ∷ 28 ∷ 52 ∷ 0 ∷ 0 ∷ 1 ∷ 28 ∷ 56 ∷ 0 ∷ 0 ∷ 1 ∷ 4 ∷ 60 ∷ 0 ∷ 0 ∷ 1 ∷ []
 unfolding operationsOf
 ccx-exceeds = refl
 
 -- Y is one letter
-y-fits : operationsOf 1 1 (gate 3 0 0 0 ++ gate 0 0 0 0 ++ gate 5 0 0 0) ≡ 4 ∷ 15 ∷ 0 ∷ 0 ∷ []
+y-fits : operationsOf 1 1 (gate 3 0 0 0 ++ gate 0 0 0 0 ++ gate 5 0 0 0) ≡ 4 ∷ 15 ∷ 0 ∷ 0 ∷ 2 ∷ []
 unfolding operationsOf
 y-fits = refl
 
 -- h, x, z, s, sdg, cz, cnot, as a flush writes them, then t
 flush-writes : operationsOf 2 1
     (gate 0 0 0 0 ++ gate 1 0 0 0 ++ gate 2 0 0 0 ++ gate 3 0 0 0 ++ gate 4 0 0 0 ++ gate 9 0 1 0 ++ gate 8 0 1 0 ++ gate 5 1 0 0)
-    ≡ 8 ∷ 8 ∷ 0 ∷ 0 ∷ 8 ∷ 4 ∷ 0 ∷ 0 ∷ 8 ∷ 8 ∷ 0 ∷ 0 ∷ 16 ∷ 4 ∷ 0 ∷ 0 ∷ 16 ∷ 8 ∷ 0 ∷ 0 ∷ 8 ∷ 8 ∷ 0 ∷ 0 ∷ 24 ∷ 8 ∷ 0 ∷ 0
-    ∷ 8 ∷ 8 ∷ 0 ∷ 0 ∷ 8 ∷ 16 ∷ 0 ∷ 0 ∷ 24 ∷ 44 ∷ 0 ∷ 0 ∷ 8 ∷ 8 ∷ 0 ∷ 0 ∷ 8 ∷ 12 ∷ 0 ∷ 0 ∷ 24 ∷ 48 ∷ 0 ∷ 0 ∷ 4 ∷ 16 ∷ 0 ∷ 0 ∷ []
+    ≡ 8 ∷ 8 ∷ 0 ∷ 0 ∷ 0 ∷ 8 ∷ 4 ∷ 0 ∷ 0 ∷ 0 ∷ 8 ∷ 8 ∷ 0 ∷ 0 ∷ 0 ∷ 16 ∷ 4 ∷ 0 ∷ 0 ∷ 1 ∷ 16 ∷ 8 ∷ 0 ∷ 0 ∷ 2 ∷ 8 ∷ 8 ∷ 0 ∷ 0 ∷ 3
+    ∷ 24 ∷ 8 ∷ 0 ∷ 0 ∷ 4 ∷ 8 ∷ 8 ∷ 0 ∷ 0 ∷ 5 ∷ 8 ∷ 16 ∷ 0 ∷ 0 ∷ 5 ∷ 24 ∷ 44 ∷ 0 ∷ 0 ∷ 5 ∷ 8 ∷ 8 ∷ 0 ∷ 0 ∷ 6 ∷ 8 ∷ 12 ∷ 0 ∷ 0 ∷ 6
+    ∷ 24 ∷ 48 ∷ 0 ∷ 0 ∷ 6 ∷ 4 ∷ 16 ∷ 0 ∷ 0 ∷ 7 ∷ []
 unfolding operationsOf
 flush-writes = refl
 
 -- the second flush writes h and the second cnot, not the first
 flush-again : operationsOf 2 1 (gate 8 0 1 0 ++ gate 5 1 0 0 ++ gate 0 0 0 0 ++ gate 8 0 1 0 ++ gate 5 1 0 0)
-    ≡ 8 ∷ 8 ∷ 0 ∷ 0 ∷ 8 ∷ 12 ∷ 0 ∷ 0 ∷ 24 ∷ 28 ∷ 0 ∷ 0 ∷ 4 ∷ 16 ∷ 0 ∷ 0
-    ∷ 8 ∷ 8 ∷ 0 ∷ 0 ∷ 8 ∷ 4 ∷ 0 ∷ 0 ∷ 8 ∷ 8 ∷ 0 ∷ 0 ∷ 8 ∷ 8 ∷ 0 ∷ 0 ∷ 8 ∷ 12 ∷ 0 ∷ 0 ∷ 24 ∷ 40 ∷ 0 ∷ 0 ∷ 4 ∷ 16 ∷ 0 ∷ 0 ∷ []
+    ≡ 8 ∷ 8 ∷ 0 ∷ 0 ∷ 0 ∷ 8 ∷ 12 ∷ 0 ∷ 0 ∷ 0 ∷ 24 ∷ 28 ∷ 0 ∷ 0 ∷ 0 ∷ 4 ∷ 16 ∷ 0 ∷ 0 ∷ 1 ∷ 8 ∷ 8 ∷ 0 ∷ 0 ∷ 2 ∷ 8 ∷ 4 ∷ 0 ∷ 0 ∷ 2
+    ∷ 8 ∷ 8 ∷ 0 ∷ 0 ∷ 2 ∷ 8 ∷ 8 ∷ 0 ∷ 0 ∷ 3 ∷ 8 ∷ 12 ∷ 0 ∷ 0 ∷ 3 ∷ 24 ∷ 40 ∷ 0 ∷ 0 ∷ 3 ∷ 4 ∷ 16 ∷ 0 ∷ 0 ∷ 4 ∷ []
 unfolding operationsOf
 flush-again = refl
 
@@ -197,10 +198,10 @@ planes-untouched = refl
 -- after 13, 14 and 15 they hold the end state
 planes-written :
     map planesOf
-    (capped 2 (gate 5 1 0 0) 14 4 3 12
-    ∷ capped 2 (gate 5 1 0 0) 13 4 4 12
-    ∷ capped 2 (gate 5 1 0 0) 14 3 4 12
+    (capped 2 (gate 5 1 0 0) 14 5 3 12
+    ∷ capped 2 (gate 5 1 0 0) 13 5 4 12
     ∷ capped 2 (gate 5 1 0 0) 14 4 4 12
+    ∷ capped 2 (gate 5 1 0 0) 14 5 4 12
     ∷ [])
     ≡ refused NoFrame (3 ∷ 0 ∷ 0 ∷ 1 ∷ 2 ∷ 0 ∷ 0 ∷ 3 ∷ nines 4)
     ∷ refused NoNodes (3 ∷ 0 ∷ 0 ∷ 1 ∷ 2 ∷ 0 ∷ 0 ∷ 3 ∷ nines 4)
@@ -221,13 +222,13 @@ planes-uncapped = refl
 
 bits : ℕ → ℕ → Input
 unfolding lent
-bits cbits bit = lent 1 cbits NoCap (gate 12 0 bit 0) 6 4 2 0
+bits cbits bit = lent 1 cbits NoCap (gate 12 0 bit 0) 6 5 2 0
 
 most-bits : convertStep (bits 65536 65535) .answer ≡ ConvertedMade (headerOf 1 65536 7 3 1 1)
 unfolding bits
 most-bits = refl
 
-last-bit : convertStep (bits 65536 65535) .operations ≡ 1 ∷ 8 ∷ 0 ∷ 65536 ∷ []
+last-bit : convertStep (bits 65536 65535) .operations ≡ 1 ∷ 8 ∷ 0 ∷ 65536 ∷ 0 ∷ []
 unfolding bits
 last-bit = refl
 

@@ -10,7 +10,6 @@ use lib.Dec.{ltb, eqb}
 use lib.ListN.{length, getD, drop}
 use lib.Seq.{drop-append-add, drop-drop}
 use borrow.Author.Tests.{ltb-false, le-ltb}
-use Rattle.pauli.specs.Rotations.{flush}
 use Rattle.pauli.specs.Table.{start}
 use Rattle.arena.specs.Limits.{maxQubits, maxCbits, maxNodes, maxOperations, nodeWords, operationWords}
 use Rattle.arena.specs.Errors.{_⟫_⇒_}
@@ -20,7 +19,7 @@ use Rattle.arena.proofs.Overlay.{length-qubitNodes}
 use Rattle.arena.proofs.Accepted.{passed-before, test-passed, left-false, right-false}
 use Rattle.convert.specs.Types.{PbcError, Header, TooManyQubits, BrokenGateList, CapTooSmall, NoPlanes, NoFrame, NoNodes, NoOperations, Checked, Fine, Wrong}
 use Rattle.convert.specs.Records.{GateKind, KindH, KindX, KindZ, KindS, KindSdg, KindT, KindTdg, KindCnot, KindCz, KindCcx, KindCcz, KindMeasure, KindY, KindSx, KindSwap, KindCy, Unsupported, Cap, NoCap, AtMost, Elementary, Placed, placedFrom, bare, records, kindOf, lowerAs, lowerAll, AllProper}
-use Rattle.convert.specs.Plain.{plainBegin, plainRun, tableRun}
+use Rattle.convert.specs.Plain.{flushFrom, plainBegin, plainRun, tableRun}
 use Rattle.convert.specs.Frame.{startArena}
 use Rattle.convert.specs.Words.{flat, startWords}
 use Rattle.convert.specs.Code.Needs.{Needs}
@@ -172,9 +171,9 @@ module _ (q c o : ℕ) (cap : Cap) (gs ns os fs ps : List ℕ) where
 
   planes-as : planesFor cap q (plainLast q cap gs .table) ps ≡ planesAs cap x
   unfolding tableEnd gatesIn plainBegin
-  planes-as = go cap (table-run flush q cap (lowerAll (records gs)) (plainBegin q))
+  planes-as = go cap (table-run flushFrom q cap (lowerAll (records gs)) (plainBegin q))
     where
-      go : (k : Cap) → plainRun flush q cap (lowerAll (records gs)) (plainBegin q) .table ≡ tableRun q cap (bare (lowerAll (records gs))) (start q)
+      go : (k : Cap) → plainRun flushFrom q cap (lowerAll (records gs)) (plainBegin q) .table ≡ tableRun q cap (bare (lowerAll (records gs))) (start q)
           → planesFor k q (plainLast q cap gs .table) ps ≡ planesAs k x
       go NoCap e = refl
       go (AtMost most) e = ap (λ (t : List Row). overlay (packed q t) ps) e

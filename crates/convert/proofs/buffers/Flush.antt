@@ -8,84 +8,84 @@ use lib.Seq.{sets}
 use Rattle.pauli.specs.Gates.{Gate, gateH, gateX, gateZ, gateS, gateSdg, gateCnot, gateCz, AllValid}
 use Rattle.arena.specs.Limits.{operationWords}
 use Rattle.arena.specs.Operations.{rotateWords}
-use Rattle.convert.specs.Records.{kindOf}
+use Rattle.convert.specs.Records.{kindOf, From, from, withoutIndex}
+use Rattle.convert.specs.Frame.{total}
 use Rattle.convert.specs.Words.{idX, idZ}
 use Rattle.convert.specs.Code.Needs.{writtenNodes, writtenOps}
-use Rattle.convert.specs.Code.Raw.{Writing, writing, putOp, putNode, putJoint, putFlush, putFlushes, FlushReady, Flushed, FlushedIf, recordGates, gatesOver}
+use Rattle.convert.specs.Code.Raw.{Writing, writing, putOp, putNode, putJoint, putFlush, putFlushes, FlushReady, Flushed, FlushedIf, recordFrom, gatesOver}
 use mathlib.Core.Bool.{Bool, true, false}
 use Rattle.arena.specs.Builder.{overlay, startFrame}
-use Rattle.convert.proofs.counts.RecordSteps.{total-append}
 
 -- what a rotation more promises
-abbrev Turned : ℕ → List ℕ → ℕ → ℕ → ℕ → List ℕ → Type 0
-Turned u os x k u′ os′ = (u′ ≡ u + 1) × (os′ ≡ sets os (operationWords * u) (rotateWords x k))
+abbrev Turned : ℕ → ℕ → List ℕ → ℕ → ℕ → ℕ → List ℕ → Type 0
+Turned i u os x k u′ os′ = (u′ ≡ u + 1) × (os′ ≡ sets os (operationWords * u) (rotateWords x k i))
 
-one-turn : (g : Gate) (x k : ℕ) {c : ℕ} {ns : List ℕ} {u : ℕ} {os : List ℕ} {c′ u′ : ℕ} {os′ : List ℕ} → putFlush g (writing c ns u os) ≡ putOp (rotateWords x k) (writing c ns u os)
-    → writtenNodes g ≡ 0 → writtenOps g ≡ 1 → Turned u os x k u′ os′ → c′ ≡ c → Flushed (g ∷ []) c ns u os c′ ns u′ os′
+one-turn : (i : ℕ) (g : Gate) (x k : ℕ) {c : ℕ} {ns : List ℕ} {u : ℕ} {os : List ℕ} {c′ u′ : ℕ} {os′ : List ℕ} → putFlush i g (writing c ns u os) ≡ putOp (rotateWords x k i) (writing c ns u os)
+    → writtenNodes g ≡ 0 → writtenOps g ≡ 1 → Turned i u os x k u′ os′ → c′ ≡ c → Flushed (from i g ∷ []) c ns u os c′ ns u′ os′
 unfolding putFlushes
-one-turn g x k {c} {ns} {u} {os} e none one t ec = record {
+one-turn i g x k {c} {ns} {u} {os} e none one t ec = record {
   same = rw (ec, t .0, t .1) (sym e);
   counted = omega arith;
   turned = let h = t .0 in omega arith;
 }
 
-module _ {c : ℕ} {ns : List ℕ} {u : ℕ} {os : List ℕ} {x c′ u₁ u′ : ℕ} {os′ : List ℕ} (q : ℕ) (m : (c′ ≡ c) × (u′ ≡ u₁)) where
-  pub x-flushed : x ≡ idX q → Turned u os x 4 u₁ os′ → Flushed (gateX q ∷ []) c ns u os c′ ns u′ os′
+module _ {c : ℕ} {ns : List ℕ} {u : ℕ} {os : List ℕ} {x c′ u₁ u′ : ℕ} {os′ : List ℕ} (i q : ℕ) (m : (c′ ≡ c) × (u′ ≡ u₁)) where
+  pub x-flushed : x ≡ idX q → Turned i u os x 4 u₁ os′ → Flushed (from i (gateX q) ∷ []) c ns u os c′ ns u′ os′
   unfolding putFlush
-  x-flushed e t = one-turn (gateX q) (idX q) 4 refl (omega arith) (omega arith) (m .1 ∙ t .0, rw (← e) (t .1)) (m .0)
+  x-flushed e t = one-turn i (gateX q) (idX q) 4 refl (omega arith) (omega arith) (m .1 ∙ t .0, rw (← e) (t .1)) (m .0)
 
-  pub z-flushed : x ≡ idZ q → Turned u os x 4 u₁ os′ → Flushed (gateZ q ∷ []) c ns u os c′ ns u′ os′
+  pub z-flushed : x ≡ idZ q → Turned i u os x 4 u₁ os′ → Flushed (from i (gateZ q) ∷ []) c ns u os c′ ns u′ os′
   unfolding putFlush
-  z-flushed e t = one-turn (gateZ q) (idZ q) 4 refl (omega arith) (omega arith) (m .1 ∙ t .0, rw (← e) (t .1)) (m .0)
+  z-flushed e t = one-turn i (gateZ q) (idZ q) 4 refl (omega arith) (omega arith) (m .1 ∙ t .0, rw (← e) (t .1)) (m .0)
 
-  pub s-flushed : x ≡ idZ q → Turned u os x 2 u₁ os′ → Flushed (gateS q ∷ []) c ns u os c′ ns u′ os′
+  pub s-flushed : x ≡ idZ q → Turned i u os x 2 u₁ os′ → Flushed (from i (gateS q) ∷ []) c ns u os c′ ns u′ os′
   unfolding putFlush
-  s-flushed e t = one-turn (gateS q) (idZ q) 2 refl (omega arith) (omega arith) (m .1 ∙ t .0, rw (← e) (t .1)) (m .0)
+  s-flushed e t = one-turn i (gateS q) (idZ q) 2 refl (omega arith) (omega arith) (m .1 ∙ t .0, rw (← e) (t .1)) (m .0)
 
-  pub sdg-flushed : x ≡ idZ q → Turned u os x 6 u₁ os′ → Flushed (gateSdg q ∷ []) c ns u os c′ ns u′ os′
+  pub sdg-flushed : x ≡ idZ q → Turned i u os x 6 u₁ os′ → Flushed (from i (gateSdg q) ∷ []) c ns u os c′ ns u′ os′
   unfolding putFlush
-  sdg-flushed e t = one-turn (gateSdg q) (idZ q) 6 refl (omega arith) (omega arith) (m .1 ∙ t .0, rw (← e) (t .1)) (m .0)
+  sdg-flushed e t = one-turn i (gateSdg q) (idZ q) 6 refl (omega arith) (omega arith) (m .1 ∙ t .0, rw (← e) (t .1)) (m .0)
 
-pub h-flushed : {c : ℕ} {ns : List ℕ} {u : ℕ} {os : List ℕ} {x z c′ u₁ u₂ u₃ u′ : ℕ} {os₁ os₂ os₃ : List ℕ} (q : ℕ) → z ≡ idZ q → x ≡ idX q
-    → Turned u os z 2 u₁ os₁ → Turned u₁ os₁ x 2 u₂ os₂ → Turned u₂ os₂ z 2 u₃ os₃ → (c′ ≡ c) × (u′ ≡ u₃)
-    → Flushed (gateH q ∷ []) c ns u os c′ ns u′ os₃
+pub h-flushed : {c : ℕ} {ns : List ℕ} {u : ℕ} {os : List ℕ} {x z c′ u₁ u₂ u₃ u′ : ℕ} {os₁ os₂ os₃ : List ℕ} (i q : ℕ) → z ≡ idZ q → x ≡ idX q
+    → Turned i u os z 2 u₁ os₁ → Turned i u₁ os₁ x 2 u₂ os₂ → Turned i u₂ os₂ z 2 u₃ os₃ → (c′ ≡ c) × (u′ ≡ u₃)
+    → Flushed (from i (gateH q) ∷ []) c ns u os c′ ns u′ os₃
 unfolding putFlushes putFlush
-h-flushed {c} {ns} {u} {os} q ez ex t₁ t₂ t₃ m = record {
+h-flushed {c} {ns} {u} {os} i q ez ex t₁ t₂ t₃ m = record {
   same = rw (m .0, m .1, t₃ .0, t₃ .1, t₂ .0, t₂ .1, t₁ .0, t₁ .1, ez, ex);
   counted = let h = m .0 in omega arith;
   turned = let h = m .1 in let h₁ = t₁ .0 in let h₂ = t₂ .0 in let h₃ = t₃ .0 in omega arith;
 }
 
-pub joint-put : (c : ℕ) (ns : List ℕ) (u : ℕ) (os : List ℕ) (l r : ℕ) {j c₁ u₁ u₂ u₃ c′ u′ : ℕ} {ns₁ os₁ os₂ os₃ : List ℕ} → j ≡ 4 * c
+pub joint-put : (i c : ℕ) (ns : List ℕ) (u : ℕ) (os : List ℕ) (l r : ℕ) {j c₁ u₁ u₂ u₃ c′ u′ : ℕ} {ns₁ os₁ os₂ os₃ : List ℕ} → j ≡ 4 * c
     → (c₁ ≡ c + 1) × (ns₁ ≡ putNode l r (writing c ns u os) .nodes)
-    → Turned u os l 2 u₁ os₁ → Turned u₁ os₁ r 2 u₂ os₂ → Turned u₂ os₂ j 6 u₃ os₃ → (c′ ≡ c₁) × (u′ ≡ u₃)
-    → writing c′ ns₁ u′ os₃ ≡ putJoint l r (writing c ns u os)
+    → Turned i u os l 2 u₁ os₁ → Turned i u₁ os₁ r 2 u₂ os₂ → Turned i u₂ os₂ j 6 u₃ os₃ → (c′ ≡ c₁) × (u′ ≡ u₃)
+    → writing c′ ns₁ u′ os₃ ≡ putJoint i l r (writing c ns u os)
 unfolding putJoint
-joint-put c ns u os l r ej n₁ t₁ t₂ t₃ m = rw (m .0, m .1, n₁ .0, n₁ .1, t₃ .0, t₃ .1, t₂ .0, t₂ .1, t₁ .0, t₁ .1, ej)
+joint-put i c ns u os l r ej n₁ t₁ t₂ t₃ m = rw (m .0, m .1, n₁ .0, n₁ .1, t₃ .0, t₃ .1, t₂ .0, t₂ .1, t₁ .0, t₁ .1, ej)
 
-joint-flushed : (g : Gate) (l r : ℕ) {c : ℕ} {ns : List ℕ} {u : ℕ} {os : List ℕ} {c′ : ℕ} {ns′ : List ℕ} {u′ : ℕ} {os′ : List ℕ}
-    → putFlush g (writing c ns u os) ≡ putJoint l r (writing c ns u os) → writtenNodes g ≡ 1 → writtenOps g ≡ 3
-    → writing c′ ns′ u′ os′ ≡ putJoint l r (writing c ns u os) → Flushed (g ∷ []) c ns u os c′ ns′ u′ os′
+joint-flushed : (i : ℕ) (g : Gate) (l r : ℕ) {c : ℕ} {ns : List ℕ} {u : ℕ} {os : List ℕ} {c′ : ℕ} {ns′ : List ℕ} {u′ : ℕ} {os′ : List ℕ}
+    → putFlush i g (writing c ns u os) ≡ putJoint i l r (writing c ns u os) → writtenNodes g ≡ 1 → writtenOps g ≡ 3
+    → writing c′ ns′ u′ os′ ≡ putJoint i l r (writing c ns u os) → Flushed (from i g ∷ []) c ns u os c′ ns′ u′ os′
 unfolding putFlushes putJoint
-joint-flushed g l r {c} {ns} {u} {os} st one three e = record {
+joint-flushed i g l r {c} {ns} {u} {os} st one three e = record {
   same = e ∙ sym st;
   counted = ap (λ (s : Writing). s .count) e ∙ omega arith;
   turned = ap (λ (s : Writing). s .used) e ∙ omega arith;
 }
 
-pub cnot-flushed : {c : ℕ} {ns : List ℕ} {u : ℕ} {os : List ℕ} {c′ : ℕ} {ns′ : List ℕ} {u′ : ℕ} {os′ : List ℕ} {l r : ℕ} (a b : ℕ) → l ≡ idZ a → r ≡ idX b
-    → writing c′ ns′ u′ os′ ≡ putJoint l r (writing c ns u os) → Flushed (gateCnot a b ∷ []) c ns u os c′ ns′ u′ os′
+pub cnot-flushed : {c : ℕ} {ns : List ℕ} {u : ℕ} {os : List ℕ} {c′ : ℕ} {ns′ : List ℕ} {u′ : ℕ} {os′ : List ℕ} {l r : ℕ} (i a b : ℕ) → l ≡ idZ a → r ≡ idX b
+    → writing c′ ns′ u′ os′ ≡ putJoint i l r (writing c ns u os) → Flushed (from i (gateCnot a b) ∷ []) c ns u os c′ ns′ u′ os′
 unfolding putFlush
-cnot-flushed a b el er e = joint-flushed (gateCnot a b) (idZ a) (idX b) refl (omega arith) (omega arith) (rw (← el, ← er) e)
+cnot-flushed i a b el er e = joint-flushed i (gateCnot a b) (idZ a) (idX b) refl (omega arith) (omega arith) (rw (← el, ← er) e)
 
-pub cz-flushed : {c : ℕ} {ns : List ℕ} {u : ℕ} {os : List ℕ} {c′ : ℕ} {ns′ : List ℕ} {u′ : ℕ} {os′ : List ℕ} {l r : ℕ} (a b : ℕ) → l ≡ idZ a → r ≡ idZ b
-    → writing c′ ns′ u′ os′ ≡ putJoint l r (writing c ns u os) → Flushed (gateCz a b ∷ []) c ns u os c′ ns′ u′ os′
+pub cz-flushed : {c : ℕ} {ns : List ℕ} {u : ℕ} {os : List ℕ} {c′ : ℕ} {ns′ : List ℕ} {u′ : ℕ} {os′ : List ℕ} {l r : ℕ} (i a b : ℕ) → l ≡ idZ a → r ≡ idZ b
+    → writing c′ ns′ u′ os′ ≡ putJoint i l r (writing c ns u os) → Flushed (from i (gateCz a b) ∷ []) c ns u os c′ ns′ u′ os′
 unfolding putFlush
-cz-flushed a b el er e = joint-flushed (gateCz a b) (idZ a) (idZ b) refl (omega arith) (omega arith) (rw (← el, ← er) e)
+cz-flushed i a b el er e = joint-flushed i (gateCz a b) (idZ a) (idZ b) refl (omega arith) (omega arith) (rw (← el, ← er) e)
 
 -- ---- several gates
 
-pub flush-head : {n : ℕ} {g : Gate} {gs : List Gate} {c : ℕ} {ns : List ℕ} {u : ℕ} {os : List ℕ} → FlushReady n (g ∷ gs) c ns u os → FlushReady n (g ∷ []) c ns u os
+pub flush-head : {n : ℕ} {g : From Gate} {gs : List (From Gate)} {c : ℕ} {ns : List ℕ} {u : ℕ} {os : List ℕ} → FlushReady n (g ∷ gs) c ns u os → FlushReady n (g ∷ []) c ns u os
 flush-head r = record {
   valid = (r .valid .0, tt);
   qubits = r .qubits;
@@ -95,7 +95,7 @@ flush-head r = record {
   place = omega arith;
 }
 
-pub flush-tail : {n : ℕ} {g : Gate} {gs : List Gate} {c : ℕ} {ns : List ℕ} {u : ℕ} {os : List ℕ} {c′ : ℕ} {ns′ : List ℕ} {u′ : ℕ} {os′ : List ℕ} → FlushReady n (g ∷ gs) c ns u os
+pub flush-tail : {n : ℕ} {g : From Gate} {gs : List (From Gate)} {c : ℕ} {ns : List ℕ} {u : ℕ} {os : List ℕ} {c′ : ℕ} {ns′ : List ℕ} {u′ : ℕ} {os′ : List ℕ} → FlushReady n (g ∷ gs) c ns u os
     → Flushed (g ∷ []) c ns u os c′ ns′ u′ os′ → length ns′ ≡ length ns → length os′ ≡ length os → FlushReady n gs c′ ns′ u′ os′
 flush-tail r d ln lo = record {
   valid = r .valid .1;
@@ -110,24 +110,28 @@ pub none-flushed : {c : ℕ} {ns : List ℕ} {u : ℕ} {os : List ℕ} → Flush
 unfolding putFlushes
 none-flushed = record { same = refl; counted = omega arith; turned = omega arith }
 
-pub more-flushed : {g : Gate} {gs : List Gate} {c : ℕ} {ns : List ℕ} {u : ℕ} {os : List ℕ} {c₁ : ℕ} {ns₁ : List ℕ} {u₁ : ℕ} {os₁ : List ℕ} {c₂ : ℕ} {ns₂ : List ℕ} {u₂ : ℕ} {os₂ : List ℕ}
+pub more-flushed : {g : From Gate} {gs : List (From Gate)} {c : ℕ} {ns : List ℕ} {u : ℕ} {os : List ℕ} {c₁ : ℕ} {ns₁ : List ℕ} {u₁ : ℕ} {os₁ : List ℕ} {c₂ : ℕ} {ns₂ : List ℕ} {u₂ : ℕ} {os₂ : List ℕ}
     → Flushed (g ∷ []) c ns u os c₁ ns₁ u₁ os₁ → Flushed gs c₁ ns₁ u₁ os₁ c₂ ns₂ u₂ os₂ → Flushed (g ∷ gs) c ns u os c₂ ns₂ u₂ os₂
 unfolding putFlushes
 more-flushed a b = record { same = b .same ∙ rw (a .same); counted = omega arith; turned = omega arith }
 
-valid-split : (n : ℕ) (gs hs : List Gate) → AllValid n (gs ++ hs) → AllValid n gs × AllValid n hs
+total-over : (f : Gate → ℕ) (gs hs : List (From Gate)) → total f (withoutIndex (gs ++ hs)) ≡ total f (withoutIndex gs) + total f (withoutIndex hs)
+total-over f [] hs = omega arith
+total-over f (g ∷ gs) hs = omega (arith, total-over f gs hs)
+
+valid-split : (n : ℕ) (gs hs : List (From Gate)) → AllValid n (withoutIndex (gs ++ hs)) → AllValid n (withoutIndex gs) × AllValid n (withoutIndex hs)
 valid-split n [] hs v = (tt, v)
 valid-split n (g ∷ gs) hs v = let r = valid-split n gs hs (v .1) in ((v .0, r .0), r .1)
 
-flushes-append : (gs hs : List Gate) (s : Writing) → putFlushes (gs ++ hs) s ≡ putFlushes hs (putFlushes gs s)
+flushes-append : (gs hs : List (From Gate)) (s : Writing) → putFlushes (gs ++ hs) s ≡ putFlushes hs (putFlushes gs s)
 unfolding putFlushes
 flushes-append [] hs s = refl
-flushes-append (g ∷ gs) hs s = flushes-append gs hs (putFlush g s)
+flushes-append (g ∷ gs) hs s = flushes-append gs hs (putFlush (g .index) (g .what) s)
 
-flush-first : (n : ℕ) (gs hs : List Gate) (c : ℕ) (ns : List ℕ) (u : ℕ) (os : List ℕ) → FlushReady n (gs ++ hs) c ns u os → FlushReady n gs c ns u os
+flush-first : (n : ℕ) (gs hs : List (From Gate)) (c : ℕ) (ns : List ℕ) (u : ℕ) (os : List ℕ) → FlushReady n (gs ++ hs) c ns u os → FlushReady n gs c ns u os
 flush-first n gs hs c ns u os r =
-    let t = total-append writtenNodes gs hs in
-    let s = total-append writtenOps gs hs in
+    let t = total-over writtenNodes gs hs in
+    let s = total-over writtenOps gs hs in
     record {
       valid = valid-split n gs hs (r .valid) .0;
       qubits = r .qubits;
@@ -137,11 +141,11 @@ flush-first n gs hs c ns u os r =
       place = omega arith;
     }
 
-flush-last : (n : ℕ) (gs hs : List Gate) (c : ℕ) (ns : List ℕ) (u : ℕ) (os : List ℕ) (c′ : ℕ) (ns′ : List ℕ) (u′ : ℕ) (os′ : List ℕ) → FlushReady n (gs ++ hs) c ns u os
+flush-last : (n : ℕ) (gs hs : List (From Gate)) (c : ℕ) (ns : List ℕ) (u : ℕ) (os : List ℕ) (c′ : ℕ) (ns′ : List ℕ) (u′ : ℕ) (os′ : List ℕ) → FlushReady n (gs ++ hs) c ns u os
     → Flushed gs c ns u os c′ ns′ u′ os′ → length ns′ ≡ length ns → length os′ ≡ length os → FlushReady n hs c′ ns′ u′ os′
 flush-last n gs hs c ns u os c′ ns′ u′ os′ r d ln lo =
-    let t = total-append writtenNodes gs hs in
-    let s = total-append writtenOps gs hs in
+    let t = total-over writtenNodes gs hs in
+    let s = total-over writtenOps gs hs in
     record {
       valid = valid-split n gs hs (r .valid) .1;
       qubits = r .qubits;
@@ -151,11 +155,11 @@ flush-last n gs hs c ns u os c′ ns′ u′ os′ r d ln lo =
       place = omega (arith, d .turned, r .place);
     }
 
-flushed-append : (gs hs : List Gate) (c : ℕ) (ns : List ℕ) (u : ℕ) (os : List ℕ) (c₁ : ℕ) (ns₁ : List ℕ) (u₁ : ℕ) (os₁ : List ℕ) (c₂ : ℕ) (ns₂ : List ℕ) (u₂ : ℕ) (os₂ : List ℕ)
+flushed-append : (gs hs : List (From Gate)) (c : ℕ) (ns : List ℕ) (u : ℕ) (os : List ℕ) (c₁ : ℕ) (ns₁ : List ℕ) (u₁ : ℕ) (os₁ : List ℕ) (c₂ : ℕ) (ns₂ : List ℕ) (u₂ : ℕ) (os₂ : List ℕ)
     → Flushed gs c ns u os c₁ ns₁ u₁ os₁ → Flushed hs c₁ ns₁ u₁ os₁ c₂ ns₂ u₂ os₂ → Flushed (gs ++ hs) c ns u os c₂ ns₂ u₂ os₂
 flushed-append gs hs c ns u os c₁ ns₁ u₁ os₁ c₂ ns₂ u₂ os₂ a b =
-    let t = total-append writtenNodes gs hs in
-    let s = total-append writtenOps gs hs in
+    let t = total-over writtenNodes gs hs in
+    let s = total-over writtenOps gs hs in
     record {
       same = b .same ∙ ap (putFlushes hs) (a .same) ∙ sym (flushes-append gs hs (writing c ns u os));
       counted = omega (arith, a .counted, b .counted);
@@ -165,7 +169,7 @@ flushed-append gs hs c ns u os c₁ ns₁ u₁ os₁ c₂ ns₂ u₂ os₂ a b =
 -- ---- the records from one on
 
 gates-more : (gs : List ℕ) (i k m : ℕ) → k < m
-    → gatesOver gs (i + k) (m - k) ≡ recordGates (kindOf (getD gs (4 * (i + k)) 0)) (getD gs (4 * (i + k) + 1) 0) (getD gs (4 * (i + k) + 2) 0) ++ gatesOver gs (i + (k + 1)) (m - (k + 1))
+    → gatesOver gs (i + k) (m - k) ≡ recordFrom (i + k) (kindOf (getD gs (4 * (i + k)) 0)) (getD gs (4 * (i + k) + 1) 0) (getD gs (4 * (i + k) + 2) 0) ++ gatesOver gs (i + (k + 1)) (m - (k + 1))
 gates-more gs i k m h =
     let e : m - k ≡ suc (m - (k + 1)) = omega arith in
     let f : i + (k + 1) ≡ suc (i + k) = omega arith in
@@ -187,8 +191,8 @@ flush-start n gs i m c ns u os r =
 
 module _ (n : ℕ) (gs : List ℕ) (i m : ℕ) (c₀ : ℕ) (ns₀ : List ℕ) (u₀ : ℕ) (os₀ : List ℕ) (c : ℕ) (ns : List ℕ) (u : ℕ) (os : List ℕ) (k : ℕ)
     (at : FlushAt n gs i m c₀ ns₀ u₀ os₀ c ns u os k) (h : k < m) where
-  abbrev these : List Gate
-  these = recordGates (kindOf (getD gs (4 * (i + k)) 0)) (getD gs (4 * (i + k) + 1) 0) (getD gs (4 * (i + k) + 2) 0)
+  abbrev these : List (From Gate)
+  these = recordFrom (i + k) (kindOf (getD gs (4 * (i + k)) 0)) (getD gs (4 * (i + k) + 1) 0) (getD gs (4 * (i + k) + 2) 0)
 
   pub flush-one : FlushReady n these c ns u os
   flush-one = flush-first n these (gatesOver gs (i + (k + 1)) (m - (k + 1))) c ns u os (rw (gates-more gs i k m h) at (at .ready))
@@ -212,9 +216,9 @@ flush-end n gs i m c₀ ns₀ u₀ os₀ c ns u os k at h =
 no-both : {f : Bool} → f ≡ true → f ≡ false → ⊥
 no-both p q = let z : _≡_ {A = ℕ} 0 1 = cc in omega arith
 
-pub not-flushed : {f : Bool} (n : ℕ) (gs : List Gate) {c : ℕ} {ns fs : List ℕ} {u : ℕ} {os : List ℕ} → f ≡ false → FlushedIf f n gs c ns fs u os c ns fs u os
+pub not-flushed : {f : Bool} (n : ℕ) (gs : List (From Gate)) {c : ℕ} {ns fs : List ℕ} {u : ℕ} {os : List ℕ} → f ≡ false → FlushedIf f n gs c ns fs u os c ns fs u os
 not-flushed n gs e = record { is = λ on. absurd (no-both on e); frame = λ on. absurd (no-both on e); not = λ off. (refl, refl, refl, refl, refl) }
 
-pub is-flushed : {f : Bool} (n : ℕ) {gs : List Gate} {c : ℕ} {ns fs : List ℕ} {u : ℕ} {os : List ℕ} {c′ : ℕ} {ns′ fs′ : List ℕ} {u′ : ℕ} {os′ : List ℕ} → f ≡ true
+pub is-flushed : {f : Bool} (n : ℕ) {gs : List (From Gate)} {c : ℕ} {ns fs : List ℕ} {u : ℕ} {os : List ℕ} {c′ : ℕ} {ns′ fs′ : List ℕ} {u′ : ℕ} {os′ : List ℕ} → f ≡ true
     → Flushed gs c ns u os c′ ns′ u′ os′ → fs′ ≡ overlay (startFrame n) fs → FlushedIf f n gs c ns fs u os c′ ns′ fs′ u′ os′
 is-flushed n e d s = record { is = λ on. d; frame = λ on. s; not = λ off. absurd (no-both e off) }

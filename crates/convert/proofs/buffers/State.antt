@@ -11,14 +11,13 @@ use Rattle.arena.specs.Operations.{rotateWords, measureWords}
 use Rattle.arena.specs.Builder.{overlay, startFrame}
 use Rattle.arena.proofs.Overlay.{length-imageWords}
 use Rattle.convert.specs.Types.{Bit}
-use Rattle.convert.specs.Records.{GateKind, KindH, KindX, KindZ, KindS, KindSdg, KindT, KindTdg, KindCnot, KindCz, KindCcx, KindCcz, KindMeasure, KindY, KindSx, KindSwap, KindCy, Unsupported, elT, elTdg, elCcx, elCcz, elMeasure, lowerAs, AllProper}
+use Rattle.convert.specs.Records.{GateKind, KindH, KindX, KindZ, KindS, KindSdg, KindT, KindTdg, KindCnot, KindCz, KindCcx, KindCcz, KindMeasure, KindY, KindSx, KindSwap, KindCy, Unsupported, Placed, elT, elTdg, elCcx, elCcz, elMeasure, lowerAs, AllProper}
 use Rattle.arena.specs.Limits.{maxCbits, operationWords}
 use Rattle.convert.specs.Frame.{Arena, word, pushed, frameRun, gateNodes, total}
 use Rattle.convert.specs.Words.{Words, flat, flushGates, flushWords, fourPushed, sevenOps, writeSeven, write}
-use Rattle.convert.specs.Code.Needs.{writtenNodes, writtenOps}
-use Rattle.convert.specs.Code.Raw.{arena, putRun, Ran, Writing, writing, putNode, Flushed, putFlushes, FlushedIf, putRows, putFour, putSeven, putRecord, recordGates, costOf, loneNodes}
-use Rattle.convert.proofs.counts.RecordSteps.{framed, writeRecord}
-use Rattle.convert.proofs.buffers.Words.{laid, Even, even-run, put-run, lying, Square, putAll, Fours, put-all, square-all, noded, put-node, square-node, flushes-lying}
+use Rattle.convert.specs.Code.Raw.{arena, putRun, Ran, Writing, writing, putNode, Flushed, putFlushes, FlushedIf, putRows, putFour, putSeven, putRecord, flushedNodes, flushedOps, recordGates, costOf, loneNodes}
+use Rattle.convert.proofs.counts.RecordSteps.{unplaced, framed, writeRecord}
+use Rattle.convert.proofs.buffers.Words.{laid, Even, even-run, put-run, lying, Square, putAll, Sized, put-all, square-all, noded, put-node, square-node, flushes-lying}
 
 -- c nodes and u operations are used in the buffers, and they are those of w, over what the buffers had
 pub record Stands (n : ℕ) (ns₀ fs₀ os₀ : List ℕ) (c : ℕ) (ns fs : List ℕ) (u : ℕ) (os : List ℕ) (w : Words) : Type 0 where
@@ -72,23 +71,23 @@ length-start n = rw (length-append, length-imageWords 1 n, length-imageWords 2 n
 pub overlay-again : (us vs ws : List ℕ) → length us ≡ length vs → overlay us (overlay vs ws) ≡ overlay us ws
 overlay-again us vs ws e = ap (λ (l : List ℕ). us ++ l) (drop-at vs (drop (length vs) ws) (length us) (sym e) ∙ rw e)
 
-pub stands-flush : (n : ℕ) (gs : List Gate) (ns₀ fs₀ os₀ : List ℕ) (c : ℕ) (ns fs : List ℕ) (u : ℕ) (os : List ℕ) (w : Words) (c′ : ℕ) (ns′ fs′ : List ℕ) (u′ : ℕ) (os′ : List ℕ)
-    → Stands n ns₀ fs₀ os₀ c ns fs u os w → Flushed gs c ns u os c′ ns′ u′ os′ → fs′ ≡ overlay (startFrame n) fs
-    → 2 * (c + total writtenNodes gs) ≤ length ns₀ → operationWords * (u + total writtenOps gs) ≤ length os₀
+pub stands-flush : (n : ℕ) (gs : List (Placed Gate)) (ns₀ fs₀ os₀ : List ℕ) (c : ℕ) (ns fs : List ℕ) (u : ℕ) (os : List ℕ) (w : Words) (c′ : ℕ) (ns′ fs′ : List ℕ) (u′ : ℕ) (os′ : List ℕ)
+    → Stands n ns₀ fs₀ os₀ c ns fs u os w → Flushed (unplaced gs) c ns u os c′ ns′ u′ os′ → fs′ ≡ overlay (startFrame n) fs
+    → 2 * (c + flushedNodes (unplaced gs)) ≤ length ns₀ → operationWords * (u + flushedOps (unplaced gs)) ≤ length os₀
     → Stands n ns₀ fs₀ os₀ c′ ns′ fs′ u′ os′ (flushWords n gs w)
 unfolding flushWords
 stands-flush n gs ns₀ fs₀ os₀ c ns fs u os w c′ ns′ fs′ u′ os′ s d f rn ro =
-    let rn₂ : 2 * (w .arena .count + total writtenNodes gs) ≤ length ns₀ = rw (s .count) at rn in
-    let ro₂ : operationWords * (length (w .ops) + total writtenOps gs) ≤ length os₀ = rw (s .used) at ro in
+    let rn₂ : 2 * (w .arena .count + flushedNodes (unplaced gs)) ≤ length ns₀ = rw (s .count) at rn in
+    let ro₂ : operationWords * (length (w .ops) + flushedOps (unplaced gs)) ≤ length os₀ = rw (s .used) at ro in
     let l = flushes-lying ns₀ os₀ gs w (square-of s) rn₂ ro₂ in
-    let e : writing c′ ns′ u′ os′ ≡ lying ns₀ os₀ (flushGates gs w) = d .same ∙ ap (putFlushes gs) (open-writing s) ∙ l .0 in
+    let e : writing c′ ns′ u′ os′ ≡ lying ns₀ os₀ (flushGates gs w) = d .same ∙ ap (putFlushes (unplaced gs)) (open-writing s) ∙ l .0 in
     let len = length-start n in
     stands-writing n ns₀ fs₀ os₀ c′ ns′ fs′ u′ os′ w (flushWords n gs w) e (record { nodes = l .1 .nodes; ops = l .1 .ops })
     (f ∙ ap (overlay (startFrame n)) (s .frame) ∙ overlay-again (startFrame n) (w .arena .frame) fs₀ (len ∙ sym (s .even .frame))) len
 
-pub stands-if : (f : Bool) (n : ℕ) (gs : List Gate) (ns₀ fs₀ os₀ : List ℕ) (c : ℕ) (ns fs : List ℕ) (u : ℕ) (os : List ℕ) (w : Words) (c′ : ℕ) (ns′ fs′ : List ℕ) (u′ : ℕ) (os′ : List ℕ)
-    → Stands n ns₀ fs₀ os₀ c ns fs u os w → FlushedIf f n gs c ns fs u os c′ ns′ fs′ u′ os′
-    → 2 * (c + cond f (total writtenNodes gs) 0) ≤ length ns₀ → operationWords * (u + cond f (total writtenOps gs) 0) ≤ length os₀
+pub stands-if : (f : Bool) (n : ℕ) (gs : List (Placed Gate)) (ns₀ fs₀ os₀ : List ℕ) (c : ℕ) (ns fs : List ℕ) (u : ℕ) (os : List ℕ) (w : Words) (c′ : ℕ) (ns′ fs′ : List ℕ) (u′ : ℕ) (os′ : List ℕ)
+    → Stands n ns₀ fs₀ os₀ c ns fs u os w → FlushedIf f n (unplaced gs) c ns fs u os c′ ns′ fs′ u′ os′
+    → 2 * (c + cond f (flushedNodes (unplaced gs)) 0) ≤ length ns₀ → operationWords * (u + cond f (flushedOps (unplaced gs)) 0) ≤ length os₀
     → Stands n ns₀ fs₀ os₀ c′ ns′ fs′ u′ os′ (cond f (flushWords n gs w) w)
 stands-if true n gs ns₀ fs₀ os₀ c ns fs u os w c′ ns′ fs′ u′ os′ s d rn ro = stands-flush n gs ns₀ fs₀ os₀ c ns fs u os w c′ ns′ fs′ u′ os′ s (d .is refl) (d .frame refl) rn ro
 stands-if false n gs ns₀ fs₀ os₀ c ns fs u os w c′ ns′ fs′ u′ os′ s d rn ro =
@@ -106,9 +105,9 @@ stands-if false n gs ns₀ fs₀ os₀ c ns fs u os w c′ ns′ fs′ u′ os�
 -- ---- operations
 
 -- ccx and ccz
-rows-all : (a b d k : ℕ) (s : Writing) → putRows 7 a b d k s ≡ putAll (sevenOps a b d k) s
+rows-all : (i a b d k : ℕ) (s : Writing) → putRows i 7 a b d k s ≡ putAll (sevenOps i a b d k) s
 unfolding putRows putAll
-rows-all a b d k s =
+rows-all i a b d k s =
     let e₁ : k + 1 ≡ suc k = omega arith in
     let e₂ : k + 2 ≡ suc (suc k) = omega arith in
     let e₃ : k + 3 ≡ suc (suc (suc k)) = omega arith in
@@ -134,127 +133,127 @@ four-lying ns os a b d w q room =
       square-node w₃ (4 * w .arena .count) d q₃,
     )
 
-seven-lying : (ns os : List ℕ) (a b d : ℕ) (w : Words) → Square w → 2 * (w .arena .count + 4) ≤ length ns → operationWords * (length (w .ops) + 7) ≤ length os
-    → (putSeven a b d (lying ns os w) ≡ lying ns os (writeSeven a b d w)) × Square (writeSeven a b d w)
+seven-lying : (ns os : List ℕ) (i a b d : ℕ) (w : Words) → Square w → 2 * (w .arena .count + 4) ≤ length ns → operationWords * (length (w .ops) + 7) ≤ length os
+    → (putSeven i a b d (lying ns os w) ≡ lying ns os (writeSeven i a b d w)) × Square (writeSeven i a b d w)
 unfolding putSeven writeSeven
-seven-lying ns os a b d w q rn ro =
+seven-lying ns os i a b d w q rn ro =
     let f = four-lying ns os a b d w q rn in
     let k = w .arena .count in
-    let F : Fours (sevenOps a b d k) = (refl, (refl, (refl, (refl, (refl, (refl, (refl, tt))))))) in (
-      ap (putRows 7 a b d k) (f .0) ∙ rows-all a b d k (lying ns os (four a b d w)) ∙ put-all ns os (sevenOps a b d k) (four a b d w) (f .1) F ro,
-      square-all (sevenOps a b d k) (four a b d w) (f .1) F,
+    let F : Sized (sevenOps i a b d k) = (refl, (refl, (refl, (refl, (refl, (refl, (refl, tt))))))) in (
+      ap (putRows i 7 a b d k) (f .0) ∙ rows-all i a b d k (lying ns os (four a b d w)) ∙ put-all ns os (sevenOps i a b d k) (four a b d w) (f .1) F ro,
+      square-all (sevenOps i a b d k) (four a b d w) (f .1) F,
     )
 
--- what a record writes that is no frame gate
-unfoldable pub writeLone : ℕ → ℕ → GateKind → ℕ → ℕ → ℕ → Words → Words
-writeLone n given KindH a b d w = w
-writeLone n given KindX a b d w = w
-writeLone n given KindZ a b d w = w
-writeLone n given KindS a b d w = w
-writeLone n given KindSdg a b d w = w
-writeLone n given KindT a b d w = write n given (elT a) w
-writeLone n given KindTdg a b d w = write n given (elTdg a) w
-writeLone n given KindCnot a b d w = w
-writeLone n given KindCz a b d w = w
-writeLone n given KindCcx a b d w = write n given (elCcx a b d) w
-writeLone n given KindCcz a b d w = write n given (elCcz a b d) w
-writeLone n given KindMeasure a b d w = write n given (elMeasure a b) w
-writeLone n given KindY a b d w = w
-writeLone n given KindSx a b d w = w
-writeLone n given KindSwap a b d w = w
-writeLone n given KindCy a b d w = w
-writeLone n given Unsupported a b d w = w
+-- what record i writes that is no frame gate
+unfoldable pub writeLone : ℕ → ℕ → ℕ → GateKind → ℕ → ℕ → ℕ → Words → Words
+writeLone n given i KindH a b d w = w
+writeLone n given i KindX a b d w = w
+writeLone n given i KindZ a b d w = w
+writeLone n given i KindS a b d w = w
+writeLone n given i KindSdg a b d w = w
+writeLone n given i KindT a b d w = write n given i (elT a) w
+writeLone n given i KindTdg a b d w = write n given i (elTdg a) w
+writeLone n given i KindCnot a b d w = w
+writeLone n given i KindCz a b d w = w
+writeLone n given i KindCcx a b d w = write n given i (elCcx a b d) w
+writeLone n given i KindCcz a b d w = write n given i (elCcz a b d) w
+writeLone n given i KindMeasure a b d w = write n given i (elMeasure a b) w
+writeLone n given i KindY a b d w = w
+writeLone n given i KindSx a b d w = w
+writeLone n given i KindSwap a b d w = w
+writeLone n given i KindCy a b d w = w
+writeLone n given i Unsupported a b d w = w
 
-pub lone-after : (n given : ℕ) (kind : GateKind) (a b d : ℕ) (w : Words) → writeRecord n given kind a b d w ≡ writeLone n given kind a b d (framed n (recordGates kind a b) w)
+pub lone-after : (n given i : ℕ) (kind : GateKind) (a b d : ℕ) (w : Words) → writeRecord n given i kind a b d w ≡ writeLone n given i kind a b d (framed n (recordGates kind a b) w)
 unfolding writeRecord writeLone recordGates frameRun lowerAs
-lone-after n given KindH a b d w = refl
-lone-after n given KindX a b d w = refl
-lone-after n given KindZ a b d w = refl
-lone-after n given KindS a b d w = refl
-lone-after n given KindSdg a b d w = refl
-lone-after n given KindT a b d w = refl
-lone-after n given KindTdg a b d w = refl
-lone-after n given KindCnot a b d w = refl
-lone-after n given KindCz a b d w = refl
-lone-after n given KindCcx a b d w = refl
-lone-after n given KindCcz a b d w = refl
-lone-after n given KindMeasure a b d w = refl
-lone-after n given KindY a b d w = refl
-lone-after n given KindSx a b d w = refl
-lone-after n given KindSwap a b d w = refl
-lone-after n given KindCy a b d w = refl
-lone-after n given Unsupported a b d w = refl
+lone-after n given i KindH a b d w = refl
+lone-after n given i KindX a b d w = refl
+lone-after n given i KindZ a b d w = refl
+lone-after n given i KindS a b d w = refl
+lone-after n given i KindSdg a b d w = refl
+lone-after n given i KindT a b d w = refl
+lone-after n given i KindTdg a b d w = refl
+lone-after n given i KindCnot a b d w = refl
+lone-after n given i KindCz a b d w = refl
+lone-after n given i KindCcx a b d w = refl
+lone-after n given i KindCcz a b d w = refl
+lone-after n given i KindMeasure a b d w = refl
+lone-after n given i KindY a b d w = refl
+lone-after n given i KindSx a b d w = refl
+lone-after n given i KindSwap a b d w = refl
+lone-after n given i KindCy a b d w = refl
+lone-after n given i Unsupported a b d w = refl
 
-record-lying : (n given : ℕ) (ns os fs : List ℕ) (kind : GateKind) (a b d : ℕ) (w : Words) → Square w → AllProper n maxCbits (lowerAs kind a b d)
+record-lying : (n given i : ℕ) (ns os fs : List ℕ) (kind : GateKind) (a b d : ℕ) (w : Words) → Square w → AllProper n maxCbits (lowerAs kind a b d)
     → 2 * (w .arena .count + loneNodes kind) ≤ length ns → operationWords * (length (w .ops) + costOf kind .operations) ≤ length os
     → ((i : ℕ) → i < n + n → getD fs i 0 ≡ word (w .arena) i)
-    → (putRecord n given kind a b d fs (lying ns os w) ≡ lying ns os (writeLone n given kind a b d w)) × Square (writeLone n given kind a b d w)
+    → (putRecord n given i kind a b d fs (lying ns os w) ≡ lying ns os (writeLone n given i kind a b d w)) × Square (writeLone n given i kind a b d w)
 unfolding costOf putRecord writeLone write putAll lowerAs
-record-lying n given ns os fs KindH a b d w q v rn ro f = (refl, q)
-record-lying n given ns os fs KindX a b d w q v rn ro f = (refl, q)
-record-lying n given ns os fs KindZ a b d w q v rn ro f = (refl, q)
-record-lying n given ns os fs KindS a b d w q v rn ro f = (refl, q)
-record-lying n given ns os fs KindSdg a b d w q v rn ro f = (refl, q)
-record-lying n given ns os fs KindT a b d w q v rn ro f =
-    let vs = rotateWords (word (w .arena) (n + a)) 1 ∷ [] in
+record-lying n given i ns os fs KindH a b d w q v rn ro f = (refl, q)
+record-lying n given i ns os fs KindX a b d w q v rn ro f = (refl, q)
+record-lying n given i ns os fs KindZ a b d w q v rn ro f = (refl, q)
+record-lying n given i ns os fs KindS a b d w q v rn ro f = (refl, q)
+record-lying n given i ns os fs KindSdg a b d w q v rn ro f = (refl, q)
+record-lying n given i ns os fs KindT a b d w q v rn ro f =
+    let vs = rotateWords (word (w .arena) (n + a)) 1 i ∷ [] in
     let h = v .0 in
     rw (f (n + a) (omega arith)) (put-all ns os vs w q (refl, tt) (omega arith), square-all vs w q (refl, tt))
-record-lying n given ns os fs KindTdg a b d w q v rn ro f =
-    let vs = rotateWords (word (w .arena) (n + a)) 7 ∷ [] in
+record-lying n given i ns os fs KindTdg a b d w q v rn ro f =
+    let vs = rotateWords (word (w .arena) (n + a)) 7 i ∷ [] in
     let h = v .0 in
     rw (f (n + a) (omega arith)) (put-all ns os vs w q (refl, tt) (omega arith), square-all vs w q (refl, tt))
-record-lying n given ns os fs KindCnot a b d w q v rn ro f = (refl, q)
-record-lying n given ns os fs KindCz a b d w q v rn ro f = (refl, q)
-record-lying n given ns os fs KindCcx a b d w q v rn ro f =
+record-lying n given i ns os fs KindCnot a b d w q v rn ro f = (refl, q)
+record-lying n given i ns os fs KindCz a b d w q v rn ro f = (refl, q)
+record-lying n given i ns os fs KindCcx a b d w q v rn ro f =
     let ha = v .0 .0 in
     let hb = v .0 .1 in
     let hd = v .0 .2 in
     rw (f (n + a) (omega arith), f (n + b) (omega arith), f d (omega arith))
-    (seven-lying ns os (word (w .arena) (n + a)) (word (w .arena) (n + b)) (word (w .arena) d) w q rn ro)
-record-lying n given ns os fs KindCcz a b d w q v rn ro f =
+    (seven-lying ns os i (word (w .arena) (n + a)) (word (w .arena) (n + b)) (word (w .arena) d) w q rn ro)
+record-lying n given i ns os fs KindCcz a b d w q v rn ro f =
     let ha = v .0 .0 in
     let hb = v .0 .1 in
     let hd = v .0 .2 in
     rw (f (n + a) (omega arith), f (n + b) (omega arith), f (n + d) (omega arith))
-    (seven-lying ns os (word (w .arena) (n + a)) (word (w .arena) (n + b)) (word (w .arena) (n + d)) w q rn ro)
-record-lying n given ns os fs KindMeasure a b d w q v rn ro f =
-    let vs = measureWords (word (w .arena) (n + a)) given (Bit b) ∷ [] in
+    (seven-lying ns os i (word (w .arena) (n + a)) (word (w .arena) (n + b)) (word (w .arena) (n + d)) w q rn ro)
+record-lying n given i ns os fs KindMeasure a b d w q v rn ro f =
+    let vs = measureWords (word (w .arena) (n + a)) given (Bit b) i ∷ [] in
     let h = v .0 .0 in
     rw (f (n + a) (omega arith)) (put-all ns os vs w q (refl, tt) (omega arith), square-all vs w q (refl, tt))
-record-lying n given ns os fs KindY a b d w q v rn ro f = (refl, q)
-record-lying n given ns os fs KindSx a b d w q v rn ro f = (refl, q)
-record-lying n given ns os fs KindSwap a b d w q v rn ro f = (refl, q)
-record-lying n given ns os fs KindCy a b d w q v rn ro f = (refl, q)
-record-lying n given ns os fs Unsupported a b d w q v rn ro f = (refl, q)
+record-lying n given i ns os fs KindY a b d w q v rn ro f = (refl, q)
+record-lying n given i ns os fs KindSx a b d w q v rn ro f = (refl, q)
+record-lying n given i ns os fs KindSwap a b d w q v rn ro f = (refl, q)
+record-lying n given i ns os fs KindCy a b d w q v rn ro f = (refl, q)
+record-lying n given i ns os fs Unsupported a b d w q v rn ro f = (refl, q)
 
-lone-frame : (n given : ℕ) (kind : GateKind) (a b d : ℕ) (w : Words) → writeLone n given kind a b d w .arena .frame ≡ w .arena .frame
+lone-frame : (n given i : ℕ) (kind : GateKind) (a b d : ℕ) (w : Words) → writeLone n given i kind a b d w .arena .frame ≡ w .arena .frame
 unfolding writeLone write writeSeven pushed
-lone-frame n given KindH a b d w = refl
-lone-frame n given KindX a b d w = refl
-lone-frame n given KindZ a b d w = refl
-lone-frame n given KindS a b d w = refl
-lone-frame n given KindSdg a b d w = refl
-lone-frame n given KindT a b d w = refl
-lone-frame n given KindTdg a b d w = refl
-lone-frame n given KindCnot a b d w = refl
-lone-frame n given KindCz a b d w = refl
-lone-frame n given KindCcx a b d w = refl
-lone-frame n given KindCcz a b d w = refl
-lone-frame n given KindMeasure a b d w = refl
-lone-frame n given KindY a b d w = refl
-lone-frame n given KindSx a b d w = refl
-lone-frame n given KindSwap a b d w = refl
-lone-frame n given KindCy a b d w = refl
-lone-frame n given Unsupported a b d w = refl
+lone-frame n given i KindH a b d w = refl
+lone-frame n given i KindX a b d w = refl
+lone-frame n given i KindZ a b d w = refl
+lone-frame n given i KindS a b d w = refl
+lone-frame n given i KindSdg a b d w = refl
+lone-frame n given i KindT a b d w = refl
+lone-frame n given i KindTdg a b d w = refl
+lone-frame n given i KindCnot a b d w = refl
+lone-frame n given i KindCz a b d w = refl
+lone-frame n given i KindCcx a b d w = refl
+lone-frame n given i KindCcz a b d w = refl
+lone-frame n given i KindMeasure a b d w = refl
+lone-frame n given i KindY a b d w = refl
+lone-frame n given i KindSx a b d w = refl
+lone-frame n given i KindSwap a b d w = refl
+lone-frame n given i KindCy a b d w = refl
+lone-frame n given i Unsupported a b d w = refl
 
-pub stands-record : (n given : ℕ) (kind : GateKind) (a b d : ℕ) (ns₀ fs₀ os₀ : List ℕ) (c : ℕ) (ns fs : List ℕ) (u : ℕ) (os : List ℕ) (w : Words) (c′ : ℕ) (ns′ : List ℕ) (u′ : ℕ) (os′ : List ℕ)
-    → Stands n ns₀ fs₀ os₀ c ns fs u os w → AllProper n maxCbits (lowerAs kind a b d) → writing c′ ns′ u′ os′ ≡ putRecord n given kind a b d fs (writing c ns u os)
+pub stands-record : (n given i : ℕ) (kind : GateKind) (a b d : ℕ) (ns₀ fs₀ os₀ : List ℕ) (c : ℕ) (ns fs : List ℕ) (u : ℕ) (os : List ℕ) (w : Words) (c′ : ℕ) (ns′ : List ℕ) (u′ : ℕ) (os′ : List ℕ)
+    → Stands n ns₀ fs₀ os₀ c ns fs u os w → AllProper n maxCbits (lowerAs kind a b d) → writing c′ ns′ u′ os′ ≡ putRecord n given i kind a b d fs (writing c ns u os)
     → 2 * (c + loneNodes kind) ≤ length ns₀ → operationWords * (u + costOf kind .operations) ≤ length os₀
-    → Stands n ns₀ fs₀ os₀ c′ ns′ fs u′ os′ (writeLone n given kind a b d w)
-stands-record n given kind a b d ns₀ fs₀ os₀ c ns fs u os w c′ ns′ u′ os′ s v e rn ro =
+    → Stands n ns₀ fs₀ os₀ c′ ns′ fs u′ os′ (writeLone n given i kind a b d w)
+stands-record n given i kind a b d ns₀ fs₀ os₀ c ns fs u os w c′ ns′ u′ os′ s v e rn ro =
     let rn₂ : 2 * (w .arena .count + loneNodes kind) ≤ length ns₀ = rw (s .count) at rn in
     let ro₂ : operationWords * (length (w .ops) + costOf kind .operations) ≤ length os₀ = rw (s .used) at ro in
     let words : (i : ℕ) → i < n + n → getD fs i 0 ≡ word (w .arena) i = λ i h. ap (λ (l : List ℕ). getD l i 0) (s .frame) ∙ List·getD-append (w .arena .frame) (drop (length (w .arena .frame)) fs₀) 0 i (omega (arith, s .even .frame, h)) in
-    let l = record-lying n given ns₀ os₀ fs kind a b d w (square-of s) v rn₂ ro₂ words in
-    stands-writing n ns₀ fs₀ os₀ c′ ns′ fs u′ os′ w (writeLone n given kind a b d w) (e ∙ ap (putRecord n given kind a b d fs) (open-writing s) ∙ l .0) (l .1)
-    (s .frame ∙ ap (λ (x : List ℕ). overlay x fs₀) (sym (lone-frame n given kind a b d w))) (ap length (lone-frame n given kind a b d w) ∙ s .even .frame)
+    let l = record-lying n given i ns₀ os₀ fs kind a b d w (square-of s) v rn₂ ro₂ words in
+    stands-writing n ns₀ fs₀ os₀ c′ ns′ fs u′ os′ w (writeLone n given i kind a b d w) (e ∙ ap (putRecord n given i kind a b d fs) (open-writing s) ∙ l .0) (l .1)
+    (s .frame ∙ ap (λ (x : List ℕ). overlay x fs₀) (sym (lone-frame n given i kind a b d w))) (ap length (lone-frame n given i kind a b d w) ∙ s .even .frame)

@@ -14,10 +14,13 @@ use Rattle.arena.specs.Limits.{operationWords}
 use Rattle.arena.specs.Builder.{overlay}
 use Rattle.arena.proofs.Overlay.{sets₂, overlay-sets}
 use Rattle.convert.specs.Types.{Phase, One, PlusI, MinusOne, MinusI}
+use Rattle.convert.specs.Records.{Placed}
 use Rattle.convert.specs.Frame.{Arena, pushed, word, multiplied, frameStep, frameRun, gateNodes, total}
 use Rattle.convert.specs.Words.{Words, flat, idX, idZ, flushGate, flushGates}
 use Rattle.convert.specs.Code.Needs.{writtenNodes, writtenOps}
-use Rattle.convert.specs.Code.Raw.{arena, putMultiplied, putStep, putRun, Writing, writing, putOp, putNode, putJoint, putFlush, putFlushes}
+use Rattle.convert.specs.Code.Raw.{arena, putMultiplied, putStep, putRun, Writing, writing, putOp, putNode, putJoint, putFlush, putFlushes, flushedNodes, flushedOps}
+use Rattle.convert.proofs.counts.Needs.{Past, past-gate}
+use Rattle.convert.proofs.counts.RecordSteps.{unplaced}
 
 -- a store among the used words
 pub overlay-set : (new old : List ℕ) (i a : ℕ) → i < length new → overlay (set new i a) old ≡ set (overlay new old) i a
@@ -162,11 +165,11 @@ unfoldable pub putAll : List (List ℕ) → Writing → Writing
 putAll [] s = s
 putAll (v ∷ vs) s = putAll vs (putOp v s)
 
-abbrev pub Fours : List (List ℕ) → Type 0
-Fours [] = Unit {0}
-Fours (v ∷ vs) = (length v ≡ operationWords) × Fours vs
+abbrev pub Sized : List (List ℕ) → Type 0
+Sized [] = Unit {0}
+Sized (v ∷ vs) = (length v ≡ operationWords) × Sized vs
 
-pub put-all : (ns os : List ℕ) (vs : List (List ℕ)) (w : Words) → Square w → Fours vs → operationWords * (length (w .ops) + length vs) ≤ length os
+pub put-all : (ns os : List ℕ) (vs : List (List ℕ)) (w : Words) → Square w → Sized vs → operationWords * (length (w .ops) + length vs) ≤ length os
     → putAll vs (lying ns os w) ≡ lying ns os (more vs w)
 unfolding putAll
 put-all ns os [] w q f room = rw (append-nil (w .ops))
@@ -175,7 +178,7 @@ put-all ns os (v ∷ vs) w q f room =
     ap (putAll vs) (put-op ns os w v q (f .0) (omega arith)) ∙ put-all ns os vs (more (v ∷ []) w) (square-op w v q (f .0)) (f .1) (omega arith)
     ∙ ap (λ (l : List (List ℕ)). lying ns os (record { arena = w .arena; ops = l })) (append-assoc (w .ops) (v ∷ []) vs)
 
-pub square-all : (vs : List (List ℕ)) (w : Words) → Square w → Fours vs → Square (more vs w)
+pub square-all : (vs : List (List ℕ)) (w : Words) → Square w → Sized vs → Square (more vs w)
 square-all [] w q f = record { nodes = q .nodes; ops = rw (append-nil (w .ops)) (q .ops) }
 square-all (v ∷ vs) w q f = rw (← append-assoc (w .ops) (v ∷ []) vs) (square-all vs (more (v ∷ []) w) (square-op w v q (f .0)) (f .1))
 
@@ -192,45 +195,35 @@ square-node w l r q = record { nodes = let h = q .nodes in rw length-append (ome
 
 -- ---- a flush
 
-flush-lying : (ns os : List ℕ) (g : Gate) (w : Words) → Square w → 2 * (w .arena .count + writtenNodes g) ≤ length ns → operationWords * (length (w .ops) + writtenOps g) ≤ length os
-    → (putFlush g (lying ns os w) ≡ lying ns os (flushGate g w)) × Square (flushGate g w)
+flush-lying : (ns os : List ℕ) (i : ℕ) (g : Gate) (w : Words) → Square w → 2 * (w .arena .count + writtenNodes g) ≤ length ns → operationWords * (length (w .ops) + writtenOps g) ≤ length os
+    → (putFlush i g (lying ns os w) ≡ lying ns os (flushGate i g w)) × Square (flushGate i g w)
 unfolding putFlush flushGate putAll putJoint
-flush-lying ns os (gateH q) w s rn ro =
-    let vs = rotateWords (idZ q) 2 ∷ rotateWords (idX q) 2 ∷ rotateWords (idZ q) 2 ∷ [] in
+flush-lying ns os i (gateH q) w s rn ro =
+    let vs = rotateWords (idZ q) 2 i ∷ rotateWords (idX q) 2 i ∷ rotateWords (idZ q) 2 i ∷ [] in
     (put-all ns os vs w s (refl, (refl, (refl, tt))) (omega arith), square-all vs w s (refl, (refl, (refl, tt))))
-flush-lying ns os (gateX q) w s rn ro = (put-all ns os (rotateWords (idX q) 4 ∷ []) w s (refl, tt) (omega arith), square-all (rotateWords (idX q) 4 ∷ []) w s (refl, tt))
-flush-lying ns os (gateZ q) w s rn ro = (put-all ns os (rotateWords (idZ q) 4 ∷ []) w s (refl, tt) (omega arith), square-all (rotateWords (idZ q) 4 ∷ []) w s (refl, tt))
-flush-lying ns os (gateS q) w s rn ro = (put-all ns os (rotateWords (idZ q) 2 ∷ []) w s (refl, tt) (omega arith), square-all (rotateWords (idZ q) 2 ∷ []) w s (refl, tt))
-flush-lying ns os (gateSdg q) w s rn ro = (put-all ns os (rotateWords (idZ q) 6 ∷ []) w s (refl, tt) (omega arith), square-all (rotateWords (idZ q) 6 ∷ []) w s (refl, tt))
-flush-lying ns os (gateCnot c t) w s rn ro =
-    let vs = rotateWords (idZ c) 2 ∷ rotateWords (idX t) 2 ∷ rotateWords (4 * w .arena .count) 6 ∷ [] in
+flush-lying ns os i (gateX q) w s rn ro = (put-all ns os (rotateWords (idX q) 4 i ∷ []) w s (refl, tt) (omega arith), square-all (rotateWords (idX q) 4 i ∷ []) w s (refl, tt))
+flush-lying ns os i (gateZ q) w s rn ro = (put-all ns os (rotateWords (idZ q) 4 i ∷ []) w s (refl, tt) (omega arith), square-all (rotateWords (idZ q) 4 i ∷ []) w s (refl, tt))
+flush-lying ns os i (gateS q) w s rn ro = (put-all ns os (rotateWords (idZ q) 2 i ∷ []) w s (refl, tt) (omega arith), square-all (rotateWords (idZ q) 2 i ∷ []) w s (refl, tt))
+flush-lying ns os i (gateSdg q) w s rn ro = (put-all ns os (rotateWords (idZ q) 6 i ∷ []) w s (refl, tt) (omega arith), square-all (rotateWords (idZ q) 6 i ∷ []) w s (refl, tt))
+flush-lying ns os i (gateCnot c t) w s rn ro =
+    let vs = rotateWords (idZ c) 2 i ∷ rotateWords (idX t) 2 i ∷ rotateWords (4 * w .arena .count) 6 i ∷ [] in
     let v = noded (idZ c) (idX t) w in (
       ap (putAll vs) (put-node ns os w (idZ c) (idX t) s (omega arith)) ∙ put-all ns os vs v (square-node w (idZ c) (idX t) s) (refl, (refl, (refl, tt))) (omega arith),
       square-all vs v (square-node w (idZ c) (idX t) s) (refl, (refl, (refl, tt))),
     )
-flush-lying ns os (gateCz c t) w s rn ro =
-    let vs = rotateWords (idZ c) 2 ∷ rotateWords (idZ t) 2 ∷ rotateWords (4 * w .arena .count) 6 ∷ [] in
+flush-lying ns os i (gateCz c t) w s rn ro =
+    let vs = rotateWords (idZ c) 2 i ∷ rotateWords (idZ t) 2 i ∷ rotateWords (4 * w .arena .count) 6 i ∷ [] in
     let v = noded (idZ c) (idZ t) w in (
       ap (putAll vs) (put-node ns os w (idZ c) (idZ t) s (omega arith)) ∙ put-all ns os vs v (square-node w (idZ c) (idZ t) s) (refl, (refl, (refl, tt))) (omega arith),
       square-all vs v (square-node w (idZ c) (idZ t) s) (refl, (refl, (refl, tt))),
     )
 
-past-gate : (g : Gate) (w : Words) → (flushGate g w .arena .count ≡ w .arena .count + writtenNodes g) × (length (flushGate g w .ops) ≡ length (w .ops) + writtenOps g)
-unfolding flushGate pushed
-past-gate (gateH q) w = (omega arith, simp length-append)
-past-gate (gateX q) w = (omega arith, simp length-append)
-past-gate (gateZ q) w = (omega arith, simp length-append)
-past-gate (gateS q) w = (omega arith, simp length-append)
-past-gate (gateSdg q) w = (omega arith, simp length-append)
-past-gate (gateCnot c t) w = (omega arith, simp length-append)
-past-gate (gateCz c t) w = (omega arith, simp length-append)
-
-pub flushes-lying : (ns os : List ℕ) (gs : List Gate) (w : Words) → Square w → 2 * (w .arena .count + total writtenNodes gs) ≤ length ns → operationWords * (length (w .ops) + total writtenOps gs) ≤ length os
-    → (putFlushes gs (lying ns os w) ≡ lying ns os (flushGates gs w)) × Square (flushGates gs w)
+pub flushes-lying : (ns os : List ℕ) (gs : List (Placed Gate)) (w : Words) → Square w → 2 * (w .arena .count + flushedNodes (unplaced gs)) ≤ length ns
+    → operationWords * (length (w .ops) + flushedOps (unplaced gs)) ≤ length os → (putFlushes (unplaced gs) (lying ns os w) ≡ lying ns os (flushGates gs w)) × Square (flushGates gs w)
 unfolding putFlushes flushGates
 flushes-lying ns os [] w s rn ro = (refl, s)
 flushes-lying ns os (g ∷ gs) w s rn ro =
-    let f = flush-lying ns os g w s (omega arith) (omega arith) in
-    let p = past-gate g w in
-    let r = flushes-lying ns os gs (flushGate g w) (f .1) (omega (arith, p .0)) (omega (arith, p .1)) in
-    (ap (putFlushes gs) (f .0) ∙ r .0, r .1)
+    let f = flush-lying ns os (g .index) (g .gate) w s (omega arith) (omega arith) in
+    let p = past-gate (g .index) (g .gate) w in
+    let r = flushes-lying ns os gs (flushGate (g .index) (g .gate) w) (f .1) (omega (arith, p .nodes-are)) (omega (arith, p .ops-are)) in
+    (ap (putFlushes (unplaced gs)) (f .0) ∙ r .0, r .1)

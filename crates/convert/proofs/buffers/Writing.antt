@@ -1,25 +1,24 @@
 -- The writing pass over the records.
 use mathlib.Core.Path.{_≡_, refl, sym, ap, _∙_}
 use mathlib.Core.Bool.{Bool, true, false, cond}
-use mathlib.Core.List.{List, [], _∷_, _++_, append-assoc, append-nil}
+use mathlib.Core.List.{List, [], _∷_, _++_, map, append-assoc, append-nil}
 use Prim.Native.Nat.{ℕ, zero, suc, _+_, _-_, _*_, _/_, _<_, _≤_}
 use native.Mathlib.Omega.{arith}
 use native.Mathlib.Nat.{le-refl}
 use lib.ListN.{length, getD, drop, List·getD-append}
 use Rattle.pauli.specs.Gates.{Gate, AllValid}
 use Rattle.pauli.specs.Table.{start}
-use Rattle.pauli.specs.Rotations.{flush}
 use Rattle.arena.specs.Builder.{overlay, startNodes, startFrame, imageWords}
 use Rattle.arena.proofs.Overlay.{length-qubitNodes}
-use Rattle.convert.specs.Records.{GateKind, KindH, KindX, KindZ, KindS, KindSdg, KindT, KindTdg, KindCnot, KindCz, KindCcx, KindCcz, KindMeasure, KindY, KindSx, KindSwap, KindCy, Unsupported, Cap, Elementary, Placed, placedFrom, bare, kindOf, lowerAs, lowerAll}
-use Rattle.convert.specs.Plain.{Plain, plainBegin, plainStep, plainRun}
+use Rattle.convert.specs.Records.{GateKind, KindH, KindX, KindZ, KindS, KindSdg, KindT, KindTdg, KindCnot, KindCz, KindCcx, KindCcz, KindMeasure, KindY, KindSx, KindSwap, KindCy, Unsupported, Cap, Elementary, Placed, placedFrom, From, from, withoutIndex, kindOf, lowerAs, lowerAll}
+use Rattle.convert.specs.Plain.{Plain, flushFrom, plainBegin, plainStep, plainRun}
 use Rattle.convert.specs.Frame.{startArena, gateNodes, total}
 use Rattle.convert.specs.Words.{Words, startWords, flushWords, wordRun}
 use Rattle.convert.specs.Code.Needs.{Needs, writtenNodes, writtenOps, needStep, needRun}
 use Rattle.convert.specs.Code.RawPlanes.{Wide}
-use Rattle.convert.specs.Code.Raw.{recordGates, planesFor, Decided, Fits, Small, FrameReady, Ran, FlushReady, FlushedIf, RecordReady, gatesOver, anyExceeds, costOf, loneNodes, measuresOf, needsOf, putRecord, putSeven, putFour, putRows, Writing, writing, plainLast, wordsLast, needsLast, Room}
+use Rattle.convert.specs.Code.Raw.{recordGates, recordFrom, flushedNodes, flushedOps, planesFor, Decided, Fits, Small, FrameReady, Ran, FlushReady, FlushedIf, RecordReady, gatesOver, anyExceeds, costOf, loneNodes, measuresOf, needsOf, putRecord, putSeven, putFour, putRows, Writing, writing, plainLast, wordsLast, needsLast, Room}
 use Rattle.convert.proofs.packed.Deciding.{valid-of, wide-start}
-use Rattle.convert.proofs.counts.RecordSteps.{run-append, need-append, word-append, One, one-record, framed, writeRecord, needs-eq}
+use Rattle.convert.proofs.counts.RecordSteps.{unplaced, bare-unplaced, run-append, need-append, word-append, One, one-record, framed, writeRecord, needs-eq}
 use Rattle.convert.proofs.counts.Rest.{rest-more, rest-end, wide-went, restOf}
 use Rattle.convert.proofs.buffers.State.{Stands, stands-frames, stands-if, stands-record, writeLone, lone-after, length-start}
 
@@ -28,30 +27,30 @@ use Rattle.convert.proofs.buffers.State.{Stands, stands-frames, stands-
 pub need-grows : (n : ℕ) (cap : Cap) (es : List (Placed Elementary)) (p : Plain) (k : Needs) → (k .nodes ≤ needRun n cap es p k .nodes) × (k .operations ≤ needRun n cap es p k .operations)
 unfolding needRun needStep
 need-grows n cap [] p k = (le-refl (k .nodes), le-refl (k .operations))
-need-grows n cap (e ∷ es) p k = let r = need-grows n cap es (plainStep flush n cap e p) (needStep n cap e p k) in (omega (arith, r .0), omega (arith, r .1))
+need-grows n cap (e ∷ es) p k = let r = need-grows n cap es (plainStep flushFrom n cap e p) (needStep n cap e p k) in (omega (arith, r .0), omega (arith, r .1))
 
 -- ---- pending gates
 
-valid-append : (n : ℕ) (gs hs : List Gate) → AllValid n gs → AllValid n hs → AllValid n (gs ++ hs)
-valid-append n [] hs u v = v
-valid-append n (g ∷ gs) hs u v = (u .0, valid-append n gs hs (u .1) v)
+valid-over : (n i : ℕ) (gs : List Gate) (hs : List (From Gate)) → AllValid n gs → AllValid n (withoutIndex hs) → AllValid n (withoutIndex (map (from i) gs ++ hs))
+valid-over n i [] hs u v = v
+valid-over n i (g ∷ gs) hs u v = (u .0, valid-over n i gs hs (u .1) v)
 
-gates-valid : (n : ℕ) (gs : List ℕ) → Fits n gs → (i k : ℕ) → i + k ≤ length gs / 4 → AllValid n (gatesOver gs i k)
+gates-valid : (n : ℕ) (gs : List ℕ) → Fits n gs → (i k : ℕ) → i + k ≤ length gs / 4 → AllValid n (withoutIndex (gatesOver gs i k))
 gates-valid n gs f i zero h = tt
 gates-valid n gs f i (suc k) h =
-    valid-append n (recordGates (kindOf (getD gs (4 * i) 0)) (getD gs (4 * i + 1) 0) (getD gs (4 * i + 2) 0)) (gatesOver gs (suc i) k)
+    valid-over n i (recordGates (kindOf (getD gs (4 * i) 0)) (getD gs (4 * i + 1) 0) (getD gs (4 * i + 2) 0)) (gatesOver gs (suc i) k)
     (valid-of n (kindOf (getD gs (4 * i) 0)) (getD gs (4 * i + 1) 0) (getD gs (4 * i + 2) 0) (getD gs (4 * i + 3) 0) (f .each i (omega arith))) (gates-valid n gs f (suc i) k (omega arith))
 
 gates-snoc : (gs : List ℕ) (i k : ℕ)
-    → gatesOver gs i (suc k) ≡ gatesOver gs i k ++ recordGates (kindOf (getD gs (4 * (i + k)) 0)) (getD gs (4 * (i + k) + 1) 0) (getD gs (4 * (i + k) + 2) 0)
+    → gatesOver gs i (suc k) ≡ gatesOver gs i k ++ recordFrom (i + k) (kindOf (getD gs (4 * (i + k)) 0)) (getD gs (4 * (i + k) + 1) 0) (getD gs (4 * (i + k) + 2) 0)
 gates-snoc gs i zero = let e : i + 0 ≡ i = omega arith in rw e (append-nil _)
 gates-snoc gs i (suc k) =
     let e : suc i + k ≡ i + suc k = omega arith in
-    let these = recordGates (kindOf (getD gs (4 * i) 0)) (getD gs (4 * i + 1) 0) (getD gs (4 * i + 2) 0) in
-    ap (λ (l : List Gate). these ++ l) (gates-snoc gs (suc i) k) ∙ sym (append-assoc these (gatesOver gs (suc i) k) _) ∙ rw e
+    let these = recordFrom i (kindOf (getD gs (4 * i) 0)) (getD gs (4 * i + 1) 0) (getD gs (4 * i + 2) 0) in
+    ap (λ (l : List (From Gate)). these ++ l) (gates-snoc gs (suc i) k) ∙ sym (append-assoc these (gatesOver gs (suc i) k) _) ∙ rw e
 
-pending-more : (f : Bool) (gs : List ℕ) (i place : ℕ) (us : List Gate) → place ≤ i → us ≡ gatesOver gs place (i - place)
-    → cond f [] us ++ recordGates (kindOf (getD gs (4 * i) 0)) (getD gs (4 * i + 1) 0) (getD gs (4 * i + 2) 0) ≡ gatesOver gs (cond f i place) (i + 1 - cond f i place)
+pending-more : (f : Bool) (gs : List ℕ) (i place : ℕ) (us : List (From Gate)) → place ≤ i → us ≡ gatesOver gs place (i - place)
+    → cond f [] us ++ recordFrom i (kindOf (getD gs (4 * i) 0)) (getD gs (4 * i + 1) 0) (getD gs (4 * i + 2) 0) ≡ gatesOver gs (cond f i place) (i + 1 - cond f i place)
 pending-more true gs i place us h e = let z : i + 1 - i ≡ 1 = omega arith in rw z (sym (append-nil _))
 pending-more false gs i place us h e =
     let z : i + 1 - place ≡ suc (i - place) = omega arith in
@@ -81,13 +80,13 @@ small-start n fs h i lt =
     rw (List·getD-append (startFrame n) (drop (length (startFrame n)) fs) 0 i (omega (arith, length-start n)))
     (little-append (imageWords 1 n) (imageWords 2 n) (little-images 1 n (omega arith) h) (little-images 2 n (omega arith) h) i)
 
-small-if : (f : Bool) (n : ℕ) (gs : List Gate) {c : ℕ} {ns fs : List ℕ} {u : ℕ} {os : List ℕ} {c′ : ℕ} {ns′ fs′ : List ℕ} {u′ : ℕ} {os′ : List ℕ} → n ≤ 256 → Small n fs
+small-if : (f : Bool) (n : ℕ) (gs : List (From Gate)) {c : ℕ} {ns fs : List ℕ} {u : ℕ} {os : List ℕ} {c′ : ℕ} {ns′ fs′ : List ℕ} {u′ : ℕ} {os′ : List ℕ} → n ≤ 256 → Small n fs
     → FlushedIf f n gs c ns fs u os c′ ns′ fs′ u′ os′ → Small n fs′
 small-if true n gs {fs = fs} h s d i lt = rw (d .frame refl) (small-start n fs h i lt)
 small-if false n gs h s d i lt = rw (d .not refl .2) (s i lt)
 
-counted-if : (f : Bool) (n : ℕ) (gs : List Gate) {c : ℕ} {ns fs : List ℕ} {u : ℕ} {os : List ℕ} {c′ : ℕ} {ns′ fs′ : List ℕ} {u′ : ℕ} {os′ : List ℕ}
-    → FlushedIf f n gs c ns fs u os c′ ns′ fs′ u′ os′ → (c′ ≡ c + cond f (total writtenNodes gs) 0) × (u′ ≡ u + cond f (total writtenOps gs) 0)
+counted-if : (f : Bool) (n : ℕ) (gs : List (From Gate)) {c : ℕ} {ns fs : List ℕ} {u : ℕ} {os : List ℕ} {c′ : ℕ} {ns′ fs′ : List ℕ} {u′ : ℕ} {os′ : List ℕ}
+    → FlushedIf f n gs c ns fs u os c′ ns′ fs′ u′ os′ → (c′ ≡ c + cond f (flushedNodes gs) 0) × (u′ ≡ u + cond f (flushedOps gs) 0)
 counted-if true n gs d = (d .is refl .counted, d .is refl .turned)
 counted-if false n gs d = let k = d .not refl in (omega (arith, k .0), omega (arith, k .3))
 
@@ -130,26 +129,26 @@ measures-few KindSwap = omega arith
 measures-few KindCy = omega arith
 measures-few Unsupported = omega arith
 
-record-counts : (n given : ℕ) (kind : GateKind) (a b d : ℕ) (fs : List ℕ) (c : ℕ) (ns : List ℕ) (u : ℕ) (os : List ℕ) (c′ : ℕ) (ns′ : List ℕ) (u′ : ℕ) (os′ : List ℕ)
-    → writing c′ ns′ u′ os′ ≡ putRecord n given kind a b d fs (writing c ns u os) → (c′ ≡ c + loneNodes kind) × (u′ ≡ u + costOf kind .operations)
+record-counts : (n given i : ℕ) (kind : GateKind) (a b d : ℕ) (fs : List ℕ) (c : ℕ) (ns : List ℕ) (u : ℕ) (os : List ℕ) (c′ : ℕ) (ns′ : List ℕ) (u′ : ℕ) (os′ : List ℕ)
+    → writing c′ ns′ u′ os′ ≡ putRecord n given i kind a b d fs (writing c ns u os) → (c′ ≡ c + loneNodes kind) × (u′ ≡ u + costOf kind .operations)
 unfolding costOf lowerAs putRecord putSeven putFour putRows
-record-counts n given KindH a b d fs c ns u os c′ ns′ u′ os′ e = (ap (λ (s : Writing). s .count) e ∙ omega arith, ap (λ (s : Writing). s .used) e ∙ omega arith)
-record-counts n given KindX a b d fs c ns u os c′ ns′ u′ os′ e = (ap (λ (s : Writing). s .count) e ∙ omega arith, ap (λ (s : Writing). s .used) e ∙ omega arith)
-record-counts n given KindZ a b d fs c ns u os c′ ns′ u′ os′ e = (ap (λ (s : Writing). s .count) e ∙ omega arith, ap (λ (s : Writing). s .used) e ∙ omega arith)
-record-counts n given KindS a b d fs c ns u os c′ ns′ u′ os′ e = (ap (λ (s : Writing). s .count) e ∙ omega arith, ap (λ (s : Writing). s .used) e ∙ omega arith)
-record-counts n given KindSdg a b d fs c ns u os c′ ns′ u′ os′ e = (ap (λ (s : Writing). s .count) e ∙ omega arith, ap (λ (s : Writing). s .used) e ∙ omega arith)
-record-counts n given KindT a b d fs c ns u os c′ ns′ u′ os′ e = (ap (λ (s : Writing). s .count) e ∙ omega arith, ap (λ (s : Writing). s .used) e ∙ omega arith)
-record-counts n given KindTdg a b d fs c ns u os c′ ns′ u′ os′ e = (ap (λ (s : Writing). s .count) e ∙ omega arith, ap (λ (s : Writing). s .used) e ∙ omega arith)
-record-counts n given KindCnot a b d fs c ns u os c′ ns′ u′ os′ e = (ap (λ (s : Writing). s .count) e ∙ omega arith, ap (λ (s : Writing). s .used) e ∙ omega arith)
-record-counts n given KindCz a b d fs c ns u os c′ ns′ u′ os′ e = (ap (λ (s : Writing). s .count) e ∙ omega arith, ap (λ (s : Writing). s .used) e ∙ omega arith)
-record-counts n given KindCcx a b d fs c ns u os c′ ns′ u′ os′ e = (ap (λ (s : Writing). s .count) e ∙ omega arith, ap (λ (s : Writing). s .used) e ∙ omega arith)
-record-counts n given KindCcz a b d fs c ns u os c′ ns′ u′ os′ e = (ap (λ (s : Writing). s .count) e ∙ omega arith, ap (λ (s : Writing). s .used) e ∙ omega arith)
-record-counts n given KindMeasure a b d fs c ns u os c′ ns′ u′ os′ e = (ap (λ (s : Writing). s .count) e ∙ omega arith, ap (λ (s : Writing). s .used) e ∙ omega arith)
-record-counts n given KindY a b d fs c ns u os c′ ns′ u′ os′ e = (ap (λ (s : Writing). s .count) e ∙ omega arith, ap (λ (s : Writing). s .used) e ∙ omega arith)
-record-counts n given KindSx a b d fs c ns u os c′ ns′ u′ os′ e = (ap (λ (s : Writing). s .count) e ∙ omega arith, ap (λ (s : Writing). s .used) e ∙ omega arith)
-record-counts n given KindSwap a b d fs c ns u os c′ ns′ u′ os′ e = (ap (λ (s : Writing). s .count) e ∙ omega arith, ap (λ (s : Writing). s .used) e ∙ omega arith)
-record-counts n given KindCy a b d fs c ns u os c′ ns′ u′ os′ e = (ap (λ (s : Writing). s .count) e ∙ omega arith, ap (λ (s : Writing). s .used) e ∙ omega arith)
-record-counts n given Unsupported a b d fs c ns u os c′ ns′ u′ os′ e = (ap (λ (s : Writing). s .count) e ∙ omega arith, ap (λ (s : Writing). s .used) e ∙ omega arith)
+record-counts n given i KindH a b d fs c ns u os c′ ns′ u′ os′ e = (ap (λ (s : Writing). s .count) e ∙ omega arith, ap (λ (s : Writing). s .used) e ∙ omega arith)
+record-counts n given i KindX a b d fs c ns u os c′ ns′ u′ os′ e = (ap (λ (s : Writing). s .count) e ∙ omega arith, ap (λ (s : Writing). s .used) e ∙ omega arith)
+record-counts n given i KindZ a b d fs c ns u os c′ ns′ u′ os′ e = (ap (λ (s : Writing). s .count) e ∙ omega arith, ap (λ (s : Writing). s .used) e ∙ omega arith)
+record-counts n given i KindS a b d fs c ns u os c′ ns′ u′ os′ e = (ap (λ (s : Writing). s .count) e ∙ omega arith, ap (λ (s : Writing). s .used) e ∙ omega arith)
+record-counts n given i KindSdg a b d fs c ns u os c′ ns′ u′ os′ e = (ap (λ (s : Writing). s .count) e ∙ omega arith, ap (λ (s : Writing). s .used) e ∙ omega arith)
+record-counts n given i KindT a b d fs c ns u os c′ ns′ u′ os′ e = (ap (λ (s : Writing). s .count) e ∙ omega arith, ap (λ (s : Writing). s .used) e ∙ omega arith)
+record-counts n given i KindTdg a b d fs c ns u os c′ ns′ u′ os′ e = (ap (λ (s : Writing). s .count) e ∙ omega arith, ap (λ (s : Writing). s .used) e ∙ omega arith)
+record-counts n given i KindCnot a b d fs c ns u os c′ ns′ u′ os′ e = (ap (λ (s : Writing). s .count) e ∙ omega arith, ap (λ (s : Writing). s .used) e ∙ omega arith)
+record-counts n given i KindCz a b d fs c ns u os c′ ns′ u′ os′ e = (ap (λ (s : Writing). s .count) e ∙ omega arith, ap (λ (s : Writing). s .used) e ∙ omega arith)
+record-counts n given i KindCcx a b d fs c ns u os c′ ns′ u′ os′ e = (ap (λ (s : Writing). s .count) e ∙ omega arith, ap (λ (s : Writing). s .used) e ∙ omega arith)
+record-counts n given i KindCcz a b d fs c ns u os c′ ns′ u′ os′ e = (ap (λ (s : Writing). s .count) e ∙ omega arith, ap (λ (s : Writing). s .used) e ∙ omega arith)
+record-counts n given i KindMeasure a b d fs c ns u os c′ ns′ u′ os′ e = (ap (λ (s : Writing). s .count) e ∙ omega arith, ap (λ (s : Writing). s .used) e ∙ omega arith)
+record-counts n given i KindY a b d fs c ns u os c′ ns′ u′ os′ e = (ap (λ (s : Writing). s .count) e ∙ omega arith, ap (λ (s : Writing). s .used) e ∙ omega arith)
+record-counts n given i KindSx a b d fs c ns u os c′ ns′ u′ os′ e = (ap (λ (s : Writing). s .count) e ∙ omega arith, ap (λ (s : Writing). s .used) e ∙ omega arith)
+record-counts n given i KindSwap a b d fs c ns u os c′ ns′ u′ os′ e = (ap (λ (s : Writing). s .count) e ∙ omega arith, ap (λ (s : Writing). s .used) e ∙ omega arith)
+record-counts n given i KindCy a b d fs c ns u os c′ ns′ u′ os′ e = (ap (λ (s : Writing). s .count) e ∙ omega arith, ap (λ (s : Writing). s .used) e ∙ omega arith)
+record-counts n given i Unsupported a b d fs c ns u os c′ ns′ u′ os′ e = (ap (λ (s : Writing). s .count) e ∙ omega arith, ap (λ (s : Writing). s .used) e ∙ omega arith)
 
 -- ---- before record i
 
@@ -163,9 +162,9 @@ pub record WriteAt (n : ℕ) (cap : Cap) (gs ns₀ fs₀ os₀ ps₀ : List ℕ)
   pub planes : ps ≡ planesFor cap n (plain .table) ps₀
   pub gave : given ≡ plain .given
   pub few : given ≤ i
-  pub pending : bare (plain .pending) ≡ gatesOver gs place (i - place)
+  pub pending : unplaced (plain .pending) ≡ gatesOver gs place (i - place)
   pub past : place ≤ i
-  pub ends : plainRun flush n cap (restOf gs i) plain ≡ plainLast n cap gs
+  pub ends : plainRun flushFrom n cap (restOf gs i) plain ≡ plainLast n cap gs
   pub leads : wordRun n cap (restOf gs i) plain words ≡ wordsLast n cap gs
   pub totals : needRun n cap (restOf gs i) plain (needsOf c u) ≡ needsLast n cap gs
 
@@ -217,27 +216,27 @@ module _ (n : ℕ) (cap : Cap) (gs ns₀ fs₀ os₀ ps₀ : List ℕ) (c : ℕ)
   abbrev flushI : Bool
   flushI = anyExceeds n cap (at .plain .table) (lowerAs kindI aI bI dI)
 
-  abbrev pendingI : List Gate
+  abbrev pendingI : List (From Gate)
   pendingI = gatesOver gs place (i - place)
 
-  oneI : One n cap i (lowerAs kindI aI bI dI) (recordGates kindI aI bI) (measuresOf kindI) (costOf kindI .nodes) (costOf kindI .operations) (writeRecord n (at .plain .given) kindI aI bI dI) (at .plain) (needsOf c u) (at .words)
+  oneI : One n cap i (lowerAs kindI aI bI dI) (recordGates kindI aI bI) (measuresOf kindI) (costOf kindI .nodes) (costOf kindI .operations) (writeRecord n (at .plain .given) i kindI aI bI dI) (at .plain) (needsOf c u) (at .words)
   oneI = one-record n cap i kindI aI bI dI (at .plain) (needsOf c u) (at .words)
 
   -- the needs after this record
-  pub within : (c + cond flushI (total writtenNodes pendingI) 0 + costOf kindI .nodes ≤ needsLast n cap gs .nodes)
-      × (u + cond flushI (total writtenOps pendingI) 0 + costOf kindI .operations ≤ needsLast n cap gs .operations)
+  pub within : (c + cond flushI (flushedNodes pendingI) 0 + costOf kindI .nodes ≤ needsLast n cap gs .nodes)
+      × (u + cond flushI (flushedOps pendingI) 0 + costOf kindI .operations ≤ needsLast n cap gs .operations)
   within =
       let e = need-append n cap theseI (restOf gs (i + 1)) (at .plain) (needsOf c u) in
       let t = at .totals in
-      let g = need-grows n cap (restOf gs (i + 1)) (plainRun flush n cap theseI (at .plain)) (needRun n cap theseI (at .plain) (needsOf c u)) in
+      let g = need-grows n cap (restOf gs (i + 1)) (plainRun flushFrom n cap theseI (at .plain)) (needRun n cap theseI (at .plain) (needsOf c u)) in
       let k = oneI .needs in
-      let tot : needRun n cap (restOf gs (i + 1)) (plainRun flush n cap theseI (at .plain)) (needRun n cap theseI (at .plain) (needsOf c u)) ≡ needsLast n cap gs
+      let tot : needRun n cap (restOf gs (i + 1)) (plainRun flushFrom n cap theseI (at .plain)) (needRun n cap theseI (at .plain) (needsOf c u)) ≡ needsLast n cap gs
       = sym e ∙ ap (λ (l : List (Placed Elementary)). needRun n cap l (at .plain) (needsOf c u)) (sym (rest-more gs i h)) ∙ t in
-      let g₂ = rw (tot, k, at .pending) at g in
+      let g₂ = rw (tot, k, bare-unplaced (at .plain .pending), at .pending) at g in
       g₂
 
   pub write-planes : (f : Bool) (ps′ : List ℕ) → Decided n cap kindI aI bI dI ps f ps′
-      → (f ≡ flushI) × (ps′ ≡ planesFor cap n (plainRun flush n cap theseI (at .plain) .table) ps₀)
+      → (f ≡ flushI) × (ps′ ≡ planesFor cap n (plainRun flushFrom n cap theseI (at .plain) .table) ps₀)
   write-planes f ps′ dec =
       let s = dec .same (at .plain .table) ps₀ (at .wide) (at .planes) in
       (s .0, s .1 ∙ rw (oneI .went .table, s .0))
@@ -258,7 +257,7 @@ module _ (n : ℕ) (cap : Cap) (gs ns₀ fs₀ os₀ ps₀ : List ℕ) (c : ℕ)
 
   module _ (f : Bool) (ef : f ≡ flushI) (c₁ : ℕ) (ns₁ fs₁ : List ℕ) (u₁ : ℕ) (os₁ : List ℕ) (d₁ : FlushedIf f n pendingI c ns fs u os c₁ ns₁ fs₁ u₁ os₁)
       (lens₁ : (length ns₁ ≡ length ns) × (length os₁ ≡ length os) × (length fs₁ ≡ length fs)) where
-    counted₁ : (c₁ ≡ c + cond flushI (total writtenNodes pendingI) 0) × (u₁ ≡ u + cond flushI (total writtenOps pendingI) 0)
+    counted₁ : (c₁ ≡ c + cond flushI (flushedNodes pendingI) 0) × (u₁ ≡ u + cond flushI (flushedOps pendingI) 0)
     counted₁ = rw ef at (counted-if f n pendingI d₁)
 
     pub write-frames : FrameReady n (recordGates kindI aI bI) c₁ ns₁ fs₁
@@ -294,36 +293,36 @@ module _ (n : ℕ) (cap : Cap) (gs ns₀ fs₀ os₀ ps₀ : List ℕ) (c : ℕ)
           }
 
       pub write-more : (c₃ : ℕ) (ns₃ : List ℕ) (u₃ : ℕ) (os₃ ps₃ : List ℕ) (given₃ place₃ : ℕ)
-          → writing c₃ ns₃ u₃ os₃ ≡ putRecord n given kindI aI bI dI fs₂ (writing c₂ ns₂ u₁ os₁)
-          → ps₃ ≡ planesFor cap n (plainRun flush n cap theseI (at .plain) .table) ps₀ → given₃ ≡ given + measuresOf kindI → place₃ ≡ cond f i place
+          → writing c₃ ns₃ u₃ os₃ ≡ putRecord n given i kindI aI bI dI fs₂ (writing c₂ ns₂ u₁ os₁)
+          → ps₃ ≡ planesFor cap n (plainRun flushFrom n cap theseI (at .plain) .table) ps₀ → given₃ ≡ given + measuresOf kindI → place₃ ≡ cond f i place
           → WriteAt n cap gs ns₀ fs₀ os₀ ps₀ c₃ ns₃ fs₂ u₃ os₃ ps₃ given₃ place₃ (i + 1)
       write-more c₃ ns₃ u₃ os₃ ps₃ given₃ place₃ e₃ ep eg el =
           let w = within in
           let k = counted₁ in
           let np = node-parts kindI aI bI in
-          let s₁ = stands-if flushI n pendingI ns₀ fs₀ os₀ c ns fs u os (at .words) c₁ ns₁ fs₁ u₁ os₁ (at .stands) (rw ef at d₁)
-          (omega (arith, w .0, room .nodes-lent)) (omega (arith, w .1, room .operations-lent)) in
+          let s₁ = stands-if flushI n (at .plain .pending) ns₀ fs₀ os₀ c ns fs u os (at .words) c₁ ns₁ fs₁ u₁ os₁ (at .stands) (rw (at .pending) (rw ef at d₁))
+          (rw (at .pending) (omega (arith, w .0, room .nodes-lent))) (rw (at .pending) (omega (arith, w .1, room .operations-lent))) in
           let s₂ = stands-frames n (recordGates kindI aI bI) ns₀ fs₀ os₀ c₁ ns₁ fs₁ u₁ os₁ _ c₂ ns₂ fs₂ s₁ d₂ (valid-of n kindI aI bI dI (fits .each i h))
           (omega (arith, w .0, k .0, np, room .nodes-lent)) in
-          let s₃ = stands-record n given kindI aI bI dI ns₀ fs₀ os₀ c₂ ns₂ fs₂ u₁ os₁ _ c₃ ns₃ u₃ os₃ s₂ (fits .bits i h) e₃
+          let s₃ = stands-record n given i kindI aI bI dI ns₀ fs₀ os₀ c₂ ns₂ fs₂ u₁ os₁ _ c₃ ns₃ u₃ os₃ s₂ (fits .bits i h) e₃
           (omega (arith, w .0, k .0, np, d₂ .counted, room .nodes-lent)) (omega (arith, w .1, k .1, room .operations-lent)) in
-          let p = plainRun flush n cap theseI (at .plain) in
-          let ew : wordRun n cap theseI (at .plain) (at .words) ≡ writeLone n given kindI aI bI dI (framed n (recordGates kindI aI bI) (cond flushI (flushWords n pendingI (at .words)) (at .words)))
-          = oneI .words ∙ lone-after n (at .plain .given) kindI aI bI dI _ ∙ rw (at .pending, ← at .gave) in
+          let p = plainRun flushFrom n cap theseI (at .plain) in
+          let ew : wordRun n cap theseI (at .plain) (at .words) ≡ writeLone n given i kindI aI bI dI (framed n (recordGates kindI aI bI) (cond flushI (flushWords n (at .plain .pending) (at .words)) (at .words)))
+          = oneI .words ∙ lone-after n (at .plain .given) i kindI aI bI dI _ ∙ rw (← at .gave) in
           let rest = rest-more gs i h in
           let en : needsOf c₃ u₃ ≡ needRun n cap theseI (at .plain) (needsOf c u) = needs-here c₃ ns₃ u₃ os₃ e₃ in
           record {
             plain = p;
             words = wordRun n cap theseI (at .plain) (at .words);
-            wide = wide-went n _ _ _ (at .plain) p (oneI .went) (at .wide);
+            wide = wide-went n _ _ _ _ (at .plain) p (oneI .went) (at .wide);
             stands = rw ew s₃;
             small = d₂ .small;
             planes = ep;
             gave = eg ∙ ap (λ (x : ℕ). x + measuresOf kindI) (at .gave) ∙ sym (oneI .went .given);
             few = omega (arith, eg, at .few, measures-few kindI);
-            pending = oneI .went .pending ∙ rw (el, ef) (pending-more flushI gs i place (bare (at .plain .pending)) (at .past) (at .pending));
+            pending = oneI .went .pending ∙ rw (el, ef) (pending-more flushI gs i place (unplaced (at .plain .pending)) (at .past) (at .pending));
             past = place-past f;
-            ends = sym (run-append n cap theseI (restOf gs (i + 1)) (at .plain)) ∙ ap (λ (l : List (Placed Elementary)). plainRun flush n cap l (at .plain)) (sym rest) ∙ at .ends;
+            ends = sym (run-append n cap theseI (restOf gs (i + 1)) (at .plain)) ∙ ap (λ (l : List (Placed Elementary)). plainRun flushFrom n cap l (at .plain)) (sym rest) ∙ at .ends;
             leads = sym (word-append n cap theseI (restOf gs (i + 1)) (at .plain) (at .words)) ∙ ap (λ (l : List (Placed Elementary)). wordRun n cap l (at .plain) (at .words)) (sym rest) ∙ at .leads;
             totals = ap (needRun n cap (restOf gs (i + 1)) p) en ∙ sym (need-append n cap theseI (restOf gs (i + 1)) (at .plain) (needsOf c u))
                 ∙ ap (λ (l : List (Placed Elementary)). needRun n cap l (at .plain) (needsOf c u)) (sym rest) ∙ at .totals;
@@ -336,15 +335,15 @@ module _ (n : ℕ) (cap : Cap) (gs ns₀ fs₀ os₀ ps₀ : List ℕ) (c : ℕ)
               go true = omega arith
               go false = omega (arith, at .past)
 
-          needs-here : (c₃ : ℕ) (ns₃ : List ℕ) (u₃ : ℕ) (os₃ : List ℕ) → writing c₃ ns₃ u₃ os₃ ≡ putRecord n given kindI aI bI dI fs₂ (writing c₂ ns₂ u₁ os₁) → needsOf c₃ u₃ ≡ needRun n cap theseI (at .plain) (needsOf c u)
+          needs-here : (c₃ : ℕ) (ns₃ : List ℕ) (u₃ : ℕ) (os₃ : List ℕ) → writing c₃ ns₃ u₃ os₃ ≡ putRecord n given i kindI aI bI dI fs₂ (writing c₂ ns₂ u₁ os₁) → needsOf c₃ u₃ ≡ needRun n cap theseI (at .plain) (needsOf c u)
           needs-here c₃ ns₃ u₃ os₃ e =
               let k = counted₁ in
               let np = node-parts kindI aI bI in
-              let r = record-counts n given kindI aI bI dI fs₂ c₂ ns₂ u₁ os₁ c₃ ns₃ u₃ os₃ e in
-              let x = c + cond flushI (total writtenNodes pendingI) 0 + costOf kindI .nodes in
-              let y = u + cond flushI (total writtenOps pendingI) 0 + costOf kindI .operations in
+              let r = record-counts n given i kindI aI bI dI fs₂ c₂ ns₂ u₁ os₁ c₃ ns₃ u₃ os₃ e in
+              let x = c + cond flushI (flushedNodes pendingI) 0 + costOf kindI .nodes in
+              let y = u + cond flushI (flushedOps pendingI) 0 + costOf kindI .operations in
               let first : needsOf c₃ u₃ ≡ needsOf x y = needs-eq (omega (arith, r .0, d₂ .counted, k .0, np)) (omega (arith, r .1, k .1)) in
-              let second : needsOf x y ≡ needRun n cap theseI (at .plain) (needsOf c u) = rw (← at .pending) (sym (oneI .needs)) in
+              let second : needsOf x y ≡ needRun n cap theseI (at .plain) (needsOf c u) = rw (← at .pending, ← bare-unplaced (at .plain .pending)) (sym (oneI .needs)) in
               first ∙ second
 
 pub write-end : (n : ℕ) (cap : Cap) (gs ns₀ fs₀ os₀ ps₀ : List ℕ) (c : ℕ) (ns fs : List ℕ) (u : ℕ) (os ps : List ℕ) (given place i : ℕ)

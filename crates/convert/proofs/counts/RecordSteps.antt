@@ -7,9 +7,8 @@ use native.Mathlib.Omega.{arith}
 use Rattle.pauli.specs.Rows.{Row}
 use Rattle.pauli.specs.Gates.{Gate, gateH, gateX, gateZ, gateS, gateSdg, gateCnot, gateCz}
 use Rattle.pauli.specs.Table.{start, step, run}
-use Rattle.pauli.specs.Rotations.{flush}
-use Rattle.convert.specs.Records.{GateKind, KindH, KindX, KindZ, KindS, KindSdg, KindT, KindTdg, KindCnot, KindCz, KindCcx, KindCcz, KindMeasure, KindY, KindSx, KindSwap, KindCy, Unsupported, Cap, NoCap, AtMost, Elementary, clifford, elT, elTdg, elCcx, elCcz, elMeasure, Placed, placed, placedFrom, bare, lowerAs}
-use Rattle.convert.specs.Plain.{Plain, exceeds, tested, flushed, performAs, plainStep, plainRun}
+use Rattle.convert.specs.Records.{GateKind, KindH, KindX, KindZ, KindS, KindSdg, KindT, KindTdg, KindCnot, KindCz, KindCcx, KindCcz, KindMeasure, KindY, KindSx, KindSwap, KindCy, Unsupported, Cap, NoCap, AtMost, Elementary, clifford, elT, elTdg, elCcx, elCcz, elMeasure, Placed, placed, placedFrom, bare, From, from, withoutIndex, lowerAs}
+use Rattle.convert.specs.Plain.{Plain, flushFrom, exceeds, tested, flushed, performAs, plainStep, plainRun}
 use Rattle.convert.specs.Frame.{gateNodes, total, frameRun}
 use Rattle.convert.specs.Words.{Words, flushWords, write, wordStep, wordRun}
 use Rattle.convert.specs.Code.Needs.{Needs, writtenNodes, writtenOps, elementNodes, elementOps, needStep, needRun}
@@ -18,26 +17,35 @@ use Rattle.convert.specs.declared.count.Needed.{Needed}
 
 -- ---- joined lists
 
-pub run-append : (n : ℕ) (cap : Cap) (es fs : List (Placed Elementary)) (p : Plain) → plainRun flush n cap (es ++ fs) p ≡ plainRun flush n cap fs (plainRun flush n cap es p)
+pub run-append : (n : ℕ) (cap : Cap) (es fs : List (Placed Elementary)) (p : Plain) → plainRun flushFrom n cap (es ++ fs) p ≡ plainRun flushFrom n cap fs (plainRun flushFrom n cap es p)
 unfolding plainRun
 run-append n cap [] fs p = refl
-run-append n cap (e ∷ es) fs p = run-append n cap es fs (plainStep flush n cap e p)
+run-append n cap (e ∷ es) fs p = run-append n cap es fs (plainStep flushFrom n cap e p)
 
 pub need-append : (n : ℕ) (cap : Cap) (es fs : List (Placed Elementary)) (p : Plain) (k : Needs)
-    → needRun n cap (es ++ fs) p k ≡ needRun n cap fs (plainRun flush n cap es p) (needRun n cap es p k)
+    → needRun n cap (es ++ fs) p k ≡ needRun n cap fs (plainRun flushFrom n cap es p) (needRun n cap es p k)
 unfolding plainRun needRun
 need-append n cap [] fs p k = refl
-need-append n cap (e ∷ es) fs p k = need-append n cap es fs (plainStep flush n cap e p) (needStep n cap e p k)
+need-append n cap (e ∷ es) fs p k = need-append n cap es fs (plainStep flushFrom n cap e p) (needStep n cap e p k)
 
 pub word-append : (n : ℕ) (cap : Cap) (es fs : List (Placed Elementary)) (p : Plain) (w : Words)
-    → wordRun n cap (es ++ fs) p w ≡ wordRun n cap fs (plainRun flush n cap es p) (wordRun n cap es p w)
+    → wordRun n cap (es ++ fs) p w ≡ wordRun n cap fs (plainRun flushFrom n cap es p) (wordRun n cap es p w)
 unfolding plainRun wordRun
 word-append n cap [] fs p w = refl
-word-append n cap (e ∷ es) fs p w = word-append n cap es fs (plainStep flush n cap e p) (wordStep n cap e p w)
+word-append n cap (e ∷ es) fs p w = word-append n cap es fs (plainStep flushFrom n cap e p) (wordStep n cap e p w)
 
-pub bare-append : (gs hs : List (Placed Gate)) → bare (gs ++ hs) ≡ bare gs ++ bare hs
-bare-append [] hs = refl
-bare-append (g ∷ gs) hs = ap (λ (l : List Gate). g .gate ∷ l) (bare-append gs hs)
+-- the pending gates with their records alone
+abbrev pub unplaced : List (Placed Gate) → List (From Gate)
+unplaced gs = map (λ g. from (g .index) (g .gate)) gs
+
+unplaced-append : (gs hs : List (Placed Gate)) → unplaced (gs ++ hs) ≡ unplaced gs ++ unplaced hs
+unplaced-append [] hs = refl
+unplaced-append (g ∷ gs) hs = ap (λ (l : List (From Gate)). from (g .index) (g .gate) ∷ l) (unplaced-append gs hs)
+
+-- or with nothing
+pub bare-unplaced : (gs : List (Placed Gate)) → bare gs ≡ withoutIndex (unplaced gs)
+bare-unplaced [] = refl
+bare-unplaced (g ∷ gs) = ap (λ (l : List Gate). g .gate ∷ l) (bare-unplaced gs)
 
 pub total-append : (f : Gate → ℕ) (gs hs : List Gate) → total f (gs ++ hs) ≡ total f gs + total f hs
 total-append f [] hs = omega arith
@@ -54,30 +62,46 @@ quiet-all : (n : ℕ) (cap : Cap) (t : List Row) (gs : List Gate) → anyExceeds
 quiet-all n cap t [] = refl
 quiet-all n cap t (g ∷ gs) = rw (quiet n cap t g) (quiet-all n cap t gs)
 
--- what a record leaves of the plain state, if gates gs follow a flush or none, and so many measurements
-pub record Went (n : ℕ) (f : Bool) (gs : List Gate) (m : ℕ) (p p′ : Plain) : Type 0 where
+-- what record i leaves of the plain state, if gates gs follow a flush or none, and so many measurements
+pub record Went (n i : ℕ) (f : Bool) (gs : List Gate) (m : ℕ) (p p′ : Plain) : Type 0 where
   pub table : p′ .table ≡ run n gs (cond f (start n) (p .table))
-  pub pending : bare (p′ .pending) ≡ cond f [] (bare (p .pending)) ++ gs
+  pub pending : unplaced (p′ .pending) ≡ cond f [] (unplaced (p .pending)) ++ map (from i) gs
   pub given : p′ .given ≡ p .given + m
+
+-- the gates alone
+without-more : (us : List (From Gate)) (i : ℕ) (gs : List Gate) → withoutIndex (us ++ map (from i) gs) ≡ withoutIndex us ++ gs
+without-more [] i [] = refl
+without-more [] i (g ∷ gs) = ap (λ (l : List Gate). g ∷ l) (without-more [] i gs)
+without-more (u ∷ us) i gs = ap (λ (l : List Gate). u .what ∷ l) (without-more us i gs)
+
+without-cond : (f : Bool) (us : List (From Gate)) → withoutIndex (cond f [] us) ≡ cond f [] (withoutIndex us)
+without-cond true us = refl
+without-cond false us = refl
+
+went-bare : (n i : ℕ) (f : Bool) (gs : List Gate) (m : ℕ) (p p′ : Plain) → Went n i f gs m p p′ → bare (p′ .pending) ≡ cond f [] (bare (p .pending)) ++ gs
+went-bare n i f gs m p p′ w =
+    bare-unplaced (p′ .pending) ∙ ap withoutIndex (w .pending) ∙ without-more (cond f [] (unplaced (p .pending))) i gs
+    ∙ ap (λ (l : List Gate). l ++ gs) (without-cond f (unplaced (p .pending)) ∙ ap (cond f []) (sym (bare-unplaced (p .pending))))
 
 abbrev after : ℕ → ℕ → ℕ → Gate → Plain → Plain
 after n i j g p = record { table = step n g (p .table); pending = p .pending ++ placed i j g ∷ []; operations = p .operations; given = p .given }
 
-one-gate : (n : ℕ) (cap : Cap) (i j : ℕ) (g : Gate) (p : Plain) → plainStep flush n cap (placed i j (clifford g)) p ≡ after n i j g p
+one-gate : (n : ℕ) (cap : Cap) (i j : ℕ) (g : Gate) (p : Plain) → plainStep flushFrom n cap (placed i j (clifford g)) p ≡ after n i j g p
 unfolding plainStep performAs
 one-gate n cap i j g p = rw (quiet n cap (p .table) g)
 
-frames-went : (n : ℕ) (cap : Cap) (gs : List Gate) (i j : ℕ) (p : Plain) → Went n false gs 0 p (plainRun flush n cap (placedFrom i j (map clifford gs)) p)
+frames-went : (n : ℕ) (cap : Cap) (gs : List Gate) (i j : ℕ) (p : Plain) → Went n i false gs 0 p (plainRun flushFrom n cap (placedFrom i j (map clifford gs)) p)
 unfolding plainRun run
-frames-went n cap [] i j p = record { table = refl; pending = sym (append-nil (bare (p .pending))); given = omega arith }
+frames-went n cap [] i j p = record { table = refl; pending = sym (append-nil (unplaced (p .pending))); given = omega arith }
 frames-went n cap (g ∷ gs) i j p =
     let q = after n i j g p in
-    let e : plainRun flush n cap (placedFrom i (suc j) (map clifford gs)) (plainStep flush n cap (placed i j (clifford g)) p) ≡ plainRun flush n cap (placedFrom i (suc j) (map clifford gs)) q
-    = ap (plainRun flush n cap (placedFrom i (suc j) (map clifford gs))) (one-gate n cap i j g p) in
+    let e : plainRun flushFrom n cap (placedFrom i (suc j) (map clifford gs)) (plainStep flushFrom n cap (placed i j (clifford g)) p) ≡ plainRun flushFrom n cap (placedFrom i (suc j) (map clifford gs)) q
+    = ap (plainRun flushFrom n cap (placedFrom i (suc j) (map clifford gs))) (one-gate n cap i j g p) in
     let r = frames-went n cap gs i (suc j) q in
     record {
       table = ap (λ (x : Plain). x .table) e ∙ r .table;
-      pending = ap (λ (x : Plain). bare (x .pending)) e ∙ r .pending ∙ ap (λ (l : List Gate). l ++ gs) (bare-append (p .pending) (placed i j g ∷ [])) ∙ append-assoc (bare (p .pending)) (g ∷ []) gs;
+      pending = ap (λ (x : Plain). unplaced (x .pending)) e ∙ r .pending ∙ ap (λ (l : List (From Gate)). l ++ map (from i) gs) (unplaced-append (p .pending) (placed i j g ∷ []))
+          ∙ append-assoc (unplaced (p .pending)) (from i g ∷ []) (map (from i) gs);
       given = ap (λ (x : Plain). x .given) e ∙ r .given;
     }
 
@@ -94,8 +118,8 @@ frames-need : (n : ℕ) (cap : Cap) (gs : List Gate) (i j : ℕ) (p : Plain) (k 
 unfolding needRun
 frames-need n cap [] i j p k = needs-eq (omega arith) refl
 frames-need n cap (g ∷ gs) i j p k =
-    ap (needRun n cap (placedFrom i (suc j) (map clifford gs)) (plainStep flush n cap (placed i j (clifford g)) p)) (gate-need n cap i j g p k)
-    ∙ frames-need n cap gs i (suc j) (plainStep flush n cap (placed i j (clifford g)) p) (needsOf (k .nodes + 0 + gateNodes g) (k .operations + 0 + 0))
+    ap (needRun n cap (placedFrom i (suc j) (map clifford gs)) (plainStep flushFrom n cap (placed i j (clifford g)) p)) (gate-need n cap i j g p k)
+    ∙ frames-need n cap gs i (suc j) (plainStep flushFrom n cap (placed i j (clifford g)) p) (needsOf (k .nodes + 0 + gateNodes g) (k .operations + 0 + 0))
     ∙ needs-eq (omega arith) (omega arith)
 
 -- the frame gates at work on the words
@@ -110,8 +134,8 @@ frames-words : (n : ℕ) (cap : Cap) (gs : List Gate) (i j : ℕ) (p : Plain) (w
 unfolding wordRun frameRun
 frames-words n cap [] i j p w = refl
 frames-words n cap (g ∷ gs) i j p w =
-    ap (wordRun n cap (placedFrom i (suc j) (map clifford gs)) (plainStep flush n cap (placed i j (clifford g)) p)) (gate-words n cap i j g p w)
-    ∙ frames-words n cap gs i (suc j) (plainStep flush n cap (placed i j (clifford g)) p) (framed n (g ∷ []) w)
+    ap (wordRun n cap (placedFrom i (suc j) (map clifford gs)) (plainStep flushFrom n cap (placed i j (clifford g)) p)) (gate-words n cap i j g p w)
+    ∙ frames-words n cap gs i (suc j) (plainStep flushFrom n cap (placed i j (clifford g)) p) (framed n (g ∷ []) w)
 
 -- ---- a gate that is none
 
@@ -146,29 +170,29 @@ or-false : (b : Bool) → b || false ≡ b
 or-false true = refl
 or-false false = refl
 
-went-as : (n : ℕ) (f : Bool) (m : ℕ) (p p′ : Plain) → p′ .table ≡ cond f (flushed flush n p) p .table → p′ .pending ≡ cond f (flushed flush n p) p .pending
-    → p′ .given ≡ cond f (flushed flush n p) p .given + m → Went n f [] m p p′
+went-as : (n i : ℕ) (f : Bool) (m : ℕ) (p p′ : Plain) → p′ .table ≡ cond f (flushed flushFrom n p) p .table → p′ .pending ≡ cond f (flushed flushFrom n p) p .pending
+    → p′ .given ≡ cond f (flushed flushFrom n p) p .given + m → Went n i f [] m p p′
 unfolding flushed run
-went-as n true m p p′ t q g = record { table = t; pending = ap bare q; given = g }
-went-as n false m p p′ t q g = record { table = t; pending = ap bare q ∙ sym (append-nil (bare (p .pending))); given = g }
+went-as n i true m p p′ t q g = record { table = t; pending = ap unplaced q; given = g }
+went-as n i false m p p′ t q g = record { table = t; pending = ap unplaced q ∙ sym (append-nil (unplaced (p .pending))); given = g }
 
 lone-went : (n : ℕ) (cap : Cap) (e : Elementary) (i : ℕ) (p : Plain) → Lone e
-    → Went n (exceeds n cap (p .table) e) [] (gives e) p (plainRun flush n cap (placed i 0 e ∷ []) p)
+    → Went n i (exceeds n cap (p .table) e) [] (gives e) p (plainRun flushFrom n cap (placed i 0 e ∷ []) p)
 unfolding plainRun plainStep
 lone-went n cap e i p l =
     let f = exceeds n cap (p .table) e in
-    let r = performed n i 0 e (cond f (flushed flush n p) p) l in
-    went-as n f (gives e) p (performAs n i 0 e (cond f (flushed flush n p) p)) (r .0) (r .1) (r .2)
+    let r = performed n i 0 e (cond f (flushed flushFrom n p) p) l in
+    went-as n i f (gives e) p (performAs n i 0 e (cond f (flushed flushFrom n p) p)) (r .0) (r .1) (r .2)
 
 -- ---- one record
 
 -- what els, the gates of a record, do: frame gates gs, m measurements, x nodes and y operations of their own, and what they write
 pub record One (n : ℕ) (cap : Cap) (i : ℕ) (els : List Elementary) (gs : List Gate) (m x y : ℕ) (writes : Words → Words) (p : Plain) (k : Needs) (w : Words) : Type 0 where
-  pub went : Went n (anyExceeds n cap (p .table) els) gs m p (plainRun flush n cap (placedFrom i 0 els) p)
+  pub went : Went n i (anyExceeds n cap (p .table) els) gs m p (plainRun flushFrom n cap (placedFrom i 0 els) p)
   pub needs : needRun n cap (placedFrom i 0 els) p k
       ≡ needsOf (k .nodes + cond (anyExceeds n cap (p .table) els) (total writtenNodes (bare (p .pending))) 0 + x)
       (k .operations + cond (anyExceeds n cap (p .table) els) (total writtenOps (bare (p .pending))) 0 + y)
-  pub words : wordRun n cap (placedFrom i 0 els) p w ≡ writes (cond (anyExceeds n cap (p .table) els) (flushWords n (bare (p .pending)) w) w)
+  pub words : wordRun n cap (placedFrom i 0 els) p w ≡ writes (cond (anyExceeds n cap (p .table) els) (flushWords n (p .pending) w) w)
 
 of-frames : (n : ℕ) (cap : Cap) (i : ℕ) (gs : List Gate) (x : ℕ) (p : Plain) (k : Needs) (w : Words) → x ≡ total gateNodes gs
     → One n cap i (map clifford gs) gs 0 x 0 (framed n gs) p k w
@@ -179,7 +203,7 @@ of-frames n cap i gs x p k w e = record {
 }
 
 of-lone : (n : ℕ) (cap : Cap) (i : ℕ) (e : Elementary) (p : Plain) (k : Needs) (w : Words) → Lone e
-    → One n cap i (e ∷ []) [] (gives e) (elementNodes e) (elementOps e) (write n (p .given) e) p k w
+    → One n cap i (e ∷ []) [] (gives e) (elementNodes e) (elementOps e) (write n (p .given) i e) p k w
 unfolding needRun needStep wordRun wordStep
 of-lone n cap i e p k w l = record {
   went = rw (or-false (exceeds n cap (p .table) e)) (lone-went n cap e i p l);
@@ -187,28 +211,28 @@ of-lone n cap i e p k w l = record {
   words = rw (or-false (exceeds n cap (p .table) e));
 }
 
--- what a record writes, after so many measurements
-unfoldable pub writeRecord : ℕ → ℕ → GateKind → ℕ → ℕ → ℕ → Words → Words
-writeRecord n given KindH a b d w = framed n (recordGates KindH a b) w
-writeRecord n given KindX a b d w = framed n (recordGates KindX a b) w
-writeRecord n given KindZ a b d w = framed n (recordGates KindZ a b) w
-writeRecord n given KindS a b d w = framed n (recordGates KindS a b) w
-writeRecord n given KindSdg a b d w = framed n (recordGates KindSdg a b) w
-writeRecord n given KindT a b d w = write n given (elT a) w
-writeRecord n given KindTdg a b d w = write n given (elTdg a) w
-writeRecord n given KindCnot a b d w = framed n (recordGates KindCnot a b) w
-writeRecord n given KindCz a b d w = framed n (recordGates KindCz a b) w
-writeRecord n given KindCcx a b d w = write n given (elCcx a b d) w
-writeRecord n given KindCcz a b d w = write n given (elCcz a b d) w
-writeRecord n given KindMeasure a b d w = write n given (elMeasure a b) w
-writeRecord n given KindY a b d w = framed n (recordGates KindY a b) w
-writeRecord n given KindSx a b d w = framed n (recordGates KindSx a b) w
-writeRecord n given KindSwap a b d w = framed n (recordGates KindSwap a b) w
-writeRecord n given KindCy a b d w = framed n (recordGates KindCy a b) w
-writeRecord n given Unsupported a b d w = framed n (recordGates Unsupported a b) w
+-- what record i writes, after so many measurements
+unfoldable pub writeRecord : ℕ → ℕ → ℕ → GateKind → ℕ → ℕ → ℕ → Words → Words
+writeRecord n given i KindH a b d w = framed n (recordGates KindH a b) w
+writeRecord n given i KindX a b d w = framed n (recordGates KindX a b) w
+writeRecord n given i KindZ a b d w = framed n (recordGates KindZ a b) w
+writeRecord n given i KindS a b d w = framed n (recordGates KindS a b) w
+writeRecord n given i KindSdg a b d w = framed n (recordGates KindSdg a b) w
+writeRecord n given i KindT a b d w = write n given i (elT a) w
+writeRecord n given i KindTdg a b d w = write n given i (elTdg a) w
+writeRecord n given i KindCnot a b d w = framed n (recordGates KindCnot a b) w
+writeRecord n given i KindCz a b d w = framed n (recordGates KindCz a b) w
+writeRecord n given i KindCcx a b d w = write n given i (elCcx a b d) w
+writeRecord n given i KindCcz a b d w = write n given i (elCcz a b d) w
+writeRecord n given i KindMeasure a b d w = write n given i (elMeasure a b) w
+writeRecord n given i KindY a b d w = framed n (recordGates KindY a b) w
+writeRecord n given i KindSx a b d w = framed n (recordGates KindSx a b) w
+writeRecord n given i KindSwap a b d w = framed n (recordGates KindSwap a b) w
+writeRecord n given i KindCy a b d w = framed n (recordGates KindCy a b) w
+writeRecord n given i Unsupported a b d w = framed n (recordGates Unsupported a b) w
 
 pub one-record : (n : ℕ) (cap : Cap) (i : ℕ) (kind : GateKind) (a b d : ℕ) (p : Plain) (k : Needs) (w : Words)
-    → One n cap i (lowerAs kind a b d) (recordGates kind a b) (measuresOf kind) (costOf kind .nodes) (costOf kind .operations) (writeRecord n (p .given) kind a b d) p k w
+    → One n cap i (lowerAs kind a b d) (recordGates kind a b) (measuresOf kind) (costOf kind .nodes) (costOf kind .operations) (writeRecord n (p .given) i kind a b d) p k w
 unfolding costOf lowerAs recordGates writeRecord
 one-record n cap i KindH a b d p k w = of-frames n cap i (gateH a ∷ []) (costOf KindH .nodes) p k w (omega arith)
 one-record n cap i KindX a b d p k w = of-frames n cap i (gateX a ∷ []) (costOf KindX .nodes) p k w (omega arith)
@@ -279,14 +303,14 @@ total-cond g false gs hs = total-append g gs hs
 -- the count beside the plain state goes along
 pub count-one : (n : ℕ) (cap : Cap) (i : ℕ) (kind : GateKind) (a b d : ℕ) (p : Plain) (k : Needs)
     → costs (anyExceeds n cap (p .table) (lowerAs kind a b d)) (countFor p k) (costOf kind)
-    ≡ countFor (plainRun flush n cap (placedFrom i 0 (lowerAs kind a b d)) p) (needRun n cap (placedFrom i 0 (lowerAs kind a b d)) p k)
+    ≡ countFor (plainRun flushFrom n cap (placedFrom i 0 (lowerAs kind a b d)) p) (needRun n cap (placedFrom i 0 (lowerAs kind a b d)) p k)
 count-one n cap i kind a b d p k =
     let o = one-record n cap i kind a b d p k (record { arena = record { count = 0; nodes = []; frame = [] }; ops = [] }) in
     let gs = recordGates kind a b in
     let ad = adds kind a b in
     rw (
       o .needs,
-      o .went .pending,
+      went-bare n i _ gs _ p _ (o .went),
       total-cond writtenNodes (anyExceeds n cap (p .table) (lowerAs kind a b d)) (bare (p .pending)) gs,
       total-cond writtenOps (anyExceeds n cap (p .table) (lowerAs kind a b d)) (bare (p .pending)) gs,
       ad .0,

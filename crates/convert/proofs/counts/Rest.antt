@@ -9,9 +9,8 @@ use lib.ListN.{length, getD, drop, drop-of-length-le}
 use Rattle.pauli.specs.Rows.{Row}
 use Rattle.pauli.specs.Gates.{Gate}
 use Rattle.pauli.specs.Table.{start, step, run}
-use Rattle.pauli.specs.Rotations.{flush}
 use Rattle.convert.specs.Records.{GateKind, KindH, KindX, KindZ, KindS, KindSdg, KindT, KindTdg, KindCnot, KindCz, KindCcx, KindCcz, KindMeasure, KindY, KindSx, KindSwap, KindCy, Unsupported, Cap, Elementary, Placed, placedFrom, Record, records, kindOf, lower, lowerAs, lowerFrom, lowerAll}
-use Rattle.convert.specs.Plain.{Plain, plainBegin, plainRun}
+use Rattle.convert.specs.Plain.{Plain, flushFrom, plainBegin, plainRun}
 use Rattle.convert.specs.Code.Needs.{Needs, needRun}
 use Rattle.convert.specs.Code.RawPlanes.{Wide}
 use Rattle.convert.specs.Code.Raw.{planesFor, Decided, costOf, costs, needed, countFor, needsOf}
@@ -82,8 +81,8 @@ wide-cond : (n : ℕ) (f : Bool) (t : List Row) → Wide n t → Wide n (cond f 
 wide-cond n true t w = wide-start n
 wide-cond n false t w = w
 
-pub wide-went : (n : ℕ) (f : Bool) (gs : List Gate) (m : ℕ) (p p′ : Plain) → Went n f gs m p p′ → Wide n (p .table) → Wide n (p′ .table)
-wide-went n f gs m p p′ e w = rw (e .table) (wide-run n gs (cond f (start n) (p .table)) (wide-cond n f (p .table) w))
+pub wide-went : (n i : ℕ) (f : Bool) (gs : List Gate) (m : ℕ) (p p′ : Plain) → Went n i f gs m p p′ → Wide n (p .table) → Wide n (p′ .table)
+wide-went n i f gs m p p′ e w = rw (e .table) (wide-run n gs (cond f (start n) (p .table)) (wide-cond n f (p .table) w))
 
 -- ---- the counting pass
 
@@ -93,7 +92,7 @@ pub record CountAt (n : ℕ) (cap : Cap) (gs ps₀ ps : List ℕ) (k : Needed) (
   pub done : Needs
   pub wide : Wide n (plain .table)
   pub same : k ≡ countFor plain done
-  pub ends : plainRun flush n cap (restOf gs i) plain ≡ plainRun flush n cap (lowerAll (records gs)) (plainBegin n)
+  pub ends : plainRun flushFrom n cap (restOf gs i) plain ≡ plainRun flushFrom n cap (lowerAll (records gs)) (plainBegin n)
   pub totals : needRun n cap (restOf gs i) plain done ≡ needRun n cap (lowerAll (records gs)) (plainBegin n) (needsOf (1 + 2 * n) 0)
   pub planes : ps ≡ planesFor cap n (plain .table) ps₀
   pub few : (k .nodes + k .joints ≤ 513 + 16 * i) × (k .operations + k .rotations ≤ 16 * i)
@@ -153,22 +152,22 @@ count-more n cap gs ps₀ ps k i kind a b d f ps′ c r at h dec ec er ek ea eb 
     let g : restOf gs i ≡ es ++ restOf gs (i + 1) = rw (ek, ea, eb, ed) (rest-more gs i h) in
     let fw = costs-few f k c (few-cost kind c ec) in
     record {
-      plain = plainRun flush n cap es p;
+      plain = plainRun flushFrom n cap es p;
       done = needRun n cap es p (at .done);
-      wide = wide-went n _ _ _ p (plainRun flush n cap es p) (o .went) (at .wide);
+      wide = wide-went n _ _ _ _ p (plainRun flushFrom n cap es p) (o .went) (at .wide);
       same = er ∙ rw (ec, at .same, s .0) (count-one n cap i kind a b d p (at .done));
-      ends = sym (run-append n cap es (restOf gs (i + 1)) p) ∙ ap (λ (l : List (Placed Elementary)). plainRun flush n cap l p) (sym g) ∙ at .ends;
+      ends = sym (run-append n cap es (restOf gs (i + 1)) p) ∙ ap (λ (l : List (Placed Elementary)). plainRun flushFrom n cap l p) (sym g) ∙ at .ends;
       totals = sym (need-append n cap es (restOf gs (i + 1)) p (at .done)) ∙ ap (λ (l : List (Placed Elementary)). needRun n cap l p (at .done)) (sym g) ∙ at .totals;
       planes = s .1 ∙ rw (o .went .table, s .0);
       few = (rw er (omega (arith, fw .0, at .few .0)), rw er (omega (arith, fw .1, at .few .1)));
     }
 
 pub count-end : (n : ℕ) (cap : Cap) (gs ps₀ ps : List ℕ) (k : Needed) (i : ℕ) → CountAt n cap gs ps₀ ps k i → length gs / 4 ≤ i
-    → (k ≡ countFor (plainRun flush n cap (lowerAll (records gs)) (plainBegin n)) (needRun n cap (lowerAll (records gs)) (plainBegin n) (needsOf (1 + 2 * n) 0)))
-    × (ps ≡ planesFor cap n (plainRun flush n cap (lowerAll (records gs)) (plainBegin n) .table) ps₀)
+    → (k ≡ countFor (plainRun flushFrom n cap (lowerAll (records gs)) (plainBegin n)) (needRun n cap (lowerAll (records gs)) (plainBegin n) (needsOf (1 + 2 * n) 0)))
+    × (ps ≡ planesFor cap n (plainRun flushFrom n cap (lowerAll (records gs)) (plainBegin n) .table) ps₀)
 unfolding plainRun needRun
 count-end n cap gs ps₀ ps k i at h =
     let e = rest-end gs i h in
-    let p : at .plain ≡ plainRun flush n cap (lowerAll (records gs)) (plainBegin n) = rw e at (at .ends) in
+    let p : at .plain ≡ plainRun flushFrom n cap (lowerAll (records gs)) (plainBegin n) = rw e at (at .ends) in
     let m : at .done ≡ needRun n cap (lowerAll (records gs)) (plainBegin n) (needsOf (1 + 2 * n) 0) = rw e at (at .totals) in
     (at .same ∙ rw (p, m), at .planes ∙ rw p)

@@ -8,13 +8,12 @@ use native.Mathlib.Numerals.{add-one}
 use lib.Dec.{ltb}
 use lib.ListN.{length, getD, drop}
 use borrow.Author.Tests.{ltb-false, le-ltb}
-use Rattle.pauli.specs.Rotations.{flush}
 use Rattle.arena.specs.Limits.{maxNodes, maxOperations, nodeWords, operationWords}
 use Rattle.arena.specs.Errors.{_⟫_⇒_}
 use Rattle.arena.proofs.Accepted.{passed-before, test-passed, left-false, right-false}
 use Rattle.convert.specs.Types.{PbcError, NoFrame, NoNodes, NoOperations, Checked, Fine, Wrong}
 use Rattle.convert.specs.Records.{Cap, NoCap, AtMost, placedFrom, Record, records, kindOf, lower, lowerAs, lowerFrom, lowerAll}
-use Rattle.convert.specs.Plain.{Plain, plainBegin, plainRun}
+use Rattle.convert.specs.Plain.{Plain, flushFrom, plainBegin, plainRun}
 use Rattle.convert.specs.Code.Needs.{Needs, needRun}
 use Rattle.convert.specs.Conversion.{roomChecked, limits}
 use Rattle.convert.specs.Code.Raw.{anyExceeds, isCapped, costOf, costs, summed, needed, countFor, needsOf, planesFor, plainLast, needsLast, NeedsChecked}
@@ -37,26 +36,26 @@ even-costs false true a b c e = record { nodes = omega (arith, e .nodes); operat
 even-costs false false a b c e = record { nodes = omega (arith, e .nodes); operations = omega (arith, e .operations) }
 
 even-run : (n : ℕ) (cap : Cap) (i : ℕ) (rs : List Record) (p : Plain) (k : Needs) (b : Needed) → Even (countFor p k) b
-    → Even (countFor (plainRun flush n cap (lowerFrom i rs) p) (needRun n cap (lowerFrom i rs) p k)) (summed b rs)
+    → Even (countFor (plainRun flushFrom n cap (lowerFrom i rs) p) (needRun n cap (lowerFrom i rs) p k)) (summed b rs)
 unfolding lowerFrom lower summed plainRun needRun
 even-run n cap i [] p k b e = e
 even-run n cap i (r ∷ rs) p k b e =
     let kind = kindOf (r .kind) in
     let es = placedFrom i 0 (lowerAs kind (r .a) (r .b) (r .c)) in
     let one = even-costs (anyExceeds n cap (p .table) (lowerAs kind (r .a) (r .b) (r .c))) false (countFor p k) b (costOf kind) e in
-    let h = even-run n cap (suc i) rs (plainRun flush n cap es p) (needRun n cap es p k) (costs false b (costOf kind)) (rw (← count-one n cap i kind (r .a) (r .b) (r .c) p k) one) in
+    let h = even-run n cap (suc i) rs (plainRun flushFrom n cap es p) (needRun n cap es p k) (costs false b (costOf kind)) (rw (← count-one n cap i kind (r .a) (r .b) (r .c) p k) one) in
     rw (run-append n cap es (lowerFrom (suc i) rs) p, need-append n cap es (lowerFrom (suc i) rs) p k) h
 
 -- without a cap nothing is flushed
 same-run : (n i : ℕ) (rs : List Record) (p : Plain) (k : Needs)
-    → countFor (plainRun flush n NoCap (lowerFrom i rs) p) (needRun n NoCap (lowerFrom i rs) p k) ≡ summed (countFor p k) rs
+    → countFor (plainRun flushFrom n NoCap (lowerFrom i rs) p) (needRun n NoCap (lowerFrom i rs) p k) ≡ summed (countFor p k) rs
 unfolding lowerFrom lower summed plainRun needRun
 same-run n i [] p k = refl
 same-run n i (r ∷ rs) p k =
     let kind = kindOf (r .kind) in
     let els = lowerAs kind (r .a) (r .b) (r .c) in
     let es = placedFrom i 0 els in
-    let h = same-run n (suc i) rs (plainRun flush n NoCap es p) (needRun n NoCap es p k) in
+    let h = same-run n (suc i) rs (plainRun flushFrom n NoCap es p) (needRun n NoCap es p k) in
     rw (run-append n NoCap es (lowerFrom (suc i) rs) p, need-append n NoCap es (lowerFrom (suc i) rs) p k)
     (h ∙ ap (λ (c : Needed). summed c rs) (sym (count-one n NoCap i kind (r .a) (r .b) (r .c) p k) ∙ ap (λ (f : Bool). costs f (countFor p k) (costOf kind)) (sym (never n (p .table) els))))
 

@@ -90,23 +90,23 @@ pub no-planes : (l : ℕ) (k : GateKind) (a b : ℕ) (p : List ℕ) → OneOf (1
 unfolding planeRun planeStep recordGates lowerAs
 no-planes l k a b p o = arm (λ (k : GateKind). planeRun l (recordGates k a b) p) p (1 ∷ 2 ∷ 5 ∷ 6 ∷ 9 ∷ 10 ∷ 11 ∷ 12 ∷ 16 ∷ []) refl k o
 
-pub no-record : (n given : ℕ) (k : GateKind) (a b d : ℕ) (fs : List ℕ) (s : Writing) → OneOf (0 ∷ 1 ∷ 2 ∷ 3 ∷ 4 ∷ 7 ∷ 8 ∷ 12 ∷ 13 ∷ 14 ∷ 15 ∷ 16 ∷ []) (tagOf the-type k) → s ≡ putRecord n given k a b d fs s
+pub no-record : (n given i : ℕ) (k : GateKind) (a b d : ℕ) (fs : List ℕ) (s : Writing) → OneOf (0 ∷ 1 ∷ 2 ∷ 3 ∷ 4 ∷ 7 ∷ 8 ∷ 12 ∷ 13 ∷ 14 ∷ 15 ∷ 16 ∷ []) (tagOf the-type k) → s ≡ putRecord n given i k a b d fs s
 unfolding putRecord
-no-record n given k a b d fs s o = arm (λ (k : GateKind). putRecord n given k a b d fs s) s (0 ∷ 1 ∷ 2 ∷ 3 ∷ 4 ∷ 7 ∷ 8 ∷ 12 ∷ 13 ∷ 14 ∷ 15 ∷ 16 ∷ []) refl k o
+no-record n given i k a b d fs s o = arm (λ (k : GateKind). putRecord n given i k a b d fs s) s (0 ∷ 1 ∷ 2 ∷ 3 ∷ 4 ∷ 7 ∷ 8 ∷ 12 ∷ 13 ∷ 14 ∷ 15 ∷ 16 ∷ []) refl k o
 
 pub no-measure : (k : GateKind) → OneOf (0 ∷ 1 ∷ 2 ∷ 3 ∷ 4 ∷ 5 ∷ 6 ∷ 7 ∷ 8 ∷ 9 ∷ 10 ∷ 12 ∷ 13 ∷ 14 ∷ 15 ∷ 16 ∷ []) (tagOf the-type k) → isMeasure k ≡ false
 no-measure k o = sym (arm isMeasure false (0 ∷ 1 ∷ 2 ∷ 3 ∷ 4 ∷ 5 ∷ 6 ∷ 7 ∷ 8 ∷ 9 ∷ 10 ∷ 12 ∷ 13 ∷ 14 ∷ 15 ∷ 16 ∷ []) refl k o)
 
 -- ---- the kinds that write alone, and ccx and ccz
 
-pub lone-record : (n given : ℕ) (k : GateKind) (a b d : ℕ) (fs : List ℕ) (s : Writing) → OneOf (5 ∷ 6 ∷ 11 ∷ []) (tagOf the-type k)
-    → putOp (loneWords k (getD fs (n + a) 0) given b) s ≡ putRecord n given k a b d fs s
+pub lone-record : (n given i : ℕ) (k : GateKind) (a b d : ℕ) (fs : List ℕ) (s : Writing) → OneOf (5 ∷ 6 ∷ 11 ∷ []) (tagOf the-type k)
+    → putOp (loneWords k (getD fs (n + a) 0) given b i) s ≡ putRecord n given i k a b d fs s
 unfolding putRecord firstWord lowerAs
-lone-record n given k a b d fs s o =
-    each (λ (k : GateKind). putOp (loneWords k (getD fs (n + a) 0) given b) s ≡ putRecord n given k a b d fs s) (5 ∷ 6 ∷ 11 ∷ []) (refl, (refl, (refl, tt))) k o
+lone-record n given i k a b d fs s o =
+    each (λ (k : GateKind). putOp (loneWords k (getD fs (n + a) 0) given b i) s ≡ putRecord n given i k a b d fs s) (5 ∷ 6 ∷ 11 ∷ []) (refl, (refl, (refl, tt))) k o
 
-pub seven-record : (n given : ℕ) (k : GateKind) (a b d : ℕ) (fs : List ℕ) (s : Writing) → OneOf (9 ∷ 10 ∷ []) (tagOf the-type k)
-    → putSeven (getD fs (n + a) 0) (getD fs (n + b) 0) (getD fs (lastPlace k n d) 0) s ≡ putRecord n given k a b d fs s
+pub seven-record : (n given i : ℕ) (k : GateKind) (a b d : ℕ) (fs : List ℕ) (s : Writing) → OneOf (9 ∷ 10 ∷ []) (tagOf the-type k)
+    → putSeven i (getD fs (n + a) 0) (getD fs (n + b) 0) (getD fs (lastPlace k n d) 0) s ≡ putRecord n given i k a b d fs s
 unfolding putRecord testsOf lowerAs
-seven-record n given k a b d fs s o =
-    each (λ (k : GateKind). putSeven (getD fs (n + a) 0) (getD fs (n + b) 0) (getD fs (lastPlace k n d) 0) s ≡ putRecord n given k a b d fs s) (9 ∷ 10 ∷ []) (refl, (refl, tt)) k o
+seven-record n given i k a b d fs s o =
+    each (λ (k : GateKind). putSeven i (getD fs (n + a) 0) (getD fs (n + b) 0) (getD fs (lastPlace k n d) 0) s ≡ putRecord n given i k a b d fs s) (9 ∷ 10 ∷ []) (refl, (refl, tt)) k o

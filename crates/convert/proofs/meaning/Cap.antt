@@ -13,13 +13,13 @@ use Rattle.pauli.specs.Rotations.{Rotation, Each, flush}
 use Rattle.pauli.proofs.Weight.{weight-single, flush-light}
 use Rattle.arena.proofs.Accepted.{left-false, right-false}
 use Rattle.convert.specs.Types.{Pauli, One, I, X, Y, Z, Target, Bit}
-use Rattle.convert.specs.Records.{GateKind, KindH, KindX, KindZ, KindS, KindSdg, KindT, KindTdg, KindCnot, KindCz, KindCcx, KindCcz, KindMeasure, KindY, KindSx, KindSwap, KindCy, Unsupported, Cap, NoCap, AtMost, Record, kindOf, Elementary, clifford, elT, elTdg, elCcx, elCcz, elMeasure, lowerAs, lower, placedFrom, lowerFrom, bare, Proper, AllProper}
-use Rattle.convert.specs.Plain.{Operation, anyAbove, seven, asRotation}
+use Rattle.convert.specs.Records.{GateKind, KindH, KindX, KindZ, KindS, KindSdg, KindT, KindTdg, KindCnot, KindCz, KindCcx, KindCcz, KindMeasure, KindY, KindSx, KindSwap, KindCy, Unsupported, Cap, NoCap, AtMost, Record, kindOf, Elementary, clifford, elT, elTdg, elCcx, elCcz, elMeasure, lowerAs, lower, Placed, placedFrom, lowerFrom, bare, from, withoutIndex, Proper, AllProper}
+use Rattle.convert.specs.Plain.{Operation, anyAbove, seven, asRotation, flushFrom}
 use Rattle.convert.specs.Paper.{Paper, axes, tooHeavy, sevenAngles, rotateAll, measureFirst, writes, paperPerform, paperFlushed, paperStep, paperRun, paperBegin}
 use Rattle.convert.specs.Paper as paper
 use Rattle.convert.specs.Conversion.{isDoubly, anyDoubly, capTooSmall}
 use Rattle.convert.specs.Statement.{AllWithin, Capped}
-use Rattle.convert.proofs.meaning.Words.{map-append, valid-append}
+use Rattle.convert.proofs.meaning.Words.{map-append, valid-append, bare-snoc, without-more, without-flushed}
 use Rattle.convert.proofs.Accepted.{bare-placed}
 
 -- ---- weights
@@ -127,29 +127,44 @@ even-within cap (r ∷ rs) h = ((λ e. absurd (omega (arith, h .0 .2))), even-wi
 -- ---- the run
 
 record Kept (cap n : ℕ) (p : Paper) : Type 0 where
-  valid : AllValid n (p .since)
-  within : AllWithin cap (p .operations)
+  valid : AllValid n (bare (p .since))
+  within : AllWithin cap (withoutIndex (p .operations))
 
-kept-perform : (cap n c : ℕ) (e : Elementary) (p : Paper) → Proper n c e → UpTo cap (axes n (p .since) e) → Kept cap n p → Kept cap n (paperPerform n e p)
+kept-more : (cap n i : ℕ) (e : Elementary) (p : Paper) → UpTo cap (axes n (bare (p .since)) e) → Kept cap n p
+    → AllWithin cap (withoutIndex (p .operations ++ map (from i) (writes n (bare (p .since)) (p .given) e)))
+kept-more cap n i e p u K =
+    rw (without-more (p .operations) i (writes n (bare (p .since)) (p .given) e))
+    (within-append cap (withoutIndex (p .operations)) _ (K .within) (within-writes cap n (bare (p .since)) (p .given) e u))
+
+kept-perform : (cap n c i j : ℕ) (e : Elementary) (p : Paper) → Proper n c e → UpTo cap (axes n (bare (p .since)) e) → Kept cap n p → Kept cap n (paperPerform n i j e p)
 unfolding paperPerform
-kept-perform cap n c (clifford g) p h u K = record { valid = valid-append n (p .since) (g ∷ []) (K .valid) (h, tt); within = K .within }
-kept-perform cap n c (elT q) p h u K = record { valid = K .valid; within = within-append cap (p .operations) _ (K .within) (within-writes cap n (p .since) (p .given) (elT q) u) }
-kept-perform cap n c (elTdg q) p h u K = record { valid = K .valid; within = within-append cap (p .operations) _ (K .within) (within-writes cap n (p .since) (p .given) (elTdg q) u) }
-kept-perform cap n c (elCcx a b d) p h u K = record { valid = K .valid; within = within-append cap (p .operations) _ (K .within) (within-writes cap n (p .since) (p .given) (elCcx a b d) u) }
-kept-perform cap n c (elCcz a b d) p h u K = record { valid = K .valid; within = within-append cap (p .operations) _ (K .within) (within-writes cap n (p .since) (p .given) (elCcz a b d) u) }
-kept-perform cap n c (elMeasure q k) p h u K = record { valid = K .valid; within = within-append cap (p .operations) _ (K .within) (within-writes cap n (p .since) (p .given) (elMeasure q k) u) }
+kept-perform cap n c i j (clifford g) p h u K = record {
+  valid = rw (bare-snoc (p .since) i j g) (valid-append n (bare (p .since)) (g ∷ []) (K .valid) (h, tt));
+  within = K .within;
+}
+kept-perform cap n c i j (elT q) p h u K = record { valid = K .valid; within = kept-more cap n i (elT q) p u K }
+kept-perform cap n c i j (elTdg q) p h u K = record { valid = K .valid; within = kept-more cap n i (elTdg q) p u K }
+kept-perform cap n c i j (elCcx a b d) p h u K = record { valid = K .valid; within = kept-more cap n i (elCcx a b d) p u K }
+kept-perform cap n c i j (elCcz a b d) p h u K = record { valid = K .valid; within = kept-more cap n i (elCcz a b d) p u K }
+kept-perform cap n c i j (elMeasure q k) p h u K = record { valid = K .valid; within = kept-more cap n i (elMeasure q k) p u K }
 
-kept-run : (cap n c : ℕ) (es : List Elementary) (p : Paper) → AllProper n c es → AllBorne cap es → Kept cap n p → Kept cap n (paperRun flush n (AtMost cap) es p)
+kept-flushed : (cap n : ℕ) (p : Paper) → Kept cap n p → Kept cap n (paperFlushed flushFrom n p)
+kept-flushed cap n p K = record {
+  valid = tt;
+  within = rw (without-flushed (p .operations) n (p .since))
+      (within-append cap (withoutIndex (p .operations)) _ (K .within) (even-within cap (flush n (bare (p .since))) (flush-light n (bare (p .since)) (K .valid))));
+}
+
+kept-run : (cap n c : ℕ) (es : List (Placed Elementary)) (p : Paper) → AllProper n c (bare es) → AllBorne cap (bare es) → Kept cap n p
+    → Kept cap n (paperRun flushFrom n (AtMost cap) es p)
 unfolding paperRun paperStep tooHeavy
 kept-run cap n c [] p h b K = K
-kept-run cap n c (e ∷ es) p h b K = kept-run cap n c es (paperStep flush n (AtMost cap) e p) (h .1) (b .1) (go (anyAbove cap (axes n (p .since) e)) refl)
+kept-run cap n c (e ∷ es) p h b K = kept-run cap n c es (paperStep flushFrom n (AtMost cap) e p) (h .1) (b .1) (go (anyAbove cap (axes n (bare (p .since)) (e .gate))) refl)
   where
-    go : (heavy : Bool) → anyAbove cap (axes n (p .since) e) ≡ heavy → Kept cap n (paperPerform n e (cond heavy (paperFlushed flush n p) p))
-    go true a = kept-perform cap n c e (paperFlushed flush n p) (h .0) (axes-light cap n e (b .0)) (record {
-      valid = tt;
-      within = within-append cap (p .operations) _ (K .within) (even-within cap (flush n (p .since)) (flush-light n (p .since) (K .valid)));
-    })
-    go false a = kept-perform cap n c e p (h .0) (not-above cap (axes n (p .since) e) a) K
+    go : (heavy : Bool) → anyAbove cap (axes n (bare (p .since)) (e .gate)) ≡ heavy
+        → Kept cap n (paperPerform n (e .index) (e .part) (e .gate) (cond heavy (paperFlushed flushFrom n p) p))
+    go true a = kept-perform cap n c (e .index) (e .part) (e .gate) (paperFlushed flushFrom n p) (h .0) (axes-light cap n (e .gate) (b .0)) (kept-flushed cap n p K)
+    go false a = kept-perform cap n c (e .index) (e .part) (e .gate) p (h .0) (not-above cap (axes n (bare (p .since)) (e .gate)) a) K
 
 -- ---- records under a cap that is not too small
 
@@ -202,8 +217,8 @@ borne-records cap i (r ∷ rs) h e =
     (borne-records cap (suc i) rs h (both-right (leb cap 2) (isDoubly (kindOf (r .kind))) (anyDoubly rs) e)))
 
 pub capped : (n c i : ℕ) (cap : Cap) (rs : List Record) → AllProper n c (bare (lowerFrom i rs)) → capTooSmall cap rs ≡ false
-    → Capped cap (paperRun flush n cap (bare (lowerFrom i rs)) paperBegin .operations)
+    → Capped cap (withoutIndex (paperRun flushFrom n cap (lowerFrom i rs) paperBegin .operations))
 capped n c i NoCap rs v e = tt
 capped n c i (AtMost cap) rs v e =
-    kept-run cap n c (bare (lowerFrom i rs)) paperBegin v
+    kept-run cap n c (lowerFrom i rs) paperBegin v
     (borne-records cap i rs (positive cap (left-false (eqb cap 0) _ e)) (right-false (eqb cap 0) _ e)) (record { valid = tt; within = tt }) .within

@@ -7,14 +7,13 @@ use native.Mathlib.Omega.{arith}
 use lib.ListN.{length, length-append}
 use Rattle.pauli.specs.Rows.{Row}
 use Rattle.pauli.specs.Gates.{Gate, gateH, gateX, gateZ, gateS, gateSdg, gateCnot, gateCz, Valid, AllValid}
-use Rattle.pauli.specs.Rotations.{flush}
 use Rattle.arena.specs.Nodes.{productWord, nodeAt}
 use Rattle.arena.specs.Expansion.{anyMalformed}
 use Rattle.arena.proofs.Overlay.{length-qubitNodes}
 use Rattle.arena.proofs.Readable.{formed-more, product-formed, formed-start}
 use Rattle.convert.specs.Types.{Phase, One, PlusI, MinusI}
 use Rattle.convert.specs.Records.{Cap, Elementary, clifford, elT, elTdg, elCcx, elCcz, elMeasure, Placed, bare, Proper, AllProper}
-use Rattle.convert.specs.Plain.{Plain, plainBegin, exceeds, plainStep}
+use Rattle.convert.specs.Plain.{Plain, plainBegin, exceeds, flushFrom, plainStep}
 use Rattle.convert.specs.Frame.{Arena, startArena, word, pushed, multiplied, frameStep, frameRun}
 use Rattle.convert.specs.Words.{Words, startWords, idX, idZ, flushGate, flushGates, flushWords, fourPushed, writeSeven, write, wordStep, wordRun}
 use Rattle.convert.proofs.meaning.FrameRows.{Shows, word-under, shows-multiplied, shows-step}
@@ -61,23 +60,23 @@ formed-run n (g ∷ gs) s t v S F = formed-run n gs (frameStep n g s) _ (v .1) (
 
 -- ---- a flush
 
-flush-gate : (n : ℕ) (g : Gate) (w : Words) → Valid n g → 2 * n < w .arena .count → Formed n (w .arena)
-    → Formed n (flushGate g w .arena) × (2 * n < flushGate g w .arena .count)
+flush-gate : (n i : ℕ) (g : Gate) (w : Words) → Valid n g → 2 * n < w .arena .count → Formed n (w .arena)
+    → Formed n (flushGate i g w .arena) × (2 * n < flushGate i g w .arena .count)
 unfolding flushGate pushed
-flush-gate n (gateH q) w v lt F = (F, lt)
-flush-gate n (gateX q) w v lt F = (F, lt)
-flush-gate n (gateZ q) w v lt F = (F, lt)
-flush-gate n (gateS q) w v lt F = (F, lt)
-flush-gate n (gateSdg q) w v lt F = (F, lt)
-flush-gate n (gateCnot c t) w v lt F = (formed-pushed n (w .arena) (idZ c) (idX t) (omega (arith, v .0)) (omega (arith, v .1)) F, omega arith)
-flush-gate n (gateCz c t) w v lt F = (formed-pushed n (w .arena) (idZ c) (idZ t) (omega (arith, v .0)) (omega (arith, v .1)) F, omega arith)
+flush-gate n i (gateH q) w v lt F = (F, lt)
+flush-gate n i (gateX q) w v lt F = (F, lt)
+flush-gate n i (gateZ q) w v lt F = (F, lt)
+flush-gate n i (gateS q) w v lt F = (F, lt)
+flush-gate n i (gateSdg q) w v lt F = (F, lt)
+flush-gate n i (gateCnot c t) w v lt F = (formed-pushed n (w .arena) (idZ c) (idX t) (omega (arith, v .0)) (omega (arith, v .1)) F, omega arith)
+flush-gate n i (gateCz c t) w v lt F = (formed-pushed n (w .arena) (idZ c) (idZ t) (omega (arith, v .0)) (omega (arith, v .1)) F, omega arith)
 
-flush-gates : (n : ℕ) (gs : List Gate) (w : Words) → AllValid n gs → 2 * n < w .arena .count → Formed n (w .arena) → Formed n (flushGates gs w .arena)
+flush-gates : (n : ℕ) (gs : List (Placed Gate)) (w : Words) → AllValid n (bare gs) → 2 * n < w .arena .count → Formed n (w .arena) → Formed n (flushGates gs w .arena)
 unfolding flushGates
 flush-gates n [] w v lt F = F
-flush-gates n (g ∷ gs) w v lt F = let G = flush-gate n g w (v .0) lt F in flush-gates n gs (flushGate g w) (v .1) (G .1) (G .0)
+flush-gates n (g ∷ gs) w v lt F = let G = flush-gate n (g .index) (g .gate) w (v .0) lt F in flush-gates n gs (flushGate (g .index) (g .gate) w) (v .1) (G .1) (G .0)
 
-flush-words : (n : ℕ) (gs : List Gate) (w : Words) → AllValid n gs → 2 * n < w .arena .count → Formed n (w .arena) → Formed n (flushWords n gs w .arena)
+flush-words : (n : ℕ) (gs : List (Placed Gate)) (w : Words) → AllValid n (bare gs) → 2 * n < w .arena .count → Formed n (w .arena) → Formed n (flushWords n gs w .arena)
 unfolding flushWords
 flush-words n gs w v lt F = let G = flush-gates n gs w v lt F in record { even = G .even; formed = G .formed }
 
@@ -91,28 +90,28 @@ formed-four n s a b d ha hb hd F =
     (formed-pushed n (pushed a b s) a d (omega arith) (omega arith)
     (formed-pushed n s a b ha hb F)))
 
-formed-write : (n c given : ℕ) (e : Elementary) (w : Words) (t : List Row) → Shows n (w .arena) t → Proper n c e → Formed n (w .arena) → Formed n (write n given e w .arena)
+formed-write : (n c given i : ℕ) (e : Elementary) (w : Words) (t : List Row) → Shows n (w .arena) t → Proper n c e → Formed n (w .arena) → Formed n (write n given i e w .arena)
 unfolding write writeSeven
-formed-write n c given (clifford g) w t S v F = formed-step n (w .arena) t S g v F
-formed-write n c given (elT q) w t S v F = F
-formed-write n c given (elTdg q) w t S v F = F
-formed-write n c given (elCcx a b d) w t S v F =
+formed-write n c given i (clifford g) w t S v F = formed-step n (w .arena) t S g v F
+formed-write n c given i (elT q) w t S v F = F
+formed-write n c given i (elTdg q) w t S v F = F
+formed-write n c given i (elCcx a b d) w t S v F =
     formed-four n (w .arena) _ _ _ (word-under n (w .arena) t S (n + a)) (word-under n (w .arena) t S (n + b)) (word-under n (w .arena) t S d) F
-formed-write n c given (elCcz a b d) w t S v F =
+formed-write n c given i (elCcz a b d) w t S v F =
     formed-four n (w .arena) _ _ _ (word-under n (w .arena) t S (n + a)) (word-under n (w .arena) t S (n + b)) (word-under n (w .arena) t S (n + d)) F
-formed-write n c given (elMeasure q k) w t S v F = F
+formed-write n c given i (elMeasure q k) w t S v F = F
 
 words-run : (n o c : ℕ) (cap : Cap) (es : List (Placed Elementary)) (p : Plain) (w : Words) → AllProper n c (bare es) → Meant n o c p w → Formed n (w .arena)
     → Formed n (wordRun n cap es p w .arena)
 unfolding wordRun wordStep
 words-run n o c cap [] p w v M F = F
 words-run n o c cap (e ∷ es) p w v M F =
-    words-run n o c cap es (plainStep flush n cap e p) (wordStep n cap e p w) (v .1) (meant-step n o c cap e p w (v .0) M) (go (exceeds n cap (p .table) (e .gate)))
+    words-run n o c cap es (plainStep flushFrom n cap e p) (wordStep n cap e p w) (v .1) (meant-step n o c cap e p w (v .0) M) (go (exceeds n cap (p .table) (e .gate)))
   where
-    go : (b : Bool) → Formed n (write n (p .given) (e .gate) (cond b (flushWords n (bare (p .pending)) w) w) .arena)
-    go true = formed-write n c (p .given) (e .gate) (flushWords n (bare (p .pending)) w) _ (meant-flushed n o c p w M .core .shows) (v .0)
-        (flush-words n (bare (p .pending)) w (M .valid) (M .core .leaves .size) F)
-    go false = formed-write n c (p .given) (e .gate) w (p .table) (M .core .shows) (v .0) F
+    go : (b : Bool) → Formed n (write n (p .given) (e .index) (e .gate) (cond b (flushWords n (p .pending) w) w) .arena)
+    go true = formed-write n c (p .given) (e .index) (e .gate) (flushWords n (p .pending) w) _ (meant-flushed n o c p w M .core .shows) (v .0)
+        (flush-words n (p .pending) w (M .valid) (M .core .leaves .size) F)
+    go false = formed-write n c (p .given) (e .index) (e .gate) w (p .table) (M .core .shows) (v .0) F
 
 formed-begin : (n : ℕ) → Formed n (startWords n .arena)
 unfolding startWords startArena

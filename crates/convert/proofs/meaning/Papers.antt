@@ -6,14 +6,13 @@ use Prim.Native.Nat.{ℕ, suc}
 use Rattle.pauli.specs.Rows.{Row, Width, _★_, single}
 use Rattle.pauli.specs.Gates.{Gate, AllValid, back}
 use Rattle.pauli.specs.Table.{start, step, run, table}
-use Rattle.pauli.specs.Rotations.{Rotation}
 use Rattle.pauli.proofs.Rows.{width-★}
 use Rattle.pauli.proofs.Conj.{hom-back}
 use Rattle.pauli.proofs.Short.{width-single}
 use Rattle.pauli.proofs.Table.{table-rows, table-snoc}
 use Rattle.convert.specs.Types.{Pauli, X, Z, Bit}
-use Rattle.convert.specs.Records.{Cap, NoCap, AtMost, Elementary, clifford, elT, elTdg, elCcx, elCcz, elMeasure, Placed, bare, Proper, AllProper}
-use Rattle.convert.specs.Plain.{Plain, plainBegin, rowsAfter, tableRun, anyAbove, seven, asRotation, tested, exceeds, flushed, performAs, perform, plainStep, plainRun}
+use Rattle.convert.specs.Records.{Cap, NoCap, AtMost, Elementary, clifford, elT, elTdg, elCcx, elCcz, elMeasure, Placed, placed, bare, from, mapFrom, Proper, AllProper}
+use Rattle.convert.specs.Plain.{Plain, plainBegin, rowsAfter, tableRun, anyAbove, seven, Flush, asRotation, tested, exceeds, flushed, performAs, perform, plainStep, plainRun}
 use Rattle.convert.specs.Paper.{Paper, gateProducts, axes, tooHeavy, sevenAngles, rotateAll, measureFirst, writes, paperPerform, paperFlushed, paperStep, paperRun, paperBegin}
 use Rattle.convert.proofs.meaning.Words.{valid-append, bare-snoc}
 
@@ -61,21 +60,21 @@ tested-axes n gs v c (elMeasure q k) h = ap (λ P. P ∷ []) (table-rows n gs v 
 
 -- the plain state is that of the papers, with the table of the gates since the last flush
 pub record Agrees (n : ℕ) (p : Plain) (r : Paper) : Type 0 where
-  pub valid : AllValid n (r .since)
-  pub table-of : p .table ≡ table n (r .since)
-  pub pending : bare (p .pending) ≡ r .since
+  pub valid : AllValid n (bare (r .since))
+  pub table-of : p .table ≡ table n (bare (r .since))
+  pub pending : p .pending ≡ r .since
   pub operations : p .operations ≡ r .operations
   pub given : p .given ≡ r .given
 
-seen : (n c : ℕ) (e : Elementary) (p : Plain) (r : Paper) → Proper n c e → Agrees n p r → tested n (p .table) e ≡ axes n (r .since) e
-seen n c e p r h A = ap (λ t. tested n t e) (A .table-of) ∙ tested-axes n (r .since) (A .valid) c e h
+seen : (n c : ℕ) (e : Elementary) (p : Plain) (r : Paper) → Proper n c e → Agrees n p r → tested n (p .table) e ≡ axes n (bare (r .since)) e
+seen n c e p r h A = ap (λ t. tested n t e) (A .table-of) ∙ tested-axes n (bare (r .since)) (A .valid) c e h
 
-agrees-perform : (n c i j : ℕ) (e : Elementary) (p : Plain) (r : Paper) → Proper n c e → Agrees n p r → Agrees n (performAs n i j e p) (paperPerform n e r)
+agrees-perform : (n c i j : ℕ) (e : Elementary) (p : Plain) (r : Paper) → Proper n c e → Agrees n p r → Agrees n (performAs n i j e p) (paperPerform n i j e r)
 unfolding performAs paperPerform writes tested
 agrees-perform n c i j (clifford g) p r h A = record {
-  valid = valid-append n (r .since) (g ∷ []) (A .valid) (h, tt);
-  table-of = ap (step n g) (A .table-of) ∙ sym (table-snoc n (r .since) g);
-  pending = bare-snoc (p .pending) i j g ∙ ap (λ gs. gs ++ g ∷ []) (A .pending);
+  valid = rw (bare-snoc (r .since) i j g) (valid-append n (bare (r .since)) (g ∷ []) (A .valid) (h, tt));
+  table-of = ap (step n g) (A .table-of) ∙ sym (table-snoc n (bare (r .since)) g) ∙ ap (table n) (sym (bare-snoc (r .since) i j g));
+  pending = ap (λ gs. gs ++ placed i j g ∷ []) (A .pending);
   operations = A .operations;
   given = A .given;
 }
@@ -83,70 +82,70 @@ agrees-perform n c i j (elT q) p r h A = record {
   valid = A .valid;
   table-of = A .table-of;
   pending = A .pending;
-  operations = λ t. A .operations t ++ rotateAll (1 ∷ []) (seen n c (elT q) p r h A t);
+  operations = λ t. A .operations t ++ map (from i) (rotateAll (1 ∷ []) (seen n c (elT q) p r h A t));
   given = A .given;
 }
 agrees-perform n c i j (elTdg q) p r h A = record {
   valid = A .valid;
   table-of = A .table-of;
   pending = A .pending;
-  operations = λ t. A .operations t ++ rotateAll (7 ∷ []) (seen n c (elTdg q) p r h A t);
+  operations = λ t. A .operations t ++ map (from i) (rotateAll (7 ∷ []) (seen n c (elTdg q) p r h A t));
   given = A .given;
 }
 agrees-perform n c i j (elCcx a b d) p r h A = record {
   valid = A .valid;
   table-of = A .table-of;
   pending = A .pending;
-  operations = λ t. A .operations t ++ rotateAll sevenAngles (seen n c (elCcx a b d) p r h A t);
+  operations = λ t. A .operations t ++ map (from i) (rotateAll sevenAngles (seen n c (elCcx a b d) p r h A t));
   given = A .given;
 }
 agrees-perform n c i j (elCcz a b d) p r h A = record {
   valid = A .valid;
   table-of = A .table-of;
   pending = A .pending;
-  operations = λ t. A .operations t ++ rotateAll sevenAngles (seen n c (elCcz a b d) p r h A t);
+  operations = λ t. A .operations t ++ map (from i) (rotateAll sevenAngles (seen n c (elCcz a b d) p r h A t));
   given = A .given;
 }
 agrees-perform n c i j (elMeasure q k) p r h A = record {
   valid = A .valid;
   table-of = A .table-of;
   pending = A .pending;
-  operations = λ t. A .operations t ++ measureFirst (A .given t) (Bit k) (seen n c (elMeasure q k) p r h A t);
+  operations = λ t. A .operations t ++ map (from i) (measureFirst (A .given t) (Bit k) (seen n c (elMeasure q k) p r h A t));
   given = ap suc (A .given);
 }
 
-agrees-flushed : (f : ℕ → List Gate → List Rotation) (n : ℕ) (p : Plain) (r : Paper) → Agrees n p r → Agrees n (flushed f n p) (paperFlushed f n r)
+agrees-flushed : (f : Flush) (n : ℕ) (p : Plain) (r : Paper) → Agrees n p r → Agrees n (flushed f n p) (paperFlushed f n r)
 unfolding flushed table run
 agrees-flushed f n p r A = record {
   valid = tt;
   table-of = refl;
   pending = refl;
-  operations = λ i. A .operations i ++ map asRotation (f n (A .pending i));
+  operations = λ i. A .operations i ++ map (mapFrom asRotation) (f n (A .pending i));
   given = A .given;
 }
 
-heavy : (n c : ℕ) (cap : Cap) (e : Elementary) (p : Plain) (r : Paper) → Proper n c e → Agrees n p r → exceeds n cap (p .table) e ≡ tooHeavy n cap (r .since) e
+heavy : (n c : ℕ) (cap : Cap) (e : Elementary) (p : Plain) (r : Paper) → Proper n c e → Agrees n p r → exceeds n cap (p .table) e ≡ tooHeavy n cap (bare (r .since)) e
 unfolding exceeds tooHeavy
 heavy n c NoCap e p r h A = refl
 heavy n c (AtMost cap) e p r h A = ap (anyAbove cap) (seen n c e p r h A)
 
-agrees-step : (f : ℕ → List Gate → List Rotation) (n c : ℕ) (cap : Cap) (e : Placed Elementary) (p : Plain) (r : Paper) → Proper n c (e .gate) → Agrees n p r
-    → Agrees n (plainStep f n cap e p) (paperStep f n cap (e .gate) r)
+agrees-step : (f : Flush) (n c : ℕ) (cap : Cap) (e : Placed Elementary) (p : Plain) (r : Paper) → Proper n c (e .gate) → Agrees n p r
+    → Agrees n (plainStep f n cap e p) (paperStep f n cap e r)
 unfolding plainStep paperStep
-agrees-step f n c cap e p r h A = rw (heavy n c cap (e .gate) p r h A) (go (tooHeavy n cap (r .since) (e .gate)))
+agrees-step f n c cap e p r h A = rw (heavy n c cap (e .gate) p r h A) (go (tooHeavy n cap (bare (r .since)) (e .gate)))
   where
-    go : (b : Bool) → Agrees n (perform n e (cond b (flushed f n p) p)) (paperPerform n (e .gate) (cond b (paperFlushed f n r) r))
+    go : (b : Bool) → Agrees n (perform n e (cond b (flushed f n p) p)) (paperPerform n (e .index) (e .part) (e .gate) (cond b (paperFlushed f n r) r))
     go true = agrees-perform n c (e .index) (e .part) (e .gate) (flushed f n p) (paperFlushed f n r) h (agrees-flushed f n p r A)
     go false = agrees-perform n c (e .index) (e .part) (e .gate) p r h A
 
-agrees-run : (f : ℕ → List Gate → List Rotation) (n c : ℕ) (cap : Cap) (es : List (Placed Elementary)) (p : Plain) (r : Paper) → AllProper n c (bare es) → Agrees n p r → Agrees n (plainRun f n cap es p) (paperRun f n cap (bare es) r)
+agrees-run : (f : Flush) (n c : ℕ) (cap : Cap) (es : List (Placed Elementary)) (p : Plain) (r : Paper) → AllProper n c (bare es) → Agrees n p r → Agrees n (plainRun f n cap es p) (paperRun f n cap es r)
 unfolding plainRun paperRun
 agrees-run f n c cap [] p r h A = A
-agrees-run f n c cap (e ∷ es) p r h A = agrees-run f n c cap es (plainStep f n cap e p) (paperStep f n cap (e .gate) r) (h .1) (agrees-step f n c cap e p r (h .0) A)
+agrees-run f n c cap (e ∷ es) p r h A = agrees-run f n c cap es (plainStep f n cap e p) (paperStep f n cap e r) (h .1) (agrees-step f n c cap e p r (h .0) A)
 
 -- the plain conversion's operations, axes and angles are those of the papers
-pub agrees : (f : ℕ → List Gate → List Rotation) (n c : ℕ) (cap : Cap) (es : List (Placed Elementary)) → AllProper n c (bare es)
-    → Agrees n (plainRun f n cap es (plainBegin n)) (paperRun f n cap (bare es) paperBegin)
+pub agrees : (f : Flush) (n c : ℕ) (cap : Cap) (es : List (Placed Elementary)) → AllProper n c (bare es)
+    → Agrees n (plainRun f n cap es (plainBegin n)) (paperRun f n cap es paperBegin)
 unfolding plainBegin table run
 agrees f n c cap es h = agrees-run f n c cap es (plainBegin n) paperBegin h (record { valid = tt; table-of = refl; pending = refl; operations = refl; given = refl })
 
@@ -161,7 +160,7 @@ perform-table n i j (elCcx a b d) p = refl
 perform-table n i j (elCcz a b d) p = refl
 perform-table n i j (elMeasure q k) p = refl
 
-pub table-run : (f : ℕ → List Gate → List Rotation) (n : ℕ) (cap : Cap) (es : List (Placed Elementary)) (p : Plain)
+pub table-run : (f : Flush) (n : ℕ) (cap : Cap) (es : List (Placed Elementary)) (p : Plain)
     → plainRun f n cap es p .table ≡ tableRun n cap (bare es) (p .table)
 unfolding plainRun plainStep tableRun flushed
 table-run f n cap [] p = refl

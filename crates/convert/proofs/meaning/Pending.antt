@@ -9,9 +9,8 @@ use lib.ListN.{length, drop, length-append}
 use lib.Seq.{drop-at, append-snoc}
 use Rattle.pauli.specs.Rows.{Row}
 use Rattle.pauli.specs.Gates.{Gate}
-use Rattle.pauli.specs.Rotations.{flush}
 use Rattle.convert.specs.Records.{GateKind, KindH, KindX, KindZ, KindS, KindSdg, KindT, KindTdg, KindCnot, KindCz, KindCcx, KindCcz, KindMeasure, KindY, KindSx, KindSwap, KindCy, Unsupported, Cap, NoCap, AtMost, Record, records, kindOf, Elementary, clifford, elT, elTdg, elCcx, elCcz, elMeasure, lowerAs, lower, Placed, placedFrom, lowerFrom, lowerAll}
-use Rattle.convert.specs.Plain.{Plain, plainBegin, tested, exceeds, flushed, performAs, perform, plainStep, plainRun}
+use Rattle.convert.specs.Plain.{Plain, plainBegin, tested, exceeds, flushFrom, flushed, performAs, perform, plainStep, plainRun}
 use Rattle.convert.specs.Conversion.{Input, gatesIn, plainEnd}
 use Rattle.convert.specs.Code.Needs.{Place, placeOf, placeStep, placeRun, gatesFrom, cliffordAs, cliffords}
 
@@ -80,11 +79,11 @@ perform-pending n i j (elMeasure q k) p = sym (append-nil (p .pending))
 -- `seen` are the gates since the last flush, es those to come
 place-run : (n : ℕ) (cap : Cap) (rs : List Record) (es seen : List (Placed Elementary)) (at : Place) (p : Plain) → Located rs es
     → gatesFrom at rs ≡ seen ++ es → p .pending ≡ cliffords seen
-    → plainRun flush n cap es p .pending ≡ cliffords (gatesFrom (placeRun n cap es p at) rs)
+    → plainRun flushFrom n cap es p .pending ≡ cliffords (gatesFrom (placeRun n cap es p at) rs)
 unfolding plainRun placeRun plainStep placeStep flushed cliffords
 place-run n cap rs [] seen at p L g h = h ∙ ap cliffords (sym (g ∙ append-nil seen))
 place-run n cap rs (e ∷ es) seen at p L g h =
-    place-run n cap rs es (cond b (e ∷ []) (seen ++ e ∷ [])) (cond b (placeOf e) at) (perform n e (cond b (flushed flush n p) p)) (L .1) (here b) (pending b)
+    place-run n cap rs es (cond b (e ∷ []) (seen ++ e ∷ [])) (cond b (placeOf e) at) (perform n e (cond b (flushed flushFrom n p) p)) (L .1) (here b) (pending b)
   where
     b : Bool
     b = exceeds n cap (p .table) (e .gate)
@@ -93,15 +92,15 @@ place-run n cap rs (e ∷ es) seen at p L g h =
     here true = L .0
     here false = g ∙ sym (append-snoc seen e es)
 
-    pending : (b : Bool) → perform n e (cond b (flushed flush n p) p) .pending ≡ cliffords (cond b (e ∷ []) (seen ++ e ∷ []))
-    pending true = perform-pending n (e .index) (e .part) (e .gate) (flushed flush n p)
+    pending : (b : Bool) → perform n e (cond b (flushed flushFrom n p) p) .pending ≡ cliffords (cond b (e ∷ []) (seen ++ e ∷ []))
+    pending true = perform-pending n (e .index) (e .part) (e .gate) (flushed flushFrom n p)
     pending false = perform-pending n (e .index) (e .part) (e .gate) p ∙ ap (λ l. l ++ cliffords (e ∷ [])) h ∙ sym (cliffords-snoc seen e)
 
 abbrev pub firstPlace : Place
 firstPlace = record { index = 0; part = 0 }
 
 pub pending-since : (n : ℕ) (cap : Cap) (rs : List Record)
-    → plainRun flush n cap (lowerAll rs) (plainBegin n) .pending ≡ cliffords (gatesFrom (placeRun n cap (lowerAll rs) (plainBegin n) firstPlace) rs)
+    → plainRun flushFrom n cap (lowerAll rs) (plainBegin n) .pending ≡ cliffords (gatesFrom (placeRun n cap (lowerAll rs) (plainBegin n) firstPlace) rs)
 unfolding plainBegin lowerAll gatesFrom cliffords
 pending-since n cap rs = place-run n cap rs (lowerFrom 0 rs) [] firstPlace (plainBegin n) (located-from rs [] rs 0 refl refl) refl refl
 
@@ -151,7 +150,7 @@ whole-from i (r ∷ rs) = whole-append (placedFrom i 0 (lower r)) (lowerFrom (su
 whole-run : (n : ℕ) (cap : Cap) (es : List (Placed Elementary)) (p : Plain) (at : Place) → Whole es → at .part ≡ 0 → placeRun n cap es p at .part ≡ 0
 unfolding placeRun placeStep
 whole-run n cap [] p at W h = h
-whole-run n cap (e ∷ es) p at W h = whole-run n cap es (plainStep flush n cap e p) (cond (exceeds n cap (p .table) (e .gate)) (placeOf e) at) (W .1)
+whole-run n cap (e ∷ es) p at W h = whole-run n cap es (plainStep flushFrom n cap e p) (cond (exceeds n cap (p .table) (e .gate)) (placeOf e) at) (W .1)
     (go (exceeds n cap (p .table) (e .gate)) (W .0 n cap (p .table)))
   where
     go : (b : Bool) → (b ≡ true → e .part ≡ 0) → cond b (placeOf e) at .part ≡ 0

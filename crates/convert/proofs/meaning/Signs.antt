@@ -16,10 +16,10 @@ use Rattle.pauli.proofs.Rows.{width-★}
 use Rattle.pauli.proofs.Conj.{hom-back}
 use Rattle.pauli.proofs.Short.{width-single, pair, pair-of}
 use Rattle.convert.specs.Types.{Pauli, I, X, Z, One, Target, Bit}
-use Rattle.convert.specs.Records.{Cap, Elementary, clifford, elT, elTdg, elCcx, elCcz, elMeasure, Proper, AllProper}
-use Rattle.convert.specs.Plain.{Operation, seven, asRotation}
+use Rattle.convert.specs.Records.{Cap, Elementary, clifford, elT, elTdg, elCcx, elCcz, elMeasure, Placed, bare, from, withoutIndex, Proper, AllProper}
+use Rattle.convert.specs.Plain.{Operation, seven, asRotation, flushFrom}
 use Rattle.convert.specs.Paper.{Paper, gateProducts, axes, tooHeavy, sevenAngles, rotateAll, measureFirst, writes, paperPerform, paperFlushed, paperStep, paperRun, paperBegin, AllHermitian}
-use Rattle.convert.proofs.meaning.Words.{map-append, valid-append}
+use Rattle.convert.proofs.meaning.Words.{map-append, valid-append, bare-snoc, without-more, without-flushed}
 
 phases-blank : (n : ℕ) (u : List Pauli) → phases u (replicate n I) ≡ One
 phases-blank zero [] = refl
@@ -117,27 +117,50 @@ flush-hermitian n (g ∷ gs) v = rw (map-append asRotation (written n g) (flush 
 -- ---- the conversion
 
 record Sound (n : ℕ) (p : Paper) : Type 0 where
-  valid : AllValid n (p .since)
-  hermitian : AllHermitian (p .operations)
+  valid : AllValid n (bare (p .since))
+  hermitian : AllHermitian (withoutIndex (p .operations))
 
-sound-perform : (n c : ℕ) (e : Elementary) (p : Paper) → Proper n c e → Sound n p → Sound n (paperPerform n e p)
-unfolding paperPerform writes
-sound-perform n c (clifford g) p h S = record { valid = valid-append n (p .since) (g ∷ []) (S .valid) (h, tt); hermitian = S .hermitian }
-sound-perform n c (elT q) p h S = record { valid = S .valid; hermitian = hermitian-append (p .operations) _ (S .hermitian) (rotated (1 ∷ []) (axes n (p .since) (elT q)) (axes-real n (p .since) (S .valid) c (elT q) h)) }
-sound-perform n c (elTdg q) p h S = record { valid = S .valid; hermitian = hermitian-append (p .operations) _ (S .hermitian) (rotated (7 ∷ []) (axes n (p .since) (elTdg q)) (axes-real n (p .since) (S .valid) c (elTdg q) h)) }
-sound-perform n c (elCcx a b d) p h S = record { valid = S .valid; hermitian = hermitian-append (p .operations) _ (S .hermitian) (rotated sevenAngles (axes n (p .since) (elCcx a b d)) (axes-real n (p .since) (S .valid) c (elCcx a b d) h)) }
-sound-perform n c (elCcz a b d) p h S = record { valid = S .valid; hermitian = hermitian-append (p .operations) _ (S .hermitian) (rotated sevenAngles (axes n (p .since) (elCcz a b d)) (axes-real n (p .since) (S .valid) c (elCcz a b d) h)) }
-sound-perform n c (elMeasure q k) p h S = record { valid = S .valid; hermitian = hermitian-append (p .operations) _ (S .hermitian) (measured (p .given) (Bit k) (axes n (p .since) (elMeasure q k)) (axes-real n (p .since) (S .valid) c (elMeasure q k) h)) }
+writes-hermitian : (n : ℕ) (gs : List Gate) → AllValid n gs → (c m : ℕ) (e : Elementary) → Proper n c e → AllHermitian (writes n gs m e)
+unfolding writes
+writes-hermitian n gs v c m (clifford g) h = tt
+writes-hermitian n gs v c m (elT q) h = rotated (1 ∷ []) (axes n gs (elT q)) (axes-real n gs v c (elT q) h)
+writes-hermitian n gs v c m (elTdg q) h = rotated (7 ∷ []) (axes n gs (elTdg q)) (axes-real n gs v c (elTdg q) h)
+writes-hermitian n gs v c m (elCcx a b d) h = rotated sevenAngles (axes n gs (elCcx a b d)) (axes-real n gs v c (elCcx a b d) h)
+writes-hermitian n gs v c m (elCcz a b d) h = rotated sevenAngles (axes n gs (elCcz a b d)) (axes-real n gs v c (elCcz a b d) h)
+writes-hermitian n gs v c m (elMeasure q k) h = measured m (Bit k) (axes n gs (elMeasure q k)) (axes-real n gs v c (elMeasure q k) h)
 
-sound-run : (n c : ℕ) (cap : Cap) (es : List Elementary) (p : Paper) → AllProper n c es → Sound n p → Sound n (paperRun flush n cap es p)
+sound-more : (n c i : ℕ) (e : Elementary) (p : Paper) → Proper n c e → Sound n p → AllHermitian (withoutIndex (p .operations ++ map (from i) (writes n (bare (p .since)) (p .given) e)))
+sound-more n c i e p h S =
+    rw (without-more (p .operations) i (writes n (bare (p .since)) (p .given) e))
+    (hermitian-append (withoutIndex (p .operations)) _ (S .hermitian) (writes-hermitian n (bare (p .since)) (S .valid) c (p .given) e h))
+
+sound-perform : (n c i j : ℕ) (e : Elementary) (p : Paper) → Proper n c e → Sound n p → Sound n (paperPerform n i j e p)
+unfolding paperPerform
+sound-perform n c i j (clifford g) p h S = record {
+  valid = rw (bare-snoc (p .since) i j g) (valid-append n (bare (p .since)) (g ∷ []) (S .valid) (h, tt));
+  hermitian = S .hermitian;
+}
+sound-perform n c i j (elT q) p h S = record { valid = S .valid; hermitian = sound-more n c i (elT q) p h S }
+sound-perform n c i j (elTdg q) p h S = record { valid = S .valid; hermitian = sound-more n c i (elTdg q) p h S }
+sound-perform n c i j (elCcx a b d) p h S = record { valid = S .valid; hermitian = sound-more n c i (elCcx a b d) p h S }
+sound-perform n c i j (elCcz a b d) p h S = record { valid = S .valid; hermitian = sound-more n c i (elCcz a b d) p h S }
+sound-perform n c i j (elMeasure q k) p h S = record { valid = S .valid; hermitian = sound-more n c i (elMeasure q k) p h S }
+
+sound-flushed : (n : ℕ) (p : Paper) → Sound n p → Sound n (paperFlushed flushFrom n p)
+sound-flushed n p S = record {
+  valid = tt;
+  hermitian = rw (without-flushed (p .operations) n (p .since)) (hermitian-append (withoutIndex (p .operations)) _ (S .hermitian) (flush-hermitian n (bare (p .since)) (S .valid)));
+}
+
+sound-run : (n c : ℕ) (cap : Cap) (es : List (Placed Elementary)) (p : Paper) → AllProper n c (bare es) → Sound n p → Sound n (paperRun flushFrom n cap es p)
 unfolding paperRun paperStep
 sound-run n c cap [] p h S = S
-sound-run n c cap (e ∷ es) p h S = sound-run n c cap es (paperStep flush n cap e p) (h .1) (go (tooHeavy n cap (p .since) e))
+sound-run n c cap (e ∷ es) p h S = sound-run n c cap es (paperStep flushFrom n cap e p) (h .1) (go (tooHeavy n cap (bare (p .since)) (e .gate)))
   where
-    go : (b : Bool) → Sound n (paperPerform n e (cond b (paperFlushed flush n p) p))
-    go true = sound-perform n c e (paperFlushed flush n p) (h .0) (record { valid = tt; hermitian = hermitian-append (p .operations) _ (S .hermitian) (flush-hermitian n (p .since) (S .valid)) })
-    go false = sound-perform n c e p (h .0) S
+    go : (b : Bool) → Sound n (paperPerform n (e .index) (e .part) (e .gate) (cond b (paperFlushed flushFrom n p) p))
+    go true = sound-perform n c (e .index) (e .part) (e .gate) (paperFlushed flushFrom n p) (h .0) (sound-flushed n p S)
+    go false = sound-perform n c (e .index) (e .part) (e .gate) p (h .0) S
 
 -- every axis of a conversion is Hermitian
-pub hermitian : (n c : ℕ) (cap : Cap) (es : List Elementary) → AllProper n c es → AllHermitian (paperRun flush n cap es paperBegin .operations)
+pub hermitian : (n c : ℕ) (cap : Cap) (es : List (Placed Elementary)) → AllProper n c (bare es) → AllHermitian (withoutIndex (paperRun flushFrom n cap es paperBegin .operations))
 hermitian n c cap es h = sound-run n c cap es paperBegin h (record { valid = tt; hermitian = tt }) .hermitian

@@ -29,7 +29,7 @@ returns c =
     let id-x = c .before .before .before .before .before .id-x in
     let id-z = c .before .before .before .before .before .before .id-z in
     let args = c .before .before .before .before .before .before .before .before .before .before .before .args in
-    cnot-flushed (args .c) (args .t) (id-z .ensures) (id-x .ensures) (put-joint .ensures)
+    cnot-flushed (args .gate) (args .c) (args .t) (id-z .ensures) (id-x .ensures) (put-joint .ensures)
 
 pub flush-cnot-spec : {M : Type 1} → statement M
 flush-cnot-spec =

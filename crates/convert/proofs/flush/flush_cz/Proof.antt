@@ -28,7 +28,7 @@ returns c =
     let id-z2 = c .before .before .before .before .before .id-z2 in
     let id-z = c .before .before .before .before .before .before .id-z in
     let args = c .before .before .before .before .before .before .before .before .before .before .before .args in
-    cz-flushed (args .c) (args .t) (id-z .ensures) (id-z2 .ensures) (put-joint .ensures)
+    cz-flushed (args .gate) (args .c) (args .t) (id-z .ensures) (id-z2 .ensures) (put-joint .ensures)
 
 pub flush-cz-spec : {M : Type 1} → statement M
 flush-cz-spec =

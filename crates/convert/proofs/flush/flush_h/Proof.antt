@@ -39,7 +39,7 @@ returns c =
     let id-z = c .before .before .before .before .before .before .before .before .before .before .before .before .before .before .id-z in
     let back12 = c .before .before .before .before .before .before .before .before .before .before .before .before in
     let args = back12 .before .before .before .before .before .args in
-    h-flushed (args .q) (id-z .ensures) (id-x .ensures) (put-rotation .ensures) (put-rotation2 .ensures) (put-rotation3 .ensures) (c .made .ensures)
+    h-flushed (args .gate) (args .q) (id-z .ensures) (id-x .ensures) (put-rotation .ensures) (put-rotation2 .ensures) (put-rotation3 .ensures) (c .made .ensures)
 
 pub flush-h-spec : {M : Type 1} → statement M
 flush-h-spec =

@@ -41,6 +41,12 @@ add-operand-at-2 c = search needs
 operand-at-requires-2 : tie.Need-operand-at-requires-2 Inv-loop μ-loop
 operand-at-requires-2 c κs = (omega (arith, c .before .before .loop-test .taken, c .before .before .before .before .before .before .before .pre .1), omega arith)
 
+add-gate : tie.Need-add-gate Inv-loop μ-loop
+add-gate c = search needs
+
+cast-gate : tie.Need-cast-gate Inv-loop μ-loop
+cast-gate c = omega (arith, c .before .before .before .loop-test .taken, c .before .before .before .before .before .before .before .before .pre .1)
+
 flush-record-requires : tie.Need-flush-record-requires Inv-loop μ-loop
 flush-record-requires c κs =
     let a = c .before .before .before .before .before .before .before .before .before .before .args in
@@ -98,6 +104,8 @@ flush-records-spec =
     operand-at-requires
     add-operand-at-2
     operand-at-requires-2
+    add-gate
+    cast-gate
     flush-record-requires
     add-k
     loop-less

@@ -21,7 +21,7 @@ same-length : tie.Need-same-length
 same-length c = search needs
 
 returns : tie.Need-returns
-returns c = x-flushed (c .before .before .before .before .before .before .before .before .args .q) (c .made .ensures) (c .before .before .before .before .id-x .ensures) (c .before .before .before .put-rotation .ensures)
+returns c = x-flushed (c .before .before .before .before .before .before .before .before .args .gate) (c .before .before .before .before .before .before .before .before .args .q) (c .made .ensures) (c .before .before .before .before .id-x .ensures) (c .before .before .before .put-rotation .ensures)
 
 pub flush-x-spec : {M : Type 1} → statement M
 flush-x-spec =

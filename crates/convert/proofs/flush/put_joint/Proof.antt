@@ -41,7 +41,7 @@ returns c =
     let back12 = c .before .before .before .before .before .before .before .before .before .before .before .before in
     let push = back12 .before .before .before .push in
     let args = back12 .before .before .before .before .before .before .before .before .args in
-    joint-put (args .w .nodes) (args .nodes .now) (args .w .operations) (args .operations .now) (args .left) (args .right) refl (push .ensures)
+    joint-put (args .gate) (args .w .nodes) (args .nodes .now) (args .w .operations) (args .operations .now) (args .left) (args .right) refl (push .ensures)
     (put-rotation .ensures) (put-rotation2 .ensures) (put-rotation3 .ensures) (c .made .ensures)
 
 pub put-joint-spec : {M : Type 1} → statement M

@@ -20,7 +20,7 @@ same-length : tie.Need-same-length
 same-length c = search needs
 
 returns : tie.Need-returns
-returns c = (refl, c .before .before .put-operation .ensures ∙ operation-written (c .before .before .before .before .before .args .index) (rotateWords (c .before .before .before .before .before .args .axis) (c .before .before .before .before .before .args .angle)) (c .before .before .before .before .before .args .operations .now) (omega (arith, c .before .before .before .before .before .pre)))
+returns c = (refl, c .before .before .put-operation .ensures ∙ operation-written (c .before .before .before .before .before .args .index) (rotateWords (c .before .before .before .before .before .args .axis) (c .before .before .before .before .before .args .angle) (c .before .before .before .before .before .args .gate)) (c .before .before .before .before .before .args .operations .now) (omega (arith, c .before .before .before .before .before .pre)))
 
 pub put-rotation-spec : {M : Type 1} → statement M
 put-rotation-spec =

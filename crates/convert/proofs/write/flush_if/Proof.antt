@@ -22,7 +22,7 @@ flush-records-requires c κs =
     let if1 = c .before .before .before .before .before .before .if1 in
     let pre = c .before .before .before .before .before .before .before .before .before .before .before .pre in
     let args = c .before .before .before .before .before .before .before .before .before .before .before .args in
-    (pre .0 (not-false (args .flushed) (if1 .left)), pre .1 .0)
+    (pre .0 (not-false (args .flushed) (if1 .left)), (pre .1 .0, pre .1 .1))
 
 same-length : tie.Need-same-length
 same-length c = search needs
@@ -41,7 +41,7 @@ returns-2 c =
     let back12 = c .before .before .before .before .before .before .before .before .before .before .before .before in
     let args = back12 .before .before .before .before .args in
     let pre = back12 .before .before .before .before .pre in
-    is-flushed (args .n) (not-false (args .flushed) (if1 .left)) (flush-records .ensures) (start-frame .ensures ∙ frame-started (args .n) (args .frame .now) (pre .1 .1) (pre .1 .2))
+    is-flushed (args .n) (not-false (args .flushed) (if1 .left)) (flush-records .ensures) (start-frame .ensures ∙ frame-started (args .n) (args .frame .now) (pre .1 .2) (pre .1 .3))
 
 pub flush-if-spec : {M : Type 1} → statement M
 flush-if-spec =

@@ -12,13 +12,13 @@ use Rattle.convert.proofs.write.put_rows.Reads as reads
 use Rattle.convert.proofs.write.put_rows.Lts as lts
 
 abbrev Inv-loop : tie.InvT-loop
-Inv-loop index operations₀ a b d joint next₀ row₀ operations next row = (row ≤ 7) × (length operations ≡ length operations₀) × (next ≡ next₀ + row) × (putRows row a b d joint (writing 0 [] next₀ operations₀) ≡ writing 0 [] next operations)
+Inv-loop index operations₀ a b d joint gate next₀ row₀ operations next row = (row ≤ 7) × (length operations ≡ length operations₀) × (next ≡ next₀ + row) × (putRows gate row a b d joint (writing 0 [] next₀ operations₀) ≡ writing 0 [] next operations)
 
 abbrev μ-loop : tie.MeasureT-loop
-μ-loop index operations₀ a b d joint next₀ row₀ operations next row = 7 - row
+μ-loop index operations₀ a b d joint gate next₀ row₀ operations next row = 7 - row
 
 loop-holds : tie.Need-loop-holds Inv-loop μ-loop
-loop-holds c = (omega arith, refl, omega arith, rows-none (c .before .args .a) (c .before .args .b) (c .before .args .d) (c .before .args .joint) (c .before .args .index) (c .before .args .operations .now))
+loop-holds c = (omega arith, refl, omega arith, rows-none (c .before .args .gate) (c .before .args .a) (c .before .args .b) (c .before .args .d) (c .before .args .joint) (c .before .args .index) (c .before .args .operations .now))
 
 row-subset-requires : tie.Need-row-subset-requires Inv-loop μ-loop
 row-subset-requires c κs = c .loop-test .taken
@@ -57,7 +57,7 @@ loop-again c =
       omega (arith, loop-test .taken),
       omega (arith, put-rotation .kept, the-loop .inv .1),
       omega (arith, put-rotation .ensures .0, the-loop .inv .2),
-      rows-more (the-loop .row) (args .a) (args .b) (args .d) (args .joint) (args .index) (args .operations .now) _ _ _ _ _ _ _ (the-loop .inv .3)
+      rows-more (args .gate) (the-loop .row) (args .a) (args .b) (args .d) (args .joint) (args .index) (args .operations .now) _ _ _ _ _ _ _ (the-loop .inv .3)
           (row-subset .ensures) (subset-word .ensures) (row-angle .ensures .0) (put-rotation .ensures),
     )
 

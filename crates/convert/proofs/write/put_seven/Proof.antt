@@ -25,7 +25,7 @@ returns c =
     let put-rows = c .before .before .before .put-rows in
     let put-four = c .before .before .before .before .before .before .before .put-four in
     let args = c .before .before .before .before .before .before .before .before .before .before .before .args in
-    seven-put (args .w .nodes) (args .nodes .now) (args .w .operations) (args .operations .now) (args .a) (args .b) (args .d) _ _ _ _ _ _
+    seven-put (args .gate) (args .w .nodes) (args .nodes .now) (args .w .operations) (args .operations .now) (args .a) (args .b) (args .d) _ _ _ _ _ _
     (put-four .ensures) (put-rows .ensures) (c .made .ensures)
 
 pub put-seven-spec : {M : Type 1} → statement M

@@ -116,12 +116,12 @@ returns c =
     let a = args in
     let axis = getD (a .frame .now) (a .n + a .a) 0 in
     let q = read-lone (a .kind) (the-match .keys1) pre in
-    let put = lone-put (a .kind) axis (a .given) (a .b) (a .w .operations) (a .operations .now) _ _ _ _ (first-word .ensures) (given-word .ensures)
+    let put = lone-put (a .kind) axis (a .given) (a .b) (a .gate) (a .w .operations) (a .operations .now) _ _ _ _ (first-word .ensures) (given-word .ensures)
     (bit-word .ensures) (q .place) (put-operation .ensures) in
-    op-put (a .w .nodes) (a .nodes .now) (a .w .operations) (a .operations .now) (loneWords (a .kind) axis (a .given) (a .b))
+    op-put (a .w .nodes) (a .nodes .now) (a .w .operations) (a .operations .now) (loneWords (a .kind) axis (a .given) (a .b) (a .gate))
     (a .w .operations + 1) _ _ _ (refl, put)
     (c .made .ensures)
-    ∙ lone-record (a .n) (a .given) (a .kind) (a .a) (a .b) (a .d) (a .frame .now) (writing (a .w .nodes) (a .nodes .now) (a .w .operations)
+    ∙ lone-record (a .n) (a .given) (a .gate) (a .kind) (a .a) (a .b) (a .d) (a .frame .now) (writing (a .w .nodes) (a .nodes .now) (a .w .operations)
     (a .operations .now))
     (the-match .keys1)
 
@@ -136,11 +136,11 @@ returns-2 c =
     let a = c .before .before .before .before .before .before .before .before .before .before .before .before .before .before .before .args in
     let s = writing (a .w .nodes) (a .nodes .now) (a .w .operations) (a .operations .now) in
     c .before .before .before .before .put-seven .ensures
-    ∙ ap (λ (i : ℕ). putSeven (getD (a .frame .now) (a .n + a .a) 0) (getD (a .frame .now) (a .n + a .b) 0) (getD (a .frame .now) i 0) s) (c .before .before .before .before .before .before .last-place .ensures)
-    ∙ seven-record (a .n) (a .given) (a .kind) (a .a) (a .b) (a .d) (a .frame .now) s (c .before .before .before .before .before .before .before .before .before .before .before .match .keys2)
+    ∙ ap (λ (i : ℕ). putSeven (a .gate) (getD (a .frame .now) (a .n + a .a) 0) (getD (a .frame .now) (a .n + a .b) 0) (getD (a .frame .now) i 0) s) (c .before .before .before .before .before .before .last-place .ensures)
+    ∙ seven-record (a .n) (a .given) (a .gate) (a .kind) (a .a) (a .b) (a .d) (a .frame .now) s (c .before .before .before .before .before .before .before .before .before .before .before .match .keys2)
 
 returns-3 : tie.Need-returns-3
-returns-3 c = no-record _ _ _ _ _ _ _ _ (c .match .keys3)
+returns-3 c = no-record _ _ _ _ _ _ _ _ _ (c .match .keys3)
 
 pub write-record-spec : {M : Type 1} → statement M
 write-record-spec =

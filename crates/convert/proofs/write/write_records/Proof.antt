@@ -99,6 +99,7 @@ flush-if-requires c κs =
           (the-loop .inv .1, the-loop .inv .2, omega (arith, the-loop .inv .3, pre .1 .1 .0 .4)) (decide .result) (pl .0) on),
       (
         omega (arith, at .past, h),
+        pre .1 .1 .0 .3,
         pre .1 .1 .0 .2,
         omega (arith, the-loop .inv .3, pre .1 .1 .0 .4),
       ),
@@ -152,6 +153,9 @@ frame-record-requires c κs =
 
 made-requires-2 : tie.Need-made-requires-2 Inv-loop μ-loop
 made-requires-2 c κs = search needs
+
+cast-gate : tie.Need-cast-gate Inv-loop μ-loop
+cast-gate c = omega (arith, c .before .before .before .before .before .before .before .before .before .before .before .before .before .before .before .before .before .before .before .before .before .before .before .before .before .before .loop-test .taken, c .before .before .before .before .before .before .before .before .before .before .before .before .before .before .before .before .before .before .before .before .before .before .before .before .before .before .before .before .before .before .before .before .before .before .before .before .before .before .pre .1 .1 .0 .3)
 
 write-record-requires : tie.Need-write-record-requires Inv-loop μ-loop
 write-record-requires c κs =
@@ -332,6 +336,7 @@ write-records-spec =
     flush-if-requires
     frame-record-requires
     made-requires-2
+    cast-gate
     write-record-requires
     measures-requires
     add-given
