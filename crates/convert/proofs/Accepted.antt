@@ -1,9 +1,9 @@
 -- What is known of a conversion, or of a frame gate, that no check refused.
 use mathlib.Core.Path.{_≡_, refl, ap, sym}
 use mathlib.Core.Logic.{_≢_, Ne·symm}
-use mathlib.Core.Bool.{false, _||_, _&&_}
+use mathlib.Core.Bool.{false, not, _||_, _&&_}
 use mathlib.Core.List.{List, [], _∷_, _++_}
-use Prim.Native.Nat.{ℕ, suc, _*_, _/_, _≤_, _<_}
+use Prim.Native.Nat.{ℕ, suc, _*_, _/_, _%_, _≤_, _<_}
 use borrow.Author.Tests.{ltb-false, leb-false, eqb-false}
 use lib.Dec.{ltb, leb, eqb}
 use lib.ListN.{length, take}
@@ -104,6 +104,7 @@ proper-records k n cbits i (r ∷ rs) e =
 pub record Accepted (l : Limits) (x : Input) : Type 0 where
   pub proper : AllProper (x .qubits) (x .cbits) (bare (gatesIn x))
   pub cap : capTooSmall (x .cap) (records (x .gates)) ≡ false
+  pub gate-words : length (x .gates) ≤ l .gateWords
   pub qubits : x .qubits ≤ l .qubits
   pub cbits : x .cbits ≤ l .cbits
   pub frame : 2 * x .qubits ≤ length (x .frame)
@@ -120,10 +121,12 @@ accepted l x e₁₅ =
     let e₁₂ = passed-before _ _ _ e₁₃ in
     let e₁₁ = passed-before _ _ _ e₁₂ in
     let e₉ = passed-before _ _ _ e₁₁ in
-    let e₁ = passed-before _ _ _ (passed-records _ (x .qubits) (x .cbits) 0 (records (x .gates)) e₉) in
+    let e₂ = passed-records _ (x .qubits) (x .cbits) 0 (records (x .gates)) e₉ in
+    let e₁ = passed-before _ _ _ e₂ in
     record {
       proper = proper-records _ (x .qubits) (x .cbits) 0 (records (x .gates)) e₉;
       cap = test-passed _ _ _ e₁₁;
+      gate-words = ltb-false _ _ (right-false (not (eqb (length (x .gates) % 4) 0)) _ (test-passed _ _ _ e₂));
       qubits = ltb-false _ _ (left-false (ltb (l .qubits) (x .qubits)) _ (test-passed _ _ _ e₁));
       cbits = ltb-false _ _ (right-false (ltb (l .qubits) (x .qubits)) _ (test-passed _ _ _ e₁));
       frame = ltb-false _ _ (test-passed _ _ _ e₁₃);

@@ -86,7 +86,7 @@ largest-kind : written 4294967295 ≡ unsupported 4294967295
 unfolding written
 largest-kind = refl
 
--- ---- a flush comes when it must, and not before
+-- ---- a flush comes when it must, and not before; the last word of each operation is the gate record that it is of
 
 operationsOf : ℕ → ℕ → List ℕ → List ℕ
 unfolding lent
@@ -150,6 +150,17 @@ flush-again : operationsOf 2 1 (gate 8 0 1 0 ++ gate 5 1 0 0 ++ gate 0 0 0 0 ++ 
     ∷ 8 ∷ 8 ∷ 0 ∷ 0 ∷ 2 ∷ 8 ∷ 8 ∷ 0 ∷ 0 ∷ 3 ∷ 8 ∷ 12 ∷ 0 ∷ 0 ∷ 3 ∷ 24 ∷ 40 ∷ 0 ∷ 0 ∷ 3 ∷ 4 ∷ 16 ∷ 0 ∷ 0 ∷ 4 ∷ []
 unfolding operationsOf
 flush-again = refl
+
+-- y, sx, swap and cy: whatever gates a record is lowered to, each rotation names the record
+flush-lowered : operationsOf 2 1 (gate 15 0 0 0 ++ gate 16 0 0 0 ++ gate 19 0 1 0 ++ gate 20 0 1 0 ++ gate 5 1 0 0)
+    ≡ 16 ∷ 8 ∷ 0 ∷ 0 ∷ 0 ∷ 16 ∷ 4 ∷ 0 ∷ 0 ∷ 0
+    ∷ 8 ∷ 8 ∷ 0 ∷ 0 ∷ 1 ∷ 8 ∷ 4 ∷ 0 ∷ 0 ∷ 1 ∷ 8 ∷ 8 ∷ 0 ∷ 0 ∷ 1 ∷ 8 ∷ 8 ∷ 0 ∷ 0 ∷ 1 ∷ 8 ∷ 8 ∷ 0 ∷ 0 ∷ 1 ∷ 8 ∷ 4 ∷ 0 ∷ 0 ∷ 1 ∷ 8 ∷ 8 ∷ 0 ∷ 0 ∷ 1
+    ∷ 8 ∷ 8 ∷ 0 ∷ 0 ∷ 2 ∷ 8 ∷ 12 ∷ 0 ∷ 0 ∷ 2 ∷ 24 ∷ 64 ∷ 0 ∷ 0 ∷ 2 ∷ 8 ∷ 16 ∷ 0 ∷ 0 ∷ 2 ∷ 8 ∷ 4 ∷ 0 ∷ 0 ∷ 2 ∷ 24 ∷ 68 ∷ 0 ∷ 0 ∷ 2
+    ∷ 8 ∷ 8 ∷ 0 ∷ 0 ∷ 2 ∷ 8 ∷ 12 ∷ 0 ∷ 0 ∷ 2 ∷ 24 ∷ 72 ∷ 0 ∷ 0 ∷ 2
+    ∷ 24 ∷ 16 ∷ 0 ∷ 0 ∷ 3 ∷ 8 ∷ 8 ∷ 0 ∷ 0 ∷ 3 ∷ 8 ∷ 12 ∷ 0 ∷ 0 ∷ 3 ∷ 24 ∷ 76 ∷ 0 ∷ 0 ∷ 3 ∷ 8 ∷ 16 ∷ 0 ∷ 0 ∷ 3
+    ∷ 4 ∷ 16 ∷ 0 ∷ 0 ∷ 4 ∷ []
+unfolding operationsOf
+flush-lowered = refl
 
 -- ---- the planes after each refusal: cnot 0 1 first, so that the end state is not the start
 

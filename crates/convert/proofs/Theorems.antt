@@ -17,35 +17,37 @@ use Rattle.arena.specs.Nodes.{image}
 use Rattle.arena.specs.Builder.{overlay}
 use Rattle.arena.specs.Walk.{fine, refused as refusedWith}
 use Rattle.arena.specs.Readers.{Report}
-use Rattle.arena.specs.Expansion.{badNodes, opAt, badOperations, expandStep, hermitianStep, reportStep}
+use Rattle.arena.specs.Expansion.{badNodes, badOperations, expandStep, hermitianStep, reportStep}
 use Rattle.arena.proofs.NodeRows.{image-older}
 use Rattle.arena.proofs.Readable.{both-false}
 use Rattle.arena.proofs.Theorems.{expand-bad, hermitian-bad, report-bad}
 use Rattle.convert.specs.Types.{Header, PauliRef, PbcError, BadStore, Fine, Wrong}
-use Rattle.convert.specs.Records.{KindY, KindSx, KindSwap, KindCy, Cap, AtMost, records, lowerAll, kindOf, Elementary, Placed, bare, AllProper}
-use Rattle.convert.specs.Plain.{plainBegin, plainRun}
+use Rattle.convert.specs.Records.{KindY, KindSx, KindSwap, KindCy, Cap, AtMost, records, lowerAll, kindOf, Elementary, Placed, bare, mapFrom, withoutIndex, AllProper}
+use Rattle.convert.specs.Plain.{plainBegin, flushFrom, plainRun}
 use Rattle.convert.specs.Paper.{AllHermitian}
 use Rattle.convert.specs.Frame.{Arena, frameGates, cliffordCheck, opened}
-use Rattle.convert.specs.Words.{Words, decoded, meaning, opsFrom, operationsIn, wordRun, startWords}
+use Rattle.convert.specs.Words.{Words, decoded, meaning, opFrom, opsFrom, operationsIn, wordRun, startWords}
 use Rattle.convert.specs.Conversion.{limits, Input, gatesIn, plainEnd, tableEnd, paperEnd, wordEnd, convertCheck, convertedHeader, ConvertedMade, ConvertedRefused, convertWithin, convertStep}
 use Rattle.convert.specs.Later.{Circuit, converted, LaterCall, callFrame, later, laters, AllCarried}
 use Rattle.convert.specs.Statement.{AllWithin, Capped, Frame, Means, frameImages, Converts, endTable, endGates, Demand3}
 use Rattle.convert.specs.Lowering.{ruleY, ruleSx, ruleSwap, ruleCy, loweredActs}
+use Rattle.convert.specs.Sources.{All, OfRecord, unflushedIndices, NeverFall, Sources}
 use Rattle.convert.specs.Circuits.{HandCircuits}
 use Rattle.convert.proofs.meaning.Nodes.{image-append}
 use Rattle.convert.proofs.meaning.FrameRows.{Keeps, kept-map, Shows, shown}
 use Rattle.convert.proofs.meaning.Words.{Meant, meant, reads-kept}
-use Rattle.convert.proofs.meaning.Papers.{Agrees, agrees, table-run}
+use Rattle.convert.proofs.meaning.Papers.{table-run}
 use Rattle.convert.proofs.meaning.Signs.{hermitian}
 use Rattle.convert.proofs.Accepted.{accepted, FitsGate, fits-gate}
 use Rattle.convert.proofs.meaning.Cap.{capped}
-use Rattle.convert.proofs.calls.Table.{framed, shows-framed, later-framed, Good, good-laters, made-step, meant-input, good-converted}
+use Rattle.convert.proofs.meaning.Sources.{paper-below, paper-named, paper-never-falls}
+use Rattle.convert.proofs.calls.Table.{framed, shows-framed, later-framed, Good, good-laters, made-step, meant-input, agrees-input, good-converted}
 use Rattle.convert.proofs.meaning.Lowered.{y-acts, sx-acts, swap-acts, cy-acts}
 use Rattle.convert.proofs.HandCircuits.{hand-circuits}
 use Rattle.convert.proofs.meaning.Operations.{ops-read}
 use Rattle.convert.proofs.calls.Readable.{rowsOpened, gate-shows, reads-nodes, reads-back, reads-laters}
 use Rattle.convert.proofs.calls.Operations.{operates-on, operates-back, operates-laters}
-use Rattle.convert.proofs.calls.Converted.{four-words, reads-converted, operates-converted, report-within, converted-made}
+use Rattle.convert.proofs.calls.Converted.{sized-words, reads-converted, operates-converted, report-within, converted-made}
 
 -- ---- Means
 
@@ -58,35 +60,31 @@ map-map f g (a ∷ l) = ap (λ r. f (g a) ∷ r) (map-map f g l)
 
 -- at every point of a conversion, es being the elementary gates so far
 pub means : (n owner cbits : ℕ) (cap : Cap) (es : List (Placed Elementary)) → AllProper n cbits (bare es)
-    → Means n owner cbits (plainRun flush n cap es (plainBegin n)) (wordRun n cap es (plainBegin n) (startWords n))
+    → Means n owner cbits (plainRun flushFrom n cap es (plainBegin n)) (wordRun n cap es (plainBegin n) (startWords n))
 means n owner cbits cap es v = record {
   places = λ j hj. shown n _ _ (M .core .shows) j hj;
-  operations = map-map (meaning n (w .arena .count) (w .arena .nodes)) (decoded owner cbits) (w .ops) ∙ M .core .written .reads;
-  frame = subst (λ t. Frame n (bare (plainRun flush n cap es (plainBegin n) .pending)) t) (sym (M .table-of)) (frame-table n _ (M .valid));
+  operations = map-map (mapFrom (meaning n (w .arena .count) (w .arena .nodes))) (decoded owner cbits) (w .ops) ∙ M .core .written .reads;
+  frame = subst (λ t. Frame n (bare (plainRun flushFrom n cap es (plainBegin n) .pending)) t) (sym (M .table-of)) (frame-table n _ (M .valid));
 }
   where
     w : Words
     w = wordRun n cap es (plainBegin n) (startWords n)
 
-    M : Meant n owner cbits (plainRun flush n cap es (plainBegin n)) w
+    M : Meant n owner cbits (plainRun flushFrom n cap es (plainBegin n)) w
     M = meant n owner cbits cap es v
 
 -- the rotations that a flush would write act by conjugation as the pending gates do
 pub flush-acts : (n cbits : ℕ) (cap : Cap) (es : List (Placed Elementary)) → AllProper n cbits (bare es) → (Q : Row) → Width n Q
-    → rotations (flush n (bare (plainRun flush n cap es (plainBegin n) .pending))) Q ≡ forward (bare (plainRun flush n cap es (plainBegin n) .pending)) Q
+    → rotations (flush n (bare (plainRun flushFrom n cap es (plainBegin n) .pending))) Q ≡ forward (bare (plainRun flushFrom n cap es (plainBegin n) .pending)) Q
 flush-acts n cbits cap es v Q w = flush-as-gates n _ Q (meant n 0 cbits cap es v .valid) w
 
 -- ---- an accepted conversion
 
-agrees-input : (x : Input) → convertCheck limits x ≡ Fine → Agrees (x .qubits) (plainEnd x) (paperEnd x)
-unfolding plainEnd paperEnd
-agrees-input x e = agrees flush (x .qubits) (x .cbits) (x .cap) (gatesIn x) (accepted limits x e .proper)
-
-hermitian-input : (x : Input) → convertCheck limits x ≡ Fine → AllHermitian (paperEnd x .operations)
+hermitian-input : (x : Input) → convertCheck limits x ≡ Fine → AllHermitian (withoutIndex (paperEnd x .operations))
 unfolding paperEnd
-hermitian-input x e = hermitian (x .qubits) (x .cbits) (x .cap) (bare (gatesIn x)) (accepted limits x e .proper)
+hermitian-input x e = hermitian (x .qubits) (x .cbits) (x .cap) (gatesIn x) (accepted limits x e .proper)
 
-capped-input : (x : Input) → convertCheck limits x ≡ Fine → Capped (x .cap) (paperEnd x .operations)
+capped-input : (x : Input) → convertCheck limits x ≡ Fine → Capped (x .cap) (withoutIndex (paperEnd x .operations))
 unfolding paperEnd gatesIn lowerAll
 capped-input x e = capped (x .qubits) (x .cbits) 0 (x .cap) (records (x .gates)) (accepted limits x e .proper) (accepted limits x e .cap)
 
@@ -136,9 +134,9 @@ operations-read : (x : Input) → convertCheck limits x ≡ Fine
     → operationsIn (convertedHeader x) (convertStep x .nodes) (convertStep x .operations) ≡ paperEnd x .operations
 unfolding operationsIn
 operations-read x e =
-    ap₂ (λ ns ops. map (meaning (x .qubits) (wordEnd x .arena .count) ns) (opsFrom (opAt (convertedHeader x) ops) 0 (length (wordEnd x .ops))))
+    ap₂ (λ ns ops. map (mapFrom (meaning (x .qubits) (wordEnd x .arena .count) ns)) (opsFrom (opFrom (convertedHeader x) ops) 0 (length (wordEnd x .ops))))
     (ap (λ r. r .nodes) (made-step x e)) (ap (λ r. r .operations) (made-step x e))
-    ∙ ap (map (meaning (x .qubits) (wordEnd x .arena .count) (overlay (wordEnd x .arena .nodes) (x .nodes)))) (ops-read (convertedHeader x) (wordEnd x .ops) _ (four-words x))
+    ∙ ap (map (mapFrom (meaning (x .qubits) (wordEnd x .arena .count) (overlay (wordEnd x .arena .nodes) (x .nodes))))) (ops-read (convertedHeader x) (wordEnd x .ops) _ (sized-words x))
     ∙ reads-kept (x .qubits) (wordEnd x .arena) lent kept (map (decoded (x .owner) (x .cbits)) (wordEnd x .ops)) (M .core .written .below)
     ∙ M .core .written .reads ∙ agrees-input x e .operations
   where
@@ -160,15 +158,28 @@ converts x e = record {
   hermitian = hermitian-input x e;
   capped = capped-input x e;
   measurements = agrees-input x e .given;
-  frame = subst (λ t. Frame (x .qubits) (paperEnd x .since) t) (sym (images-are (x .qubits) (converted x) _ (good-converted x e .qubits) (good-converted x e .shows) ∙ agrees-input x e .table-of))
-      (frame-table (x .qubits) (paperEnd x .since) (agrees-input x e .valid));
+  frame = subst (λ t. Frame (x .qubits) (bare (paperEnd x .since)) t) (sym (images-are (x .qubits) (converted x) _ (good-converted x e .qubits) (good-converted x e .shows) ∙ agrees-input x e .table-of))
+      (frame-table (x .qubits) (bare (paperEnd x .since)) (agrees-input x e .valid));
 }
+
+-- ---- E2 of document 02: the gate record that an operation names
+
+-- each operation of an accepted conversion names a record of the list, whose lowering has the gate that wrote it; but for what flushes write, in order
+pub sources : (x : Input) → convertCheck limits x ≡ Fine → Sources x
+sources x e = record {
+  below = subst (All (λ o. o .index < length (records (x .gates)))) papers (paper-below x);
+  named = subst (All (OfRecord (x .qubits) (records (x .gates)))) papers (paper-named x);
+  never-fall = subst (λ os. NeverFall (unflushedIndices os)) papers (paper-never-falls x);
+}
+  where
+    papers : paperEnd x .operations ≡ operationsIn (convertedHeader x) (convertStep x .nodes) (convertStep x .operations)
+    papers = sym (converts x e .operations)
 
 -- ---- demand 3
 
 table-input : (x : Input) → plainEnd x .table ≡ tableEnd x
 unfolding plainEnd tableEnd plainBegin
-table-input x = table-run flush (x .qubits) (x .cap) (gatesIn x) (plainBegin (x .qubits))
+table-input x = table-run flushFrom (x .qubits) (x .cap) (gatesIn x) (plainBegin (x .qubits))
 
 pub demand3 : (x : Input) → convertCheck limits x ≡ Fine → (cs : List LaterCall) → Demand3 x cs (laters cs (converted x))
 unfolding endTable endGates
@@ -244,7 +255,7 @@ report-never-bad-store x e cs a scratch pool limit p =
 pub report-capped : (x : Input) → convertCheck limits x ≡ Fine → (cap : ℕ) → x .cap ≡ AtMost cap → (scratch pool : List ℕ) (limit : ℕ) (r : Report)
     → reportStep (convertedHeader x) (convertStep x .nodes) (convertStep x .operations) scratch pool limit .answer ≡ fine r → r .weights .nonClifford ≤ cap
 report-capped x e cap c scratch pool limit r p = report-within (convertedHeader x) (convertStep x .nodes) (convertStep x .operations) scratch pool limit r cap p
-    (subst (AllWithin cap) (sym (converts x e .operations)) (subst (λ k. Capped k (paperEnd x .operations)) c (converts x e .capped)))
+    (subst (λ os. AllWithin cap (withoutIndex os)) (sym (converts x e .operations)) (subst (λ k. Capped k (withoutIndex (paperEnd x .operations))) c (converts x e .capped)))
 
 -- ---- lowering: the lowered gates act by conjugation as the gate does
 

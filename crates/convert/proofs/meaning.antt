@@ -9,5 +9,6 @@ pub mod Papers
 pub mod Signs
 pub mod Pending
 pub mod Cap
+pub mod Sources
 pub mod Operations
 pub mod Lowered

@@ -115,7 +115,10 @@ fn flush_x(
     ensures { λ r. ⌜ Flushed (from gate (gateX q) ∷ []) (w .nodes) (now (nodes .entry)) (w .operations) (now (operations .entry))
         (r .nodes) (now (nodes .exit)) (r .operations) (now (operations .exit)) ⌝ }
 {
-    made(w.nodes, put_rotation(operations, w.operations, id_x(q), 4, gate))
+    made(
+        w.nodes,
+        put_rotation(operations, w.operations, id_x(q), 4, gate),
+    )
 }
 
 fn flush_z(
@@ -130,7 +133,10 @@ fn flush_z(
     ensures { λ r. ⌜ Flushed (from gate (gateZ q) ∷ []) (w .nodes) (now (nodes .entry)) (w .operations) (now (operations .entry))
         (r .nodes) (now (nodes .exit)) (r .operations) (now (operations .exit)) ⌝ }
 {
-    made(w.nodes, put_rotation(operations, w.operations, id_z(q), 4, gate))
+    made(
+        w.nodes,
+        put_rotation(operations, w.operations, id_z(q), 4, gate),
+    )
 }
 
 fn flush_s(
@@ -145,7 +151,10 @@ fn flush_s(
     ensures { λ r. ⌜ Flushed (from gate (gateS q) ∷ []) (w .nodes) (now (nodes .entry)) (w .operations) (now (operations .entry))
         (r .nodes) (now (nodes .exit)) (r .operations) (now (operations .exit)) ⌝ }
 {
-    made(w.nodes, put_rotation(operations, w.operations, id_z(q), 2, gate))
+    made(
+        w.nodes,
+        put_rotation(operations, w.operations, id_z(q), 2, gate),
+    )
 }
 
 fn flush_sdg(
@@ -160,7 +169,10 @@ fn flush_sdg(
     ensures { λ r. ⌜ Flushed (from gate (gateSdg q) ∷ []) (w .nodes) (now (nodes .entry)) (w .operations) (now (operations .entry))
         (r .nodes) (now (nodes .exit)) (r .operations) (now (operations .exit)) ⌝ }
 {
-    made(w.nodes, put_rotation(operations, w.operations, id_z(q), 6, gate))
+    made(
+        w.nodes,
+        put_rotation(operations, w.operations, id_z(q), 6, gate),
+    )
 }
 
 fn flush_cnot(

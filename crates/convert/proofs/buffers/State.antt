@@ -27,10 +27,10 @@ pub record Stands (n : ℕ) (ns₀ fs₀ os₀ : List ℕ) (c : ℕ) (ns fs : Li
   pub used : u ≡ length (w .ops)
   pub operations : os ≡ overlay (flat (w .ops)) os₀
   pub even : Even n (w .arena)
-  pub four : length (flat (w .ops)) ≡ operationWords * length (w .ops)
+  pub sized : length (flat (w .ops)) ≡ operationWords * length (w .ops)
 
 square-of : {n : ℕ} {ns₀ fs₀ os₀ : List ℕ} {c : ℕ} {ns fs : List ℕ} {u : ℕ} {os : List ℕ} {w : Words} → Stands n ns₀ fs₀ os₀ c ns fs u os w → Square w
-square-of s = record { nodes = s .even .nodes; ops = s .four }
+square-of s = record { nodes = s .even .nodes; ops = s .sized }
 
 pub stands-frames : (n : ℕ) (gs : List Gate) (ns₀ fs₀ os₀ : List ℕ) (c : ℕ) (ns fs : List ℕ) (u : ℕ) (os : List ℕ) (w : Words) (c′ : ℕ) (ns′ fs′ : List ℕ)
     → Stands n ns₀ fs₀ os₀ c ns fs u os w → Ran n gs c ns fs c′ ns′ fs′ → AllValid n gs → 2 * (c + total gateNodes gs) ≤ length ns₀
@@ -46,7 +46,7 @@ stands-frames n gs ns₀ fs₀ os₀ c ns fs u os w c′ ns′ fs′ s r v room 
       used = s .used;
       operations = s .operations;
       even = even-run n gs (w .arena) (s .even);
-      four = s .four;
+      sized = s .sized;
     }
 
 -- what the operations leave, read from one equation
@@ -59,7 +59,7 @@ stands-writing n ns₀ fs₀ os₀ c′ ns′ fs u′ os′ w w′ e q f len = r
   used = ap (λ (x : Writing). x .used) e;
   operations = ap (λ (x : Writing). x .operations) e;
   even = record { nodes = q .nodes; frame = len };
-  four = q .ops;
+  sized = q .ops;
 }
 
 open-writing : {n : ℕ} {ns₀ fs₀ os₀ : List ℕ} {c : ℕ} {ns fs : List ℕ} {u : ℕ} {os : List ℕ} {w : Words} → Stands n ns₀ fs₀ os₀ c ns fs u os w → writing c ns u os ≡ lying ns₀ os₀ w
@@ -99,7 +99,7 @@ stands-if false n gs ns₀ fs₀ os₀ c ns fs u os w c′ ns′ fs′ u′ os�
       used = k .3 ∙ s .used;
       operations = k .4 ∙ s .operations;
       even = s .even;
-      four = s .four;
+      sized = s .sized;
     }
 
 -- ---- operations

@@ -148,14 +148,14 @@ more os w = record { arena = w .arena; ops = w .ops ++ os }
 
 put-op : (ns os : List ℕ) (w : Words) (vs : List ℕ) → Square w → length vs ≡ operationWords → operationWords * length (w .ops) + operationWords ≤ length os
     → putOp vs (lying ns os w) ≡ lying ns os (more (vs ∷ []) w)
-put-op ns os w vs q four room =
+put-op ns os w vs q sized room =
     let e = q .ops in
     let f : flat (w .ops ++ vs ∷ []) ≡ flat (w .ops) ++ vs = flat-append (w .ops) (vs ∷ []) ∙ ap (λ (l : List ℕ). flat (w .ops) ++ l) (append-nil vs) in
     let g : length (w .ops) + 1 ≡ length (w .ops ++ vs ∷ []) = sym (length-append (w .ops) (vs ∷ [])) in
     rw (overlay-sets (flat (w .ops)) vs os (operationWords * length (w .ops)) e (omega arith), f, g)
 
 square-op : (w : Words) (vs : List ℕ) → Square w → length vs ≡ operationWords → Square (more (vs ∷ []) w)
-square-op w vs q four = record {
+square-op w vs q sized = record {
   nodes = q .nodes;
   ops = rw (flat-append (w .ops) (vs ∷ []), length-append (w .ops) (vs ∷ []), length-append (flat (w .ops)) (vs ++ []), length-append vs []) (omega (arith, q .ops));
 }

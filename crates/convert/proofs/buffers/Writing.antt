@@ -17,6 +17,7 @@ use Rattle.convert.specs.Words.{Words, startWords, flushWords, wordRun}
 use Rattle.convert.specs.Code.Needs.{Needs, writtenNodes, writtenOps, needStep, needRun}
 use Rattle.convert.specs.Code.RawPlanes.{Wide}
 use Rattle.convert.specs.Code.Raw.{recordGates, recordFrom, flushedNodes, flushedOps, planesFor, Decided, Fits, Small, FrameReady, Ran, FlushReady, FlushedIf, RecordReady, gatesOver, anyExceeds, costOf, loneNodes, measuresOf, needsOf, putRecord, putSeven, putFour, putRows, Writing, writing, plainLast, wordsLast, needsLast, Room}
+use Rattle.convert.proofs.meaning.Words.{without-append, without-from, valid-append}
 use Rattle.convert.proofs.packed.Deciding.{valid-of, wide-start}
 use Rattle.convert.proofs.counts.RecordSteps.{unplaced, bare-unplaced, run-append, need-append, word-append, One, one-record, framed, writeRecord, needs-eq}
 use Rattle.convert.proofs.counts.Rest.{rest-more, rest-end, wide-went, restOf}
@@ -32,8 +33,7 @@ need-grows n cap (e ∷ es) p k = let r = need-grows n cap es (plainStep flushFr
 -- ---- pending gates
 
 valid-over : (n i : ℕ) (gs : List Gate) (hs : List (From Gate)) → AllValid n gs → AllValid n (withoutIndex hs) → AllValid n (withoutIndex (map (from i) gs ++ hs))
-valid-over n i [] hs u v = v
-valid-over n i (g ∷ gs) hs u v = (u .0, valid-over n i gs hs (u .1) v)
+valid-over n i gs hs u v = rw (without-append (map (from i) gs) hs, without-from i gs) (valid-append n gs (withoutIndex hs) u v)
 
 gates-valid : (n : ℕ) (gs : List ℕ) → Fits n gs → (i k : ℕ) → i + k ≤ length gs / 4 → AllValid n (withoutIndex (gatesOver gs i k))
 gates-valid n gs f i zero h = tt
@@ -182,7 +182,7 @@ write-start n cap gs ns fs os ps h en ef ep = record {
     used = refl;
     operations = refl;
     even = record { nodes = omega (arith, length-qubitNodes n); frame = length-start n };
-    four = refl;
+    sized = refl;
   };
   small = λ i lt. rw ef (small-start n fs h i lt);
   planes = ep;

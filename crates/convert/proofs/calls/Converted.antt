@@ -2,42 +2,51 @@
 use mathlib.Core.Path.{_≡_, refl, ap, ap₂, sym, _∙_, subst}
 use mathlib.Core.Bool.{Bool, true, false}
 use mathlib.Core.List.{List, [], _∷_, _++_, map}
-use Prim.Native.Nat.{ℕ, zero, suc, _+_, _*_, _%_, _≤_}
+use Prim.Native.Nat.{ℕ, zero, suc, _+_, _*_, _%_, _≤_, _<_}
 use native.Mathlib.Nat.{zero-add, add-zero, add-suc, suc-add}
 use native.Mathlib.Omega.{arith}
-use borrow.Author.Tests.{eqb-false}
+use borrow.Author.Tests.{lt-ltb, eqb-false}
 use lib.Dec.{eqb}
 use lib.ListN.{length, drop, length-map}
 use Rattle.pauli.specs.Angle.{eighthsOf}
 use Rattle.pauli.specs.Rows.{weight}
-use Rattle.arena.specs.Limits.{operationWords}
+use Rattle.arena.specs.Limits.{operationWords, maxGates}
 use Rattle.arena.specs.Nodes.{image}
+use Rattle.arena.specs.Operations.{sourceOf}
 use Rattle.arena.specs.Builder.{overlay}
 use Rattle.arena.specs.Walk.{fine}
 use Rattle.arena.specs.Readers.{Weights, weigh, largest, wordsOf, Report}
-use Rattle.arena.specs.Expansion.{opAt, weighedOf, axesTo, reportStep}
+use Rattle.arena.specs.Expansion.{opAt, isBadOp, isNoSource, weighedOf, axesTo, reportStep}
 use Rattle.arena.proofs.Overlay.{length-overlay}
 use Rattle.arena.proofs.Accepted.{Sound}
-use Rattle.arena.proofs.Readable.{formed-over}
+use Rattle.arena.proofs.Readable.{both-false, formed-over}
 use Rattle.arena.proofs.walk.Readers.{report-reads}
 use Rattle.convert.specs.Types.{Header, PbcOp, Rotate, Measure, ConditionalRotate, Malformed, Checked, Fine, Wrong}
+use Rattle.convert.specs.Records.{records, From, mapFrom, withoutIndex}
 use Rattle.convert.specs.Plain.{plainBegin}
-use Rattle.convert.specs.Words.{startWords, flat, decoded, meaning, opsFrom, operationsIn}
+use Rattle.convert.specs.Words.{startWords, flat, decoded, meaning, opFrom, opsFrom, operationsIn}
 use Rattle.convert.specs.Conversion.{limits, Input, gatesIn, plainEnd, wordEnd, gatesCheck, convertCheck, planesAfter, convertedHeader, ConvertedMade, convertAs, convertWithin, convertStep}
 use Rattle.convert.specs.Later.{converted}
 use Rattle.convert.specs.Statement.{AllWithin}
+use Rattle.convert.specs.Sources.{All}
 use Rattle.convert.proofs.Accepted.{Accepted, accepted}
-use Rattle.convert.proofs.meaning.Words.{Meant, map-append}
+use Rattle.convert.proofs.counts.Rest.{records-length}
+use Rattle.convert.proofs.meaning.Words.{Meant, map-append, without-mapped}
 use Rattle.convert.proofs.meaning.Formed.{Formed, formed-words}
-use Rattle.convert.proofs.meaning.Numbers.{Given, given-plain, AllNumbered, AllGood, good-ops, good-at}
-use Rattle.convert.proofs.meaning.Operations.{AllFour, four-run, length-flat, ops-read}
-use Rattle.convert.proofs.calls.Table.{made-step, meant-input}
+use Rattle.convert.proofs.meaning.Numbers.{Given, given-plain, AllNumbered, good-ops, all-at}
+use Rattle.convert.proofs.meaning.Operations.{AllSized, sized-run, length-flat, ops-read}
+use Rattle.convert.proofs.meaning.Sources.{all-mapped, paper-below}
+use Rattle.convert.proofs.calls.Table.{made-step, meant-input, agrees-input}
 use Rattle.convert.proofs.calls.Readable.{Reads}
 use Rattle.convert.proofs.calls.Operations.{Operates}
 
-pub four-words : (x : Input) → AllFour (wordEnd x .ops)
+pub sized-words : (x : Input) → AllSized (wordEnd x .ops)
 unfolding wordEnd startWords
-four-words x = four-run (x .qubits) (x .cap) (gatesIn x) (plainBegin (x .qubits)) (startWords (x .qubits)) tt
+sized-words x = sized-run (x .qubits) (x .cap) (gatesIn x) (plainBegin (x .qubits)) (startWords (x .qubits)) tt
+
+gate-known : (g : ℕ) → g < maxGates → isNoSource (sourceOf g) ≡ false
+unfolding sourceOf
+gate-known g lt = rw (lt-ltb g maxGates lt)
 
 module _ (x : Input) (e : convertCheck limits x ≡ Fine) where
   A : Accepted limits x
@@ -57,7 +66,7 @@ module _ (x : Input) (e : convertCheck limits x ≡ Fine) where
   -- as many operation words as plain operations
   ops-many : length (wordEnd x .ops) ≡ length (plainEnd x .operations)
   ops-many =
-      sym (length-map (map (decoded (x .owner) (x .cbits)) (wordEnd x .ops)) (meaning (x .qubits) (wordEnd x .arena .count) (wordEnd x .arena .nodes))
+      sym (length-map (map (decoded (x .owner) (x .cbits)) (wordEnd x .ops)) (mapFrom (meaning (x .qubits) (wordEnd x .arena .count) (wordEnd x .arena .nodes)))
       ∙ length-map (wordEnd x .ops) (decoded (x .owner) (x .cbits)))
       ∙ ap length (M .core .written .reads)
 
@@ -87,25 +96,44 @@ module _ (x : Input) (e : convertCheck limits x ≡ Fine) where
   }
 
   flat-size : length (flat (wordEnd x .ops)) ≡ operationWords * length (wordEnd x .ops)
-  flat-size = length-flat (wordEnd x .ops) (four-words x)
+  flat-size = length-flat (wordEnd x .ops) (sized-words x)
 
-  all-good : AllGood (convertedHeader x) (x .qubits) (wordEnd x .arena .count) (wordEnd x .arena .nodes) (map (decoded (x .owner) (x .cbits)) (wordEnd x .ops))
+  -- the operations that the words are read as
+  ops : List (From PbcOp)
+  ops = map (decoded (x .owner) (x .cbits)) (wordEnd x .ops)
+
+  all-good : All (λ o. isBadOp (convertedHeader x) (o .what) ≡ false) ops
+  unfolding ops
   all-good = good-ops (convertedHeader x) (x .qubits) (wordEnd x .arena .count) (wordEnd x .arena .nodes) (wordEnd x .ops) (M .core .written .below)
       (subst (AllNumbered (plainEnd x .given)) (sym (M .core .written .reads)) (given-input .numbered))
+
+  -- each names a gate record of the list
+  all-below : All (λ o. o .index < length (records (x .gates))) ops
+  unfolding ops
+  all-below = all-mapped (λ i. i < length (records (x .gates))) (meaning (x .qubits) (wordEnd x .arena .count) (wordEnd x .arena .nodes)) ops
+      (subst (All (λ o. o .index < length (records (x .gates)))) (sym (M .core .written .reads ∙ agrees-input x e .operations)) (paper-below x))
+
+  few-records : length (records (x .gates)) ≤ maxGates
+  few-records = omega (arith, records-length (x .gates), A .gate-words)
+
+  -- what holds of all of them holds of operation i of the words lent
+  at-each : (P : From PbcOp → Type 0) → All P ops → (i : ℕ) → i < length (wordEnd x .ops) → P (opFrom (convertedHeader x) (overlay (flat (wordEnd x .ops)) (x .operations)) i)
+  unfolding ops
+  at-each P h i lt = all-at P (opFrom (convertedHeader x) (overlay (flat (wordEnd x .ops)) (x .operations))) 0 (length (wordEnd x .ops))
+      (subst (All P) (sym (ops-read (convertedHeader x) (wordEnd x .ops) _ (sized-words x))) h) i (omega arith) (omega arith)
 
   pub operates-converted : Operates (converted x)
   unfolding converted
   operates-converted = record {
     used = rw (operations-are, length-overlay (flat (wordEnd x .ops)) (x .operations) (omega (arith, flat-size, A .operations-lent))) (omega (arith, A .operations-lent));
-    good = λ i lt. rw operations-are (good-at (convertedHeader x) (x .qubits) (wordEnd x .arena .count) (wordEnd x .arena .nodes)
-        (opAt (convertedHeader x) (overlay (flat (wordEnd x .ops)) (x .operations))) 0 (length (wordEnd x .ops))
-        (subst (AllGood (convertedHeader x) (x .qubits) (wordEnd x .arena .count) (wordEnd x .arena .nodes)) (sym (ops-read (convertedHeader x) (wordEnd x .ops) _ (four-words x))) all-good)
-        i (omega arith) (omega arith));
+    good = λ i lt. rw operations-are (both-false _ _
+        (at-each (λ o. isBadOp (convertedHeader x) (o .what) ≡ false) all-good i lt)
+        (gate-known _ (omega (arith, few-records, at-each (λ o. o .index < length (records (x .gates))) all-below i lt))));
   }
 
 -- ---- the report under a cap
 
-ops-snoc : (op : ℕ → PbcOp) (i k : ℕ) → opsFrom op i (suc k) ≡ opsFrom op i k ++ (op (i + k) ∷ [])
+ops-snoc : {A : Type 0} (op : ℕ → A) (i k : ℕ) → opsFrom op i (suc k) ≡ opsFrom op i k ++ (op (i + k) ∷ [])
 ops-snoc op i zero = ap (λ m. op m ∷ []) (sym (add-zero i))
 ops-snoc op i (suc k) = ap (λ l. op i ∷ l) (ops-snoc op (suc i) k ∙ ap (λ m. opsFrom op (suc i) k ++ (op m ∷ [])) (suc-add i k ∙ sym (add-suc i k)))
 
@@ -137,15 +165,24 @@ module _ (n k : ℕ) (nodes : List ℕ) (cap : ℕ) where
   most-within (ConditionalRotate x a m ∷ ops) h = raised (eqb (eighthsOf a % 2) 0) (weightOf (x .0 .word)) (weightsOf ops) (λ e. h .0) (most-within ops (h .1))
   most-within (Malformed ∷ ops) h = absurd (h .0)
 
+ops-without : (op : ℕ → From PbcOp) (i k : ℕ) → withoutIndex (opsFrom op i k) ≡ opsFrom (λ j. op j .what) i k
+ops-without op i zero = refl
+ops-without op i (suc k) = ap (λ l. op i .what ∷ l) (ops-without op (suc i) k)
+
 -- the report on any circuit whose operations are within the cap
 pub report-within : (h : Header) (nodes ops scratch pool : List ℕ) (limit : ℕ) (r : Report) (cap : ℕ) → reportStep h nodes ops scratch pool limit .answer ≡ fine r
-    → AllWithin cap (operationsIn h nodes ops) → r .weights .nonClifford ≤ cap
+    → AllWithin cap (withoutIndex (operationsIn h nodes ops)) → r .weights .nonClifford ≤ cap
 unfolding operationsIn
 report-within h nodes ops scratch pool limit r cap p w =
     subst (λ (m : Weights). m .nonClifford ≤ cap)
     (sym (report-reads h nodes ops scratch pool limit r p
     ∙ ap (λ axes. largest axes (map (λ w. weight (image (h .qubits) (h .nodes) nodes w .letters)) (wordsOf axes))) (axes-are (opAt h ops) (h .operations))))
-    (most-within (h .qubits) (h .nodes) nodes cap (opsFrom (opAt h ops) 0 (h .operations)) w)
+    (most-within (h .qubits) (h .nodes) nodes cap (opsFrom (opAt h ops) 0 (h .operations)) (subst (AllWithin cap) plain w))
+  where
+    plain : withoutIndex (map (mapFrom (meaning (h .qubits) (h .nodes) nodes)) (opsFrom (opFrom h ops) 0 (h .operations)))
+        ≡ map (meaning (h .qubits) (h .nodes) nodes) (opsFrom (opAt h ops) 0 (h .operations))
+    plain = without-mapped (meaning (h .qubits) (h .nodes) nodes) (opsFrom (opFrom h ops) 0 (h .operations))
+        ∙ ap (map (meaning (h .qubits) (h .nodes) nodes)) (ops-without (opFrom h ops) 0 (h .operations))
 
 -- ---- the answer of a conversion
 

@@ -7,15 +7,16 @@ use native.Mathlib.Decide.{ℕ-discrete}
 use native.Mathlib.Omega.{arith}
 use lib.ListN.{length, getD, take, length-take}
 use lib.Seq.{length-sets, getD-take}
-use Rattle.arena.specs.Limits.{operationWords}
+use Rattle.arena.specs.Limits.{operationWords, handMark}
 use Rattle.pauli.specs.Gates.{Gate}
 use Rattle.pauli.specs.Angle.{angleOf, eighthsOf}
-use Rattle.arena.specs.Operations.{measId, rotateWords, measureWords, conditionalWords}
+use Rattle.arena.specs.Operations.{measId, rotateWords, measureWords, conditionalWords, sourceOf}
 use Rattle.arena.specs.Builder.{withNodes, withOperation, singleCheck, singleStep, productCheck, productStep, rotateCheck, rotateStep, measureCheck, measureStep, conditionalCheck, conditionalStep}
-use Rattle.arena.specs.Expansion.{opAt, isBadOp, badOperations}
-use Rattle.arena.proofs.Accepted.{fits-rotate, fits-measure, fits-conditional}
+use Rattle.arena.specs.Expansion.{opAt, gateWord, isBadOp, isNoSource, isBadAt, badOperations}
+use Rattle.arena.proofs.Accepted.{left-false, right-false, fits-rotate, fits-measure, fits-conditional}
 use Rattle.arena.proofs.Readable.{both-false, owned, given, Grows, good-more, operations-read, operations-used}
-use Rattle.arena.proofs.Written.{op-older, rotate-read, rotate-older, measure-read, measure-older, known, conditional-read, conditional-older}
+use Rattle.arena.proofs.Written.{op-older, gate-older, rotate-read, rotate-by-hand, rotate-older, rotate-sources-older, measure-read, measure-by-hand, measure-older, measure-sources-older}
+use Rattle.arena.proofs.Written.{known, conditional-read, conditional-by-hand, conditional-older, conditional-sources-older}
 use Rattle.convert.specs.Types.{Pauli, I, X, Y, Z, PauliAngle, Header, PauliRef, PauliAxis, MeasId, Target, Rotate, ConditionalRotate, Checked, Fine, Wrong, PushedMade, MeasuredMade}
 use Rattle.convert.specs.Records.{kindOf}
 use Rattle.convert.specs.Frame.{frameGates, cliffordCheck, opened, cliffordStep}
@@ -26,7 +27,7 @@ use Rattle.convert.proofs.calls.Table.{framed}
 
 pub record Operates (s : Circuit) : Type 0 where
   pub used : operationWords * s .header .operations ≤ length (s .operations)
-  pub good : (i : ℕ) → i < s .header .operations → isBadOp (s .header) (opAt (s .header) (s .operations) i) ≡ false
+  pub good : (i : ℕ) → i < s .header .operations → isBadAt (s .header) (s .operations) i ≡ false
 
 pub operates-on : (s : Circuit) → Operates s → badOperations (s .header) (s .operations) ≡ false
 operates-on s O = operations-read (s .header) (s .operations) (O .used) (O .good)
@@ -34,24 +35,38 @@ operates-on s O = operations-read (s .header) (s .operations) (O .used) (O .good
 pub operates-back : (s : Circuit) → badOperations (s .header) (s .operations) ≡ false → Operates s
 operates-back s e = let u = operations-used (s .header) (s .operations) e in record { used = u .0; good = u .1 }
 
+-- what a call adds came from somewhere
+hand-known : (g : ℕ) → g ≡ handMark → isNoSource (sourceOf g) ≡ false
+unfolding sourceOf
+hand-known g e = rw e
+
 module _ (s : Circuit) (O : Operates s) where
+  -- an operation of the same words, under a header with no fewer nodes and measurements
+  good-kept : (h : Header) → Grows (s .header) h → (ops : List ℕ) (i : ℕ) → i < s .header .operations
+      → opAt h ops i ≡ opAt (s .header) (s .operations) i → gateWord ops i ≡ gateWord (s .operations) i → isBadAt h ops i ≡ false
+  good-kept h G ops i lt same source = both-false _ _
+      (ap (isBadOp h) same ∙ good-more (s .header) h G (opAt (s .header) (s .operations) i) (left-false (isBadOp (s .header) (opAt (s .header) (s .operations) i)) _ (O .good i lt)))
+      (ap (λ g. isNoSource (sourceOf g)) source ∙ right-false (isBadOp (s .header) (opAt (s .header) (s .operations) i)) _ (O .good i lt))
+
   -- more nodes
   operates-nodes : (k : ℕ) (nodes frame : List ℕ) → s .header .nodes ≤ k → Operates (circuitOf (withNodes k (s .header)) nodes (s .operations) frame)
   unfolding opAt
   operates-nodes k nodes frame le = record {
     used = O .used;
-    good = λ i lt. good-more (s .header) (withNodes k (s .header)) (record { owner = refl; nodes = le; measurements = omega arith }) (opAt (s .header) (s .operations) i) (O .good i lt);
+    good = λ i lt. good-kept (withNodes k (s .header)) (record { owner = refl; nodes = le; measurements = omega arith }) (s .operations) i lt refl refl;
   }
 
-  -- one operation more
+  -- one operation more, added by hand
   operates-more : (h : Header) (ops : List ℕ) → Grows (s .header) h → h .operations ≡ s .header .operations + 1 → operationWords * (s .header .operations + 1) ≤ length ops
-      → ((i : ℕ) → i < s .header .operations → opAt h ops i ≡ opAt (s .header) (s .operations) i) → isBadOp h (opAt h ops (s .header .operations)) ≡ false
+      → ((i : ℕ) → i < s .header .operations → opAt h ops i ≡ opAt (s .header) (s .operations) i)
+      → ((i : ℕ) → i < s .header .operations → gateWord ops i ≡ gateWord (s .operations) i)
+      → isBadOp h (opAt h ops (s .header .operations)) ≡ false → gateWord ops (s .header .operations) ≡ handMark
       → Operates (circuitOf h (s .nodes) ops (s .frame))
-  operates-more h ops G one room older new = record { used = rw one room; good = λ i lt. go i (ℕ-discrete i (s .header .operations)) (omega arith) }
+  operates-more h ops G one room older sources new hand = record { used = rw one room; good = λ i lt. go i (ℕ-discrete i (s .header .operations)) (omega arith) }
     where
-      go : (i : ℕ) → Dec (i ≡ s .header .operations) → i < s .header .operations + 1 → isBadOp h (opAt h ops i) ≡ false
-      go i (yes e) lt = rw e new
-      go i (no ne) lt = ap (isBadOp h) (older i (omega arith)) ∙ good-more (s .header) h G (opAt (s .header) (s .operations) i) (O .good i (omega arith))
+      go : (i : ℕ) → Dec (i ≡ s .header .operations) → i < s .header .operations + 1 → isBadAt h ops i ≡ false
+      go i (yes e) lt = rw e (both-false _ _ new (hand-known _ hand))
+      go i (no ne) lt = good-kept h G ops i (omega arith) (older i (omega arith)) (sources i (omega arith))
 
   operates-frame-call : (k a b : ℕ) → Operates (later (callFrame k a b) s)
   unfolding later cliffordStep
@@ -95,7 +110,7 @@ module _ (s : Circuit) (O : Operates s) where
   rotate-size : (x : PauliAxis) (k : PauliAngle) → rotateCheck (s .header) (length (s .operations)) x ≡ Fine
       → length (rotateStep (s .header) (s .operations) x k .words) ≡ length (s .operations)
   unfolding rotateStep
-  rotate-size x k e = rw e (length-sets (s .operations) (operationWords * s .header .operations) (rotateWords (x .0 .word) (eighthsOf k)))
+  rotate-size x k e = rw e (length-sets (s .operations) (operationWords * s .header .operations) (rotateWords (x .0 .word) (eighthsOf k) handMark))
 
   operates-rotated : (x : PauliAxis) (k : PauliAngle) → rotateCheck (s .header) (length (s .operations)) x ≡ Fine
       → Operates (circuitOf (withOperation (s .header .measurements) (s .header)) (s .nodes) (rotateStep (s .header) (s .operations) x k .words) (s .frame))
@@ -103,9 +118,10 @@ module _ (s : Circuit) (O : Operates s) where
       let f = fits-rotate (s .header) (length (s .operations)) x e in
       let G = grows (s .header .measurements) (omega arith) in
       operates-more _ _ G refl (omega (arith, rotate-size x k e, f .room .lent))
-      (rotate-older (s .header) (s .operations) x k _ (rotate-made x k e))
+      (rotate-older (s .header) (s .operations) x k _ (rotate-made x k e)) (rotate-sources-older (s .header) (s .operations) x k _ (rotate-made x k e))
       (ap (isBadOp _) (rotate-read (s .header) (s .operations) x k _ (rotate-made x k e))
       ∙ good-more (s .header) _ G (Rotate x (angleOf (eighthsOf k))) (owned (s .header) (x .0) (f .axis-own)))
+      (rotate-by-hand (s .header) (s .operations) x k _ (rotate-made x k e))
 
   later-rotated : (x : PauliAxis) (k : PauliAngle) → rotateCheck (s .header) (length (s .operations)) x ≡ Fine → later (callRotate x k) s
       ≡ circuitOf (withOperation (s .header .measurements) (s .header)) (s .nodes) (rotateStep (s .header) (s .operations) x k .words) (s .frame)
@@ -129,17 +145,18 @@ module _ (s : Circuit) (O : Operates s) where
   measure-size : (x : PauliAxis) (u : Target) → measureCheck (s .header) (length (s .operations)) x u ≡ Fine
       → length (measureStep (s .header) (s .operations) x u .words) ≡ length (s .operations)
   unfolding measureStep
-  measure-size x u e = rw e (length-sets (s .operations) (operationWords * s .header .operations) (measureWords (x .0 .word) (s .header .measurements) u))
+  measure-size x u e = rw e (length-sets (s .operations) (operationWords * s .header .operations) (measureWords (x .0 .word) (s .header .measurements) u handMark))
 
   operates-measured : (x : PauliAxis) (u : Target) → measureCheck (s .header) (length (s .operations)) x u ≡ Fine
       → Operates (circuitOf (withOperation (s .header .measurements + 1) (s .header)) (s .nodes) (measureStep (s .header) (s .operations) x u .words) (s .frame))
   operates-measured x u e =
       let f = fits-measure (s .header) (length (s .operations)) x u e .0 in
       operates-more _ _ (grows (s .header .measurements + 1) (omega arith)) refl (omega (arith, measure-size x u e, f .room .lent))
-      (measure-older (s .header) (s .operations) x u _ _ (measure-made x u e))
+      (measure-older (s .header) (s .operations) x u _ _ (measure-made x u e)) (measure-sources-older (s .header) (s .operations) x u _ _ (measure-made x u e))
       (ap (isBadOp _) (measure-read (s .header) (s .operations) x u _ _ (measure-made x u e))
       ∙ both-false _ _ (owned (withOperation (s .header .measurements + 1) (s .header)) (x .0) (record { owner = f .axis-own .owner; used = f .axis-own .used }))
       (given (withOperation (s .header .measurements + 1) (s .header)) (measId (s .header .owner) (s .header .measurements)) refl (omega arith)))
+      (measure-by-hand (s .header) (s .operations) x u _ _ (measure-made x u e))
 
   later-measured : (x : PauliAxis) (u : Target) → measureCheck (s .header) (length (s .operations)) x u ≡ Fine → later (callMeasure x u) s
       ≡ circuitOf (withOperation (s .header .measurements + 1) (s .header)) (s .nodes) (measureStep (s .header) (s .operations) x u .words) (s .frame)
@@ -162,7 +179,7 @@ module _ (s : Circuit) (O : Operates s) where
   conditional-size : (x : PauliAxis) (k : PauliAngle) (m : MeasId) → conditionalCheck (s .header) (length (s .operations)) x m ≡ Fine
       → length (conditionalStep (s .header) (s .operations) x k m .words) ≡ length (s .operations)
   unfolding conditionalStep
-  conditional-size x k m e = rw e (length-sets (s .operations) (operationWords * s .header .operations) (conditionalWords (x .0 .word) (eighthsOf k) (m .1)))
+  conditional-size x k m e = rw e (length-sets (s .operations) (operationWords * s .header .operations) (conditionalWords (x .0 .word) (eighthsOf k) (m .1) handMark))
 
   operates-conditional : (x : PauliAxis) (k : PauliAngle) (m : MeasId) → conditionalCheck (s .header) (length (s .operations)) x m ≡ Fine
       → Operates (circuitOf (withOperation (s .header .measurements) (s .header)) (s .nodes) (conditionalStep (s .header) (s .operations) x k m .words) (s .frame))
@@ -170,10 +187,11 @@ module _ (s : Circuit) (O : Operates s) where
       let f = fits-conditional (s .header) (length (s .operations)) x m e in
       let G = grows (s .header .measurements) (omega arith) in
       operates-more _ _ G refl (omega (arith, conditional-size x k m e, f .room .lent))
-      (conditional-older (s .header) (s .operations) x k m _ (conditional-made x k m e))
+      (conditional-older (s .header) (s .operations) x k m _ (conditional-made x k m e)) (conditional-sources-older (s .header) (s .operations) x k m _ (conditional-made x k m e))
       (ap (isBadOp _) (conditional-read (s .header) (s .operations) x k m _ (conditional-made x k m e))
       ∙ good-more (s .header) _ G (ConditionalRotate x (angleOf (eighthsOf k)) m)
       (both-false _ _ (owned (s .header) (x .0) (f .axis-own)) (known (s .header) (s .operations) x m e)))
+      (conditional-by-hand (s .header) (s .operations) x k m _ (conditional-made x k m e))
 
   later-conditional : (x : PauliAxis) (k : PauliAngle) (m : MeasId) → conditionalCheck (s .header) (length (s .operations)) x m ≡ Fine → later (callConditional x k m) s
       ≡ circuitOf (withOperation (s .header .measurements) (s .header)) (s .nodes) (conditionalStep (s .header) (s .operations) x k m .words) (s .frame)
@@ -193,7 +211,8 @@ module _ (s : Circuit) (O : Operates s) where
       → Operates (circuitOf (s .header) (s .nodes) words (s .frame))
   operates-lent words e = record {
     used = omega (arith, O .used, sym (length-take (operationWords * s .header .operations) words) ∙ ap length e ∙ length-take (operationWords * s .header .operations) (s .operations));
-    good = λ i lt. ap (isBadOp (s .header)) (op-older (s .header) (s .header .operations) (s .operations) words same i lt) ∙ O .good i lt;
+    good = λ i lt. good-kept (s .header) (record { owner = refl; nodes = omega arith; measurements = omega arith }) words i lt
+        (op-older (s .header) (s .header .operations) (s .operations) words same i lt) (gate-older (s .header .operations) (s .operations) words same i lt);
   }
     where
       same : (j : ℕ) → j < operationWords * s .header .operations → getD words j 0 ≡ getD (s .operations) j 0

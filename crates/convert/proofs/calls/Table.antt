@@ -16,12 +16,14 @@ use Rattle.arena.proofs.Overlay.{overlay-sets}
 use Rattle.arena.proofs.Accepted.{fits-single, fits-product}
 use Rattle.convert.specs.Types.{Pauli, I, X, Y, Z, PauliAngle, Header, PauliRef, PauliAxis, MeasId, Target, PbcError, Checked, Fine, Wrong}
 use Rattle.convert.specs.Records.{kindOf, bare}
+use Rattle.convert.specs.Plain.{flushFrom}
 use Rattle.convert.specs.Frame.{Arena, frameStep, frameRun, frameGates, cliffordCheck, opened, cliffordStep}
-use Rattle.convert.specs.Conversion.{limits, Input, gatesIn, plainEnd, wordEnd, gatesCheck, convertCheck, planesAfter, convertedHeader, convertAs, convertWithin, convertStep}
+use Rattle.convert.specs.Conversion.{limits, Input, gatesIn, plainEnd, paperEnd, wordEnd, gatesCheck, convertCheck, planesAfter, convertedHeader, convertAs, convertWithin, convertStep}
 use Rattle.convert.specs.Later.{Circuit, circuitOf, converted, LaterCall, callFrame, callSingle, callProduct, callRotate, callMeasure, callConditional, callExpand, callHermitian, callWeights}
 use Rattle.convert.specs.Later.{lendOperations, later, laters, gatesOf, fed}
 use Rattle.convert.proofs.meaning.FrameRows.{appended, Shows, shows-appended, shows-step}
 use Rattle.convert.proofs.meaning.Words.{Meant, meant, valid-append}
+use Rattle.convert.proofs.meaning.Papers.{Agrees, agrees}
 use Rattle.convert.proofs.Accepted.{accepted, fits-gate}
 
 -- the frame words of the circuit stand for t, the table of the gates gs
@@ -233,6 +235,10 @@ made-step x e = ap (λ c. convertAs c (planesAfter (gatesCheck limits x) x) x) e
 pub meant-input : (x : Input) → convertCheck limits x ≡ Fine → Meant (x .qubits) (x .owner) (x .cbits) (plainEnd x) (wordEnd x)
 unfolding plainEnd wordEnd
 meant-input x e = meant (x .qubits) (x .owner) (x .cbits) (x .cap) (gatesIn x) (accepted limits x e .proper)
+
+pub agrees-input : (x : Input) → convertCheck limits x ≡ Fine → Agrees (x .qubits) (plainEnd x) (paperEnd x)
+unfolding plainEnd paperEnd
+agrees-input x e = agrees flushFrom (x .qubits) (x .cbits) (x .cap) (gatesIn x) (accepted limits x e .proper)
 
 pub good-converted : (x : Input) → convertCheck limits x ≡ Fine → Good (x .qubits) (converted x) (plainEnd x .table) (bare (plainEnd x .pending))
 unfolding converted

@@ -14,6 +14,7 @@ use Rattle.convert.specs.Words.{Words, flushWords, write, wordStep, word
 use Rattle.convert.specs.Code.Needs.{Needs, writtenNodes, writtenOps, elementNodes, elementOps, needStep, needRun}
 use Rattle.convert.specs.Code.Raw.{recordGates, testsOf, anyExceeds, needed, costOf, costs, countFor, needsOf, measuresOf}
 use Rattle.convert.specs.declared.count.Needed.{Needed}
+use Rattle.convert.proofs.meaning.Words.{map-append, without-more}
 
 -- ---- joined lists
 
@@ -37,10 +38,6 @@ word-append n cap (e ∷ es) fs p w = word-append n cap es fs (plainStep flushFr
 -- the pending gates with their records alone
 abbrev pub unplaced : List (Placed Gate) → List (From Gate)
 unplaced gs = map (λ g. from (g .index) (g .gate)) gs
-
-unplaced-append : (gs hs : List (Placed Gate)) → unplaced (gs ++ hs) ≡ unplaced gs ++ unplaced hs
-unplaced-append [] hs = refl
-unplaced-append (g ∷ gs) hs = ap (λ (l : List (From Gate)). from (g .index) (g .gate) ∷ l) (unplaced-append gs hs)
 
 -- or with nothing
 pub bare-unplaced : (gs : List (Placed Gate)) → bare gs ≡ withoutIndex (unplaced gs)
@@ -69,11 +66,6 @@ pub record Went (n i : ℕ) (f : Bool) (gs : List Gate) (m : ℕ) (p p′ : Plai
   pub given : p′ .given ≡ p .given + m
 
 -- the gates alone
-without-more : (us : List (From Gate)) (i : ℕ) (gs : List Gate) → withoutIndex (us ++ map (from i) gs) ≡ withoutIndex us ++ gs
-without-more [] i [] = refl
-without-more [] i (g ∷ gs) = ap (λ (l : List Gate). g ∷ l) (without-more [] i gs)
-without-more (u ∷ us) i gs = ap (λ (l : List Gate). u .what ∷ l) (without-more us i gs)
-
 without-cond : (f : Bool) (us : List (From Gate)) → withoutIndex (cond f [] us) ≡ cond f [] (withoutIndex us)
 without-cond true us = refl
 without-cond false us = refl
@@ -100,7 +92,7 @@ frames-went n cap (g ∷ gs) i j p =
     let r = frames-went n cap gs i (suc j) q in
     record {
       table = ap (λ (x : Plain). x .table) e ∙ r .table;
-      pending = ap (λ (x : Plain). unplaced (x .pending)) e ∙ r .pending ∙ ap (λ (l : List (From Gate)). l ++ map (from i) gs) (unplaced-append (p .pending) (placed i j g ∷ []))
+      pending = ap (λ (x : Plain). unplaced (x .pending)) e ∙ r .pending ∙ ap (λ (l : List (From Gate)). l ++ map (from i) gs) (map-append _ (p .pending) (placed i j g ∷ []))
           ∙ append-assoc (unplaced (p .pending)) (from i g ∷ []) (map (from i) gs);
       given = ap (λ (x : Plain). x .given) e ∙ r .given;
     }

@@ -9,7 +9,7 @@ use lib.Seq.{getD-append-add}
 use Rattle.pauli.specs.Gates.{Gate, gateH, gateX, gateZ, gateS, gateSdg, gateCnot, gateCz}
 use Rattle.arena.specs.Limits.{operationWords}
 use Rattle.arena.specs.Operations.{decodeOp}
-use Rattle.arena.specs.Expansion.{opAt, gateWord}
+use Rattle.arena.specs.Expansion.{opAt}
 use Rattle.convert.specs.Types.{Header}
 use Rattle.convert.specs.Records.{Cap, Elementary, clifford, elT, elTdg, elCcx, elCcz, elMeasure, Placed, from}
 use Rattle.convert.specs.Plain.{Plain, exceeds, flushFrom, plainStep}

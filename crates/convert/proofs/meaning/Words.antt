@@ -28,7 +28,7 @@ map-append f (x ∷ l) m = ap (λ r. f x ∷ r) (map-append f l m)
 
 -- ---- with the index of a gate record, and without
 
-map-from : {A B : Type 0} (f : A → B) (i : ℕ) (l : List A) → map (mapFrom f) (map (from i) l) ≡ map (from i) (map f l)
+pub map-from : {A B : Type 0} (f : A → B) (i : ℕ) (l : List A) → map (mapFrom f) (map (from i) l) ≡ map (from i) (map f l)
 map-from f i [] = refl
 map-from f i (x ∷ l) = ap (λ r. from i (f x) ∷ r) (map-from f i l)
 
