@@ -6,13 +6,13 @@ use Prim.Native.Nat.{ℕ}
 use lib.ListN.{length}
 use Rattle.arena.specs.Limits.{handMark}
 use Rattle.convert.specs.Records.{from, withoutIndex}
-use Rattle.convert.specs.Plain.{plainBegin}
-use Rattle.convert.specs.Words.{startWords, decoded, opFrom, opsFrom}
-use Rattle.convert.specs.Conversion.{Input, limits, gatesIn, wordEnd, convertCheck, convertedHeader, convertStep}
+use Rattle.convert.specs.Words.{decoded, opFrom, opsFrom}
+use Rattle.convert.specs.Conversion.{Input, limits, wordEnd, convertCheck, convertedHeader, convertStep}
 use Rattle.convert.specs.Later.{Circuit, converted, LaterCall, later, laters, AllCarried}
 use Rattle.convert.proofs.meaning.Words.{map-append, without-more, OpsUnder}
-use Rattle.convert.proofs.meaning.Operations.{AllSized, sized-run, ops-read}
+use Rattle.convert.proofs.meaning.Operations.{ops-read}
 use Rattle.convert.proofs.calls.Table.{made-step, meant-input}
+use Rattle.convert.proofs.calls.Converted.{sized-words}
 use Rattle.operators.specs.Types.{Fine}
 use Rattle.operators.specs.Operators.{Operators}
 use Rattle.operators.specs.Whole.{sourcedOf, operationsOf, Performs}
@@ -34,16 +34,12 @@ read-calls (c ∷ cs) s h U =
 
 -- ---- after a conversion
 
-sized : (x : Input) → AllSized (wordEnd x .ops)
-unfolding wordEnd startWords
-sized x = sized-run (x .qubits) (x .cap) (gatesIn x) (plainBegin (x .qubits)) (startWords (x .qubits)) tt
-
 names-input : (x : Input) → convertCheck limits x ≡ Fine → Names (converted x)
 unfolding converted
 names-input x e = subst (OpsUnder (wordEnd x .arena .count)) (sym read) (meant-input x e .core .written .below)
   where
     read : opsFrom (opFrom (convertedHeader x) (convertStep x .operations)) 0 (length (wordEnd x .ops)) ≡ map (decoded (x .owner) (x .cbits)) (wordEnd x .ops)
-    read = ap (λ w. opsFrom (opFrom (convertedHeader x) w) 0 (length (wordEnd x .ops))) (ap (λ r. r .operations) (made-step x e)) ∙ ops-read (convertedHeader x) (wordEnd x .ops) _ (sized x)
+    read = ap (λ w. opsFrom (opFrom (convertedHeader x) w) 0 (length (wordEnd x .ops))) (ap (λ r. r .operations) (made-step x e)) ∙ ops-read (convertedHeader x) (wordEnd x .ops) _ (sized-words x)
 
 -- with the gate record that each names: none for those pushed, which are by hand
 pub sources-after : (x : Input) → convertCheck limits x ≡ Fine → (cs : List LaterCall) → AllCarried cs (converted x)
