@@ -6,19 +6,18 @@ use lib.IntN.{pos, negsuc}
 use lib.ListN.{replicate}
 use Rattle.pauli.specs.Angle.{remainder8}
 use Rattle.pauli.specs.Letters.{power}
-use Rattle.pauli.specs.Rotations.{flush}
 use Rattle.pauli.specs.Table.{start, step}
 use Rattle.arena.specs.Errors.{_⟫_⇒_}
 use Rattle.arena.specs.Nodes.{decode, nodeAt}
 use Rattle.arena.specs.Sparse.{dense}
-use Rattle.arena.specs.Operations.{decodeOp}
+use Rattle.arena.specs.Operations.{sourceOf, decodeOp}
 use Rattle.arena.specs.Store.{breaksLimit, exceedsNodes, exceedsOperations, foreign, unknown, noNodeRoom, noOperationRoom}
 use Rattle.arena.specs.Builder.{newCheck, newStep, singleCheck, singleStep, productCheck, productStep, rotateCheck, rotateStep, measureCheck, measureStep, conditionalCheck, conditionalStep}
 use Rattle.arena.specs.Walk.{walk}
 use Rattle.arena.specs.Readers.{expandWalk, hermitianWalk, reportWalk}
 use Rattle.arena.specs.Expansion.{opAt, expandCheck, expandStep, hermitianCheck, hermitianStep, reportCheck, reportStep}
 use Rattle.convert.specs.Records.{records, kindOf, lowerAs, lower, lowerFrom, lowerAll}
-use Rattle.convert.specs.Plain.{plainBegin, tested, exceeds, flushed, performAs, plainStep, plainRun, rowsAfter, tableRun}
+use Rattle.convert.specs.Plain.{plainBegin, tested, exceeds, flushFrom, flushed, performAs, plainStep, plainRun, rowsAfter, tableRun}
 use Rattle.convert.specs.Frame.{startArena, pushed, multiplied, frameStep, qubitsOf, operandsChecked, frameGates, frameRun, cliffordCheck, cliffordStep}
 use Rattle.convert.specs.Words.{startWords, flushGate, flushGates, flushWords, writeSeven, write, wordStep, wordRun}
 use Rattle.convert.specs.Planes.{mask, digits, rowWords, rowsWords, images, packed}
@@ -31,7 +30,7 @@ use Rattle.exports.specs.Conversion.{framePushedReply, convertedReply, c
 
 -- a header of two qubits, three classical bits, owner 7, six nodes, two operations and one measurement, and a word more; five words for the answer
 header : List ℕ
-unfolding power flush start step _⟫_⇒_ decode nodeAt dense decodeOp breaksLimit exceedsNodes exceedsOperations foreign unknown noNodeRoom noOperationRoom newCheck newStep singleCheck
+unfolding power flushFrom start step _⟫_⇒_ decode nodeAt dense sourceOf decodeOp breaksLimit exceedsNodes exceedsOperations foreign unknown noNodeRoom noOperationRoom newCheck newStep singleCheck
     singleStep productCheck productStep rotateCheck rotateStep measureCheck measureStep conditionalCheck conditionalStep walk expandWalk hermitianWalk reportWalk opAt expandCheck
     expandStep hermitianCheck hermitianStep reportCheck reportStep records kindOf lowerAs lower lowerFrom lowerAll plainBegin tested exceeds flushed performAs plainStep plainRun
     rowsAfter tableRun startArena pushed multiplied frameStep qubitsOf operandsChecked frameGates frameRun cliffordCheck cliffordStep startWords flushGate flushGates flushWords
@@ -48,9 +47,9 @@ answer = 9 ∷ 9 ∷ 9 ∷ 9 ∷ 9 ∷ []
 abbrev nodes : List ℕ
 nodes = 0 ∷ 0 ∷ 5 ∷ 0 ∷ 13 ∷ 0 ∷ 5 ∷ 1 ∷ 13 ∷ 1 ∷ 18 ∷ 16 ∷ 9 ∷ 9 ∷ []
 
--- Z₀ measured into bit 2, a rotation by 2 along X₀ Z₁, and room for one more
+-- Z₀ measured into bit 2, by hand; a rotation by 2 along X₀ Z₁, of gate record 65,535; and room for one more
 abbrev operations : List ℕ
-operations = 1 ∷ 8 ∷ 0 ∷ 3 ∷ 8 ∷ 20 ∷ 0 ∷ 0 ∷ 9 ∷ 9 ∷ 9 ∷ 9 ∷ []
+operations = 1 ∷ 8 ∷ 0 ∷ 3 ∷ 4294967295 ∷ 8 ∷ 20 ∷ 0 ∷ 0 ∷ 65535 ∷ 9 ∷ 9 ∷ 9 ∷ 9 ∷ 9 ∷ []
 
 -- ---- pbc_new
 
@@ -96,39 +95,39 @@ product-refused = refl
 -- ---- pbc_rotate: by -1, which is 7
 
 rotate-accepted : rotateCall header operations 7 20 (negsuc 0) answer
-    ≡ returned 0 (0 ∷ 0 ∷ 0 ∷ 0 ∷ 9 ∷ []) (headed (2 ∷ 3 ∷ 7 ∷ 6 ∷ 3 ∷ 1 ∷ 9 ∷ []) (1 ∷ 8 ∷ 0 ∷ 3 ∷ 8 ∷ 20 ∷ 0 ∷ 0 ∷ 28 ∷ 20 ∷ 0 ∷ 0 ∷ []))
+    ≡ returned 0 (0 ∷ 0 ∷ 0 ∷ 0 ∷ 9 ∷ []) (headed (2 ∷ 3 ∷ 7 ∷ 6 ∷ 3 ∷ 1 ∷ 9 ∷ []) (1 ∷ 8 ∷ 0 ∷ 3 ∷ 4294967295 ∷ 8 ∷ 20 ∷ 0 ∷ 0 ∷ 65535 ∷ 28 ∷ 20 ∷ 0 ∷ 0 ∷ 4294967295 ∷ []))
 unfolding header
 rotate-accepted = refl
 
--- no room: 15
-rotate-refused : rotateCall header (1 ∷ 8 ∷ 0 ∷ 3 ∷ 8 ∷ 20 ∷ 0 ∷ 0 ∷ 9 ∷ 9 ∷ 9 ∷ []) 7 20 (negsuc 0) answer
-    ≡ returned 15 (0 ∷ 0 ∷ 0 ∷ 0 ∷ 9 ∷ []) (headed (2 ∷ 3 ∷ 7 ∷ 6 ∷ 2 ∷ 1 ∷ 9 ∷ []) (1 ∷ 8 ∷ 0 ∷ 3 ∷ 8 ∷ 20 ∷ 0 ∷ 0 ∷ 9 ∷ 9 ∷ 9 ∷ []))
+-- one word too few: 15
+rotate-refused : rotateCall header (1 ∷ 8 ∷ 0 ∷ 3 ∷ 4294967295 ∷ 8 ∷ 20 ∷ 0 ∷ 0 ∷ 65535 ∷ 9 ∷ 9 ∷ 9 ∷ 9 ∷ []) 7 20 (negsuc 0) answer
+    ≡ returned 15 (0 ∷ 0 ∷ 0 ∷ 0 ∷ 9 ∷ []) (headed (2 ∷ 3 ∷ 7 ∷ 6 ∷ 2 ∷ 1 ∷ 9 ∷ []) (1 ∷ 8 ∷ 0 ∷ 3 ∷ 4294967295 ∷ 8 ∷ 20 ∷ 0 ∷ 0 ∷ 65535 ∷ 9 ∷ 9 ∷ 9 ∷ 9 ∷ []))
 unfolding header
 rotate-refused = refl
 
 -- ---- pbc_measure: into bit 2; the measurement's number is the value
 
 measure-accepted : measureCall header operations 7 18 3 answer
-    ≡ returned 0 (1 ∷ 0 ∷ 0 ∷ 0 ∷ 9 ∷ []) (headed (2 ∷ 3 ∷ 7 ∷ 6 ∷ 3 ∷ 2 ∷ 9 ∷ []) (1 ∷ 8 ∷ 0 ∷ 3 ∷ 8 ∷ 20 ∷ 0 ∷ 0 ∷ 1 ∷ 18 ∷ 1 ∷ 3 ∷ []))
+    ≡ returned 0 (1 ∷ 0 ∷ 0 ∷ 0 ∷ 9 ∷ []) (headed (2 ∷ 3 ∷ 7 ∷ 6 ∷ 3 ∷ 2 ∷ 9 ∷ []) (1 ∷ 8 ∷ 0 ∷ 3 ∷ 4294967295 ∷ 8 ∷ 20 ∷ 0 ∷ 0 ∷ 65535 ∷ 1 ∷ 18 ∷ 1 ∷ 3 ∷ 4294967295 ∷ []))
 unfolding header
 measure-accepted = refl
 
 -- bit 3: 9
 measure-refused : measureCall header operations 7 18 4 answer
-    ≡ returned 9 (0 ∷ 3 ∷ 0 ∷ 0 ∷ 9 ∷ []) (headed (2 ∷ 3 ∷ 7 ∷ 6 ∷ 2 ∷ 1 ∷ 9 ∷ []) (1 ∷ 8 ∷ 0 ∷ 3 ∷ 8 ∷ 20 ∷ 0 ∷ 0 ∷ 9 ∷ 9 ∷ 9 ∷ 9 ∷ []))
+    ≡ returned 9 (0 ∷ 3 ∷ 0 ∷ 0 ∷ 9 ∷ []) (headed (2 ∷ 3 ∷ 7 ∷ 6 ∷ 2 ∷ 1 ∷ 9 ∷ []) operations)
 unfolding header
 measure-refused = refl
 
 -- ---- pbc_conditional_rotate: by 13, which is 5, on measurement 0
 
 conditional-accepted : conditionalCall header operations 7 20 (pos 13) 7 0 answer
-    ≡ returned 0 (0 ∷ 0 ∷ 0 ∷ 0 ∷ 9 ∷ []) (headed (2 ∷ 3 ∷ 7 ∷ 6 ∷ 3 ∷ 1 ∷ 9 ∷ []) (1 ∷ 8 ∷ 0 ∷ 3 ∷ 8 ∷ 20 ∷ 0 ∷ 0 ∷ 22 ∷ 20 ∷ 0 ∷ 0 ∷ []))
+    ≡ returned 0 (0 ∷ 0 ∷ 0 ∷ 0 ∷ 9 ∷ []) (headed (2 ∷ 3 ∷ 7 ∷ 6 ∷ 3 ∷ 1 ∷ 9 ∷ []) (1 ∷ 8 ∷ 0 ∷ 3 ∷ 4294967295 ∷ 8 ∷ 20 ∷ 0 ∷ 0 ∷ 65535 ∷ 22 ∷ 20 ∷ 0 ∷ 0 ∷ 4294967295 ∷ []))
 unfolding header
 conditional-accepted = refl
 
 -- measurement 1 is not yet given: 10
 conditional-refused : conditionalCall header operations 7 20 (pos 13) 7 1 answer
-    ≡ returned 10 (0 ∷ 0 ∷ 0 ∷ 0 ∷ 9 ∷ []) (headed (2 ∷ 3 ∷ 7 ∷ 6 ∷ 2 ∷ 1 ∷ 9 ∷ []) (1 ∷ 8 ∷ 0 ∷ 3 ∷ 8 ∷ 20 ∷ 0 ∷ 0 ∷ 9 ∷ 9 ∷ 9 ∷ 9 ∷ []))
+    ≡ returned 10 (0 ∷ 0 ∷ 0 ∷ 0 ∷ 9 ∷ []) (headed (2 ∷ 3 ∷ 7 ∷ 6 ∷ 2 ∷ 1 ∷ 9 ∷ []) operations)
 unfolding header
 conditional-refused = refl
 
@@ -184,6 +183,12 @@ weights-refused : weightsCall header nodes operations (replicate 22 9) (replicat
 unfolding header
 weights-refused = refl
 
+-- 65,536 is no gate record: 3
+weights-sourceless : weightsCall header nodes (1 ∷ 8 ∷ 0 ∷ 3 ∷ 4294967295 ∷ 8 ∷ 20 ∷ 0 ∷ 0 ∷ 65536 ∷ []) (replicate 24 9) (replicate 4 9) 10 answer
+    ≡ returned 3 (0 ∷ 0 ∷ 0 ∷ 0 ∷ 9 ∷ []) (walkWords (replicate 24 9) (9 ∷ 9 ∷ 9 ∷ 9 ∷ []))
+unfolding header
+weights-sourceless = refl
+
 -- ---- pbc_push_output_clifford: s 1
 
 clifford-accepted : cliffordCall header nodes (4 ∷ 12 ∷ 8 ∷ 16 ∷ 9 ∷ []) 3 1 0 answer
@@ -199,12 +204,12 @@ clifford-refused : cliffordCall header nodes (4 ∷ 12 ∷ 8 ∷ 16 ∷ 9 ∷ []
 unfolding header
 clifford-refused = refl
 
--- ---- pbc_convert: cnot 0 1, t 1 at cap 2
+-- ---- pbc_convert: cnot 0 1, t 1 at cap 2; the rotation is of gate record 1
 
-convert-accepted : convertCall 2 3 7 2 (8 ∷ 0 ∷ 1 ∷ 9 ∷ 5 ∷ 1 ∷ 9 ∷ 9 ∷ []) (replicate 15 9) (replicate 5 9) (replicate 5 9) (replicate 9 9) header answer
+convert-accepted : convertCall 2 3 7 2 (8 ∷ 0 ∷ 1 ∷ 9 ∷ 5 ∷ 1 ∷ 9 ∷ 9 ∷ []) (replicate 15 9) (replicate 6 9) (replicate 5 9) (replicate 9 9) header answer
     ≡ returned 0 (0 ∷ 0 ∷ 0 ∷ 0 ∷ 9 ∷ [])
     (headed (2 ∷ 3 ∷ 7 ∷ 7 ∷ 1 ∷ 0 ∷ 9 ∷ [])
-    (convertWords (0 ∷ 0 ∷ 5 ∷ 0 ∷ 13 ∷ 0 ∷ 5 ∷ 1 ∷ 13 ∷ 1 ∷ 18 ∷ 12 ∷ 34 ∷ 16 ∷ 9 ∷ []) (4 ∷ 24 ∷ 0 ∷ 0 ∷ 9 ∷ []) (20 ∷ 12 ∷ 8 ∷ 24 ∷ 9 ∷ [])
+    (convertWords (0 ∷ 0 ∷ 5 ∷ 0 ∷ 13 ∷ 0 ∷ 5 ∷ 1 ∷ 13 ∷ 1 ∷ 18 ∷ 12 ∷ 34 ∷ 16 ∷ 9 ∷ []) (4 ∷ 24 ∷ 0 ∷ 0 ∷ 1 ∷ 9 ∷ []) (20 ∷ 12 ∷ 8 ∷ 24 ∷ 9 ∷ [])
     (3 ∷ 0 ∷ 0 ∷ 1 ∷ 2 ∷ 0 ∷ 0 ∷ 3 ∷ 9 ∷ [])))
 unfolding header
 convert-accepted = refl
@@ -217,10 +222,10 @@ unfolding header
 convert-uncapped = refl
 
 -- h 0, cnot 0 5: 7, at the gate of index 1, for the qubit 5
-convert-refused : convertCall 2 3 7 2 (0 ∷ 0 ∷ 9 ∷ 9 ∷ 8 ∷ 0 ∷ 5 ∷ 9 ∷ []) (replicate 10 9) (replicate 4 9) (replicate 4 9) (replicate 8 9) header answer
+convert-refused : convertCall 2 3 7 2 (0 ∷ 0 ∷ 9 ∷ 9 ∷ 8 ∷ 0 ∷ 5 ∷ 9 ∷ []) (replicate 10 9) (replicate 5 9) (replicate 4 9) (replicate 8 9) header answer
     ≡ returned 7 (1 ∷ 5 ∷ 0 ∷ 0 ∷ 9 ∷ [])
     (headed (2 ∷ 3 ∷ 7 ∷ 6 ∷ 2 ∷ 1 ∷ 9 ∷ [])
-    (convertWords (9 ∷ 9 ∷ 9 ∷ 9 ∷ 9 ∷ 9 ∷ 9 ∷ 9 ∷ 9 ∷ 9 ∷ []) (9 ∷ 9 ∷ 9 ∷ 9 ∷ []) (9 ∷ 9 ∷ 9 ∷ 9 ∷ []) (9 ∷ 9 ∷ 9 ∷ 9 ∷ 9 ∷ 9 ∷ 9 ∷ 9 ∷ [])))
+    (convertWords (9 ∷ 9 ∷ 9 ∷ 9 ∷ 9 ∷ 9 ∷ 9 ∷ 9 ∷ 9 ∷ 9 ∷ []) (9 ∷ 9 ∷ 9 ∷ 9 ∷ 9 ∷ []) (9 ∷ 9 ∷ 9 ∷ 9 ∷ []) (9 ∷ 9 ∷ 9 ∷ 9 ∷ 9 ∷ 9 ∷ 9 ∷ 9 ∷ [])))
 unfolding header
 convert-refused = refl
 

@@ -232,63 +232,97 @@ fn pushed(answer: Pushed) {
     }
 }
 
-// An operation added to a slice of two, with three words more.
-fn rotate(label: &[u8], operations: u32, word: u32) {
-    let mut words = [7u32; 11];
+fn each(words: &[u32]) {
+    let mut i = 0;
+    while i < words.len() {
+        word(words[i]);
+        i += 1;
+    }
+}
+
+// All words of a slice.
+fn whole(words: &[u32]) {
+    text(b" |");
+    each(words);
+    text(b"\n");
+}
+
+fn rotate(label: &[u8], words: &mut [u32], operations: u32, word: u32) {
     text(label);
     let h = header(1, 2, 3, operations, 0);
-    pushed(h.rotate(&mut words, axis(word), PauliAngle::new(-1)));
-    ends(&words);
+    pushed(h.rotate(words, axis(word), PauliAngle::new(-1)));
+    whole(words);
+}
+
+fn refused_rotations() {
+    let mut more = [7u32; 13];
+    let mut short = [7u32; 9];
+    rotate(b"rotate over the slice", &mut more, 3, 4);
+    rotate(b"rotate along an unused node", &mut more, 1, 12);
+    rotate(b"rotate in a full slice", &mut more, 2, 4);
+    rotate(b"rotate at the limit", &mut more, 65536, 4);
+    rotate(b"rotate one word short", &mut short, 1, 4);
 }
 
 fn rotations() {
-    rotate(b"rotate over the slice", 3, 4);
-    rotate(b"rotate along an unused node", 1, 12);
-    rotate(b"rotate in a full slice", 2, 4);
-    rotate(b"rotate at the limit", 65536, 4);
-    rotate(b"rotate in the last place", 1, 4);
-    rotate(b"rotate in the first place", 0, 11);
+    let mut full = [7u32; 10];
+    let mut more = [7u32; 13];
+    rotate(b"rotate in the last place", &mut full, 1, 4);
+    rotate(b"rotate in the first place", &mut more, 0, 11);
 }
 
-fn measure(label: &[u8], cbits: u32, measurements: u32, target: Target) {
-    let mut words = [7u32; 8];
+fn measure(label: &[u8], words: &mut [u32], cbits: u32, measurements: u32, target: Target) {
     text(label);
-    match header(1, cbits, 3, 1, measurements).measure(&mut words, axis(6), target) {
+    match header(1, cbits, 3, 1, measurements).measure(words, axis(6), target) {
         Measured::Made(made, outcome) => {
             accepted(made);
             word(outcome.index());
         }
         Measured::Refused(e) => refused(e),
     }
-    ends(&words);
+    whole(words);
 }
 
+fn refused_measurements() {
+    let most: u32 = 4294967295;
+    let mut full = [7u32; 10];
+    let mut short = [7u32; 9];
+    let last = Target::Bit(1);
+    measure(b"measure one word short", &mut short, 2, 0, last);
+    let bit = Target::Bit(2);
+    measure(b"measure into bit 2 of 2", &mut full, 2, 0, bit);
+    let far = Target::Bit(most);
+    measure(b"measure into the greatest bit", &mut full, 65536, 0, far);
+}
+
+// Each in the second place, over what the one before wrote there.
 fn measurements() {
-    measure(b"measure into bit 2 of 2", 2, 0, Target::Bit(2));
-    measure(
-        b"measure into the greatest bit",
-        65536,
-        0,
-        Target::Bit(4294967295),
-    );
-    measure(b"measure into bit 1 of 2", 2, 0, Target::Bit(1));
-    measure(b"measure into bit 65535", 65536, 1, Target::Bit(65535));
-    measure(b"measure into none", 0, 1, Target::None);
+    let mut full = [7u32; 10];
+    let bit = Target::Bit(1);
+    measure(b"measure into bit 1 of 2", &mut full, 2, 0, bit);
+    let last = Target::Bit(65535);
+    measure(b"measure into bit 65535", &mut full, 65536, 1, last);
+    measure(b"measure into none", &mut full, 0, 1, Target::None);
 }
 
-fn conditional(label: &[u8], operations: u32, outcome: MeasId) {
-    let mut words = [7u32; 8];
+fn conditional(label: &[u8], words: &mut [u32], operations: u32, outcome: MeasId) {
     text(label);
     let h = header(1, 2, 3, operations, 1);
-    pushed(h.conditional_rotate(&mut words, axis(4), PauliAngle::new(4), outcome));
-    ends(&words);
+    pushed(h.conditional_rotate(words, axis(4), PauliAngle::new(4), outcome));
+    whole(words);
 }
 
 fn conditions() {
-    conditional(b"condition on another's", 1, MeasId::new(12, 0));
-    conditional(b"condition not yet given", 1, MeasId::new(OWNER, 1));
-    conditional(b"condition in a full slice", 2, MeasId::new(OWNER, 0));
-    conditional(b"condition in the last place", 1, MeasId::new(OWNER, 0));
+    let mut full = [7u32; 10];
+    let mut short = [7u32; 9];
+    let given = MeasId::new(OWNER, 0);
+    let another = MeasId::new(12, 0);
+    let later = MeasId::new(OWNER, 1);
+    conditional(b"condition on another's", &mut full, 1, another);
+    conditional(b"condition not yet given", &mut full, 1, later);
+    conditional(b"condition in a full slice", &mut full, 2, given);
+    conditional(b"condition one word short", &mut short, 1, given);
+    conditional(b"condition in the last place", &mut full, 1, given);
 }
 
 fn main() {
@@ -298,7 +332,9 @@ fn main() {
     bad_stores();
     singles();
     products();
+    refused_rotations();
     rotations();
+    refused_measurements();
     measurements();
     conditions();
 }

@@ -12,8 +12,8 @@ use Rattle.pauli.specs.Rotations.{written, flush}
 use Rattle.pauli.proofs.Conj.{hom-forward, forward-back, back-forward}
 use Rattle.arena.specs.Builder.{rotateStep, measureStep, conditionalStep}
 use Rattle.arena.proofs.Accepted.{passed-before, test-passed}
-use Rattle.convert.specs.Records.{kindOf, lowerAs}
-use Rattle.convert.specs.Plain.{Operation, rotateBy, measureOf, conditionalBy, malformed}
+use Rattle.convert.specs.Records.{kindOf, lowerAs, bare}
+use Rattle.convert.specs.Plain.{Operation, rotateBy, measureOf, conditionalBy, malformed, flushFrom}
 use Rattle.convert.specs.Frame.{frameGates, qubitsOf, cliffordCheck, cliffordStep}
 use Rattle.convert.specs.Conversion.{Input, limits, gatesIn, plainEnd, paperEnd, convertCheck}
 use Rattle.convert.specs.Later.{Circuit, converted, LaterCall, callFrame, callSingle, callProduct, callRotate, callMeasure, callConditional, callExpand, callHermitian, callWeights}
@@ -212,19 +212,19 @@ module _ {n : ℕ} (O : Operators n) (outcome : ℕ → Bool) where
 -- ---- an accepted conversion and any later calls
 
 module _ (x : Input) (e : convertCheck limits x ≡ Fine) (cs : List LaterCall) where
-  start-good : Good (x .qubits) (converted x) (plainEnd x .table) (paperEnd x .since)
+  start-good : Good (x .qubits) (converted x) (plainEnd x .table) (bare (paperEnd x .since))
   unfolding plainEnd paperEnd
   start-good = subst (λ gs. Good (x .qubits) (converted x) (plainEnd x .table) gs)
-      (agrees flush (x .qubits) (x .cbits) (x .cap) (gatesIn x) (accepted limits x e .proper) .pending) (good-converted x e)
+      (ap (λ gs. bare gs) (agrees flushFrom (x .qubits) (x .cbits) (x .cap) (gatesIn x) (accepted limits x e .proper) .pending)) (good-converted x e)
 
-  same-gates : endGates x cs ≡ paperEnd x .since ++ fed cs (converted x)
+  same-gates : endGates x cs ≡ bare (paperEnd x .since) ++ fed cs (converted x)
   unfolding plainEnd paperEnd endGates
-  same-gates = ap (λ gs. gs ++ fed cs (converted x)) (agrees flush (x .qubits) (x .cbits) (x .cap) (gatesIn x) (accepted limits x e .proper) .pending)
+  same-gates = ap (λ gs. bare gs ++ fed cs (converted x)) (agrees flushFrom (x .qubits) (x .cbits) (x .cap) (gatesIn x) (accepted limits x e .proper) .pending)
 
-  all-valid : AllValid (x .qubits) (paperEnd x .since ++ fed cs (converted x))
-  all-valid = good-laters (x .qubits) cs (converted x) (plainEnd x .table) (paperEnd x .since) start-good .valid
+  all-valid : AllValid (x .qubits) (bare (paperEnd x .since) ++ fed cs (converted x))
+  all-valid = good-laters (x .qubits) cs (converted x) (plainEnd x .table) (bare (paperEnd x .since)) start-good .valid
 
-  framed : Frame (x .qubits) (paperEnd x .since ++ fed cs (converted x)) (frameImages (laters cs (converted x)))
+  framed : Frame (x .qubits) (bare (paperEnd x .since) ++ fed cs (converted x)) (frameImages (laters cs (converted x)))
   framed = subst (λ gs. Frame (x .qubits) gs (frameImages (laters cs (converted x)))) same-gates (demand3 x e cs .frame)
 
   -- an operation pushed along the image of a place acts at the circuit's end along the place's own X or Z
@@ -232,8 +232,8 @@ module _ (x : Input) (e : convertCheck limits x ≡ Fine) (cs : List LaterCall) 
       → forward (endGates x cs) (getD (frameImages (laters cs (converted x))) j (identity (x .qubits))) ≡ getD (start (x .qubits)) j (identity (x .qubits))
   place-own j hj =
       ap (λ gs. forward gs (getD (frameImages (laters cs (converted x))) j (identity (x .qubits)))) same-gates
-      ∙ ap (forward (paperEnd x .since ++ fed cs (converted x))) (sym (image-back (x .qubits) _ _ framed j hj))
-      ∙ forward-back (x .qubits) (paperEnd x .since ++ fed cs (converted x)) (getD (start (x .qubits)) j (identity (x .qubits))) all-valid (width-place (x .qubits) j)
+      ∙ ap (forward (bare (paperEnd x .since) ++ fed cs (converted x))) (sym (image-back (x .qubits) _ _ framed j hj))
+      ∙ forward-back (x .qubits) (bare (paperEnd x .since) ++ fed cs (converted x)) (getD (start (x .qubits)) j (identity (x .qubits))) all-valid (width-place (x .qubits) j)
 
   pub after : (O : Operators (x .qubits)) (outcome : ℕ → Bool) → After x cs O outcome
   after O outcome = record {
@@ -244,7 +244,7 @@ module _ (x : Input) (e : convertCheck limits x ≡ Fine) (cs : List LaterCall) 
     right = undone-right O gs all-valid;
     phase = E .phase + C .phase + 7 * gatesPhase O gs;
     same =
-        ap (λ a. O .times (afterOperator O outcome (paperEnd x .since) cs (converted x)) a) (E .same)
+        ap (λ a. O .times (afterOperator O outcome (bare (paperEnd x .since)) cs (converted x)) a) (E .same)
         ∙ root-past O _ (E .phase) _ ∙ ap (λ a. O .times (rootTo O (E .phase)) a) (C .same _) ∙ root-add O (E .phase) (C .phase) _
         ∙ ap (λ a. O .times (rootTo O (E .phase + C .phase)) (O .times (turns O (flush (x .qubits) gs)) a)) (sym (ops-append O outcome (operationsOf (converted x)) (pushed cs (converted x))))
         ∙ as-gates O gs all-valid (E .phase + C .phase) (operationsOperator O outcome (operationsOf (converted x) ++ pushed cs (converted x)));
@@ -253,10 +253,10 @@ module _ (x : Input) (e : convertCheck limits x ≡ Fine) (cs : List LaterCall) 
   }
     where
       gs : List Gate
-      gs = paperEnd x .since ++ fed cs (converted x)
+      gs = bare (paperEnd x .since) ++ fed cs (converted x)
 
       E : Ends x O outcome
       E = ends x e O outcome
 
-      C : Moved O outcome (afterOperator O outcome (paperEnd x .since) cs (converted x)) (paperEnd x .since) gs (pushed cs (converted x))
-      C = all-called O outcome cs (paperEnd x .since) (converted x) (plainEnd x .table) start-good
+      C : Moved O outcome (afterOperator O outcome (bare (paperEnd x .since)) cs (converted x)) (bare (paperEnd x .since)) gs (pushed cs (converted x))
+      C = all-called O outcome cs (bare (paperEnd x .since)) (converted x) (plainEnd x .table) start-good

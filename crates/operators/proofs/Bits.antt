@@ -5,13 +5,13 @@ use mathlib.Core.List.{List, [], _∷_, _++_, map, append-nil, append-assoc}
 use Prim.Native.Nat.{ℕ, suc}
 use Rattle.pauli.specs.Rows.{Row}
 use Rattle.pauli.specs.Rotations.{Rotation, flush}
-use Rattle.convert.specs.Records.{Record, records, kindOf, Elementary, clifford, elT, elTdg, elCcx, elCcz, elMeasure, lowerAs, lower, placedFrom, lowerFrom, lowerAll, bare}
-use Rattle.convert.specs.Plain.{Operation, rotateBy, measureOf, conditionalBy, malformed, asRotation}
+use Rattle.convert.specs.Records.{Record, records, kindOf, Elementary, clifford, elT, elTdg, elCcx, elCcz, elMeasure, lowerAs, lower, placedFrom, lowerFrom, lowerAll, Placed, bare, From, from, withoutIndex}
+use Rattle.convert.specs.Plain.{Operation, rotateBy, measureOf, conditionalBy, malformed, asRotation, flushFrom}
 use Rattle.convert.specs.Paper.{Paper, gateProducts, axes, tooHeavy, rotateAll, writes, paperPerform, paperFlushed, paperStep, paperRun, paperBegin}
 use Rattle.convert.specs.Conversion.{Input, limits, isMeasure, gatesIn, paperEnd, convertCheck}
 use Rattle.convert.specs.Later.{converted}
 use Rattle.convert.proofs.Accepted.{bare-placed}
-use Rattle.convert.proofs.meaning.Words.{map-append}
+use Rattle.convert.proofs.meaning.Words.{map-append, without-more, without-flushed}
 use Rattle.convert.proofs.Theorems.{converts}
 use Rattle.operators.specs.Types.{GateKind, KindH, KindX, KindZ, KindS, KindSdg, KindT, KindTdg, KindCnot, KindCz, KindCcx, KindCcz, KindMeasure, KindY, KindSx, KindSwap, KindCy, Unsupported, Target, Bit, Cap, Fine}
 use Rattle.operators.specs.Whole.{operationsOf}
@@ -49,28 +49,40 @@ elementsBits (e ∷ es) = elementBits e ++ elementsBits es
 more : (os ps : List Operation) (ts : List Target) → operationBits ps ≡ ts → operationBits (os ++ ps) ≡ operationBits os ++ ts
 more os ps ts e = bits-append os ps ∙ ap (λ l. operationBits os ++ l) e
 
-bits-perform : (n : ℕ) (e : Elementary) (p : Paper) → operationBits (paperPerform n e p .operations) ≡ operationBits (p .operations) ++ elementBits e
+-- what a gate record adds
+more-from : (os : List (From Operation)) (i : ℕ) (ps : List Operation) (ts : List Target) → operationBits ps ≡ ts
+    → operationBits (withoutIndex (os ++ map (from i) ps)) ≡ operationBits (withoutIndex os) ++ ts
+more-from os i ps ts e = ap operationBits (without-more os i ps) ∙ more (withoutIndex os) ps ts e
+
+abbrev bitsOf : Paper → List Target
+bitsOf p = operationBits (withoutIndex (p .operations))
+
+bits-perform : (n i j : ℕ) (e : Elementary) (p : Paper) → bitsOf (paperPerform n i j e p) ≡ bitsOf p ++ elementBits e
 unfolding paperPerform writes axes gateProducts
-bits-perform n (clifford g) p = sym (append-nil (operationBits (p .operations)))
-bits-perform n (elT q) p = more (p .operations) _ [] refl
-bits-perform n (elTdg q) p = more (p .operations) _ [] refl
-bits-perform n (elCcx a b d) p = more (p .operations) _ [] refl
-bits-perform n (elCcz a b d) p = more (p .operations) _ [] refl
-bits-perform n (elMeasure q k) p = more (p .operations) _ (Bit k ∷ []) refl
+bits-perform n i j (clifford g) p = sym (append-nil (bitsOf p))
+bits-perform n i j (elT q) p = more-from (p .operations) i (writes n (bare (p .since)) (p .given) (elT q)) [] refl
+bits-perform n i j (elTdg q) p = more-from (p .operations) i (writes n (bare (p .since)) (p .given) (elTdg q)) [] refl
+bits-perform n i j (elCcx a b d) p = more-from (p .operations) i (writes n (bare (p .since)) (p .given) (elCcx a b d)) [] refl
+bits-perform n i j (elCcz a b d) p = more-from (p .operations) i (writes n (bare (p .since)) (p .given) (elCcz a b d)) [] refl
+bits-perform n i j (elMeasure q k) p = more-from (p .operations) i (writes n (bare (p .since)) (p .given) (elMeasure q k)) (Bit k ∷ []) refl
 
-bits-step : (n : ℕ) (cap : Cap) (e : Elementary) (p : Paper) → operationBits (paperStep flush n cap e p .operations) ≡ operationBits (p .operations) ++ elementBits e
+bits-flushed : (n : ℕ) (p : Paper) → bitsOf (paperFlushed flushFrom n p) ≡ bitsOf p
+bits-flushed n p =
+    ap operationBits (without-flushed (p .operations) n (p .since)) ∙ more (withoutIndex (p .operations)) _ [] (bits-rotations (flush n (bare (p .since)))) ∙ append-nil (bitsOf p)
+
+bits-step : (n : ℕ) (cap : Cap) (e : Placed Elementary) (p : Paper) → bitsOf (paperStep flushFrom n cap e p) ≡ bitsOf p ++ elementBits (e .gate)
 unfolding paperStep
-bits-step n cap e p = go (tooHeavy n cap (p .since) e)
+bits-step n cap e p = go (tooHeavy n cap (bare (p .since)) (e .gate))
   where
-    go : (b : Bool) → operationBits (paperPerform n e (cond b (paperFlushed flush n p) p) .operations) ≡ operationBits (p .operations) ++ elementBits e
-    go true = bits-perform n e (paperFlushed flush n p) ∙ ap (λ l. l ++ elementBits e) (more (p .operations) _ [] (bits-rotations (flush n (p .since))) ∙ append-nil (operationBits (p .operations)))
-    go false = bits-perform n e p
+    go : (b : Bool) → bitsOf (paperPerform n (e .index) (e .part) (e .gate) (cond b (paperFlushed flushFrom n p) p)) ≡ bitsOf p ++ elementBits (e .gate)
+    go true = bits-perform n (e .index) (e .part) (e .gate) (paperFlushed flushFrom n p) ∙ ap (λ l. l ++ elementBits (e .gate)) (bits-flushed n p)
+    go false = bits-perform n (e .index) (e .part) (e .gate) p
 
-bits-run : (n : ℕ) (cap : Cap) (es : List Elementary) (p : Paper) → operationBits (paperRun flush n cap es p .operations) ≡ operationBits (p .operations) ++ elementsBits es
+bits-run : (n : ℕ) (cap : Cap) (es : List (Placed Elementary)) (p : Paper) → bitsOf (paperRun flushFrom n cap es p) ≡ bitsOf p ++ elementsBits (bare es)
 unfolding paperRun
-bits-run n cap [] p = sym (append-nil (operationBits (p .operations)))
+bits-run n cap [] p = sym (append-nil (bitsOf p))
 bits-run n cap (e ∷ es) p =
-    bits-run n cap es (paperStep flush n cap e p) ∙ ap (λ l. l ++ elementsBits es) (bits-step n cap e p) ∙ append-assoc (operationBits (p .operations)) (elementBits e) (elementsBits es)
+    bits-run n cap es (paperStep flushFrom n cap e p) ∙ ap (λ l. l ++ elementsBits (bare es)) (bits-step n cap e p) ∙ append-assoc (bitsOf p) (elementBits (e .gate)) (elementsBits (bare es))
 
 elements-append : (es fs : List Elementary) → elementsBits (es ++ fs) ≡ elementsBits es ++ elementsBits fs
 elements-append [] fs = refl
@@ -106,4 +118,4 @@ bits-records i (r ∷ rs) =
 
 pub bits : (x : Input) → convertCheck limits x ≡ Fine → operationBits (operationsOf (converted x)) ≡ recordBits (records (x .gates))
 unfolding converted paperEnd gatesIn lowerAll
-bits x e = ap operationBits (converts x e .operations) ∙ bits-run (x .qubits) (x .cap) (bare (gatesIn x)) paperBegin ∙ bits-records 0 (records (x .gates))
+bits x e = ap (λ os. operationBits (withoutIndex os)) (converts x e .operations) ∙ bits-run (x .qubits) (x .cap) (gatesIn x) paperBegin ∙ bits-records 0 (records (x .gates))

@@ -7,12 +7,12 @@ use lib.ListN.{length, take}
 use lib.Seq.{sets-eq, take-at, length-take-le}
 use Rattle.pauli.specs.Angle.{angleOf, eighthsOf}
 use Rattle.pauli.specs.Gates.{Gate}
-use Rattle.arena.specs.Limits.{nodeWords}
+use Rattle.arena.specs.Limits.{nodeWords, operationWords, handMark}
 use Rattle.arena.specs.Nodes.{singleWord, productWord}
 use Rattle.arena.specs.Operations.{rotateWords, measureWords, conditionalWords}
 use Rattle.arena.specs.Builder.{overlay, withNodes, nodePut, withOperation, operationPut, singleCheck, singleStep, productCheck, productStep, rotateCheck, rotateStep, measureCheck, measureStep, conditionalCheck, conditionalStep}
 use Rattle.arena.proofs.Accepted.{passed-before, test-passed, fits-single, fits-product, FitsOperation, fits-rotate, fits-measure, fits-conditional}
-use Rattle.convert.specs.Records.{kindOf}
+use Rattle.convert.specs.Records.{kindOf, from, mapFrom}
 use Rattle.convert.specs.Plain.{Operation, rotateBy, conditionalBy}
 use Rattle.convert.specs.Frame.{frameGates, frameRun, cliffordCheck, opened, cliffordStep}
 use Rattle.convert.specs.Words.{decoded, meaning}
@@ -22,8 +22,8 @@ use Rattle.convert.proofs.Accepted.{fits-gate}
 use Rattle.convert.proofs.calls.Table.{framed, later-framed}
 use Rattle.convert.proofs.meaning.Words.{OpUnder}
 use Rattle.operators.specs.Types.{Pauli, I, X, Y, Z, PauliAngle, PauliRef, PauliAxis, MeasId, Target, PbcOp, PbcError, Checked, Fine, Wrong}
-use Rattle.operators.specs.Whole.{operationsOf}
-use Rattle.operators.specs.After.{imageOf, pushedBy}
+use Rattle.operators.specs.Whole.{sourcedOf}
+use Rattle.operators.specs.After.{imageOf, pushedBy, byHand}
 use Rattle.operators.proofs.Reading.{Kept, Names, names-kept, reads-kept, under-pushed, reads-pushed}
 use Rattle.operators.proofs.Decoding.{decode-rotate, decode-measure, decode-conditional, Extends, extends-run}
 
@@ -94,25 +94,27 @@ module _ (s : Circuit) where
 
 -- ---- calls that push one
 
--- the circuit s′ has the operations of s and then os
+-- the circuit s′ has the operations of s and then os, by hand
 pub record Reads (s s′ : Circuit) (os : List Operation) : Type 0 where
   pub names : Names s′
-  pub reads : operationsOf s′ ≡ operationsOf s ++ os
+  pub reads : sourcedOf s′ ≡ sourcedOf s ++ byHand os
 
 module _ (s : Circuit) (U : Names s) where
   quiet : (s′ : Circuit) → Kept s s′ → Reads s s′ []
-  quiet s′ K = record { names = names-kept s s′ K U; reads = reads-kept s s′ K U ∙ sym (append-nil (operationsOf s)) }
+  quiet s′ K = record { names = names-kept s s′ K U; reads = reads-kept s s′ K U ∙ sym (append-nil (sourcedOf s)) }
 
-  -- the circuit with one more operation of four words, and so many measurements
+  -- the circuit with the words of one more operation, and so many measurements
   abbrev more : ℕ → List ℕ → Circuit
   more m vs = circuitOf (withOperation m (s .header)) (s .nodes) (operationPut (s .header) (s .operations) vs) (s .frame)
 
-  one-more : (m : ℕ) (x : PauliAxis) (vs : List ℕ) (p : PbcOp) (o : Operation) → FitsOperation (s .header) (length (s .operations)) x → length vs ≡ 4
-      → decoded (s .header .owner) (s .header .cbits) vs ≡ p → OpUnder (s .header .nodes) p → meaning (s .header .qubits) (s .header .nodes) (s .nodes) p ≡ o → Reads s (more m vs) (o ∷ [])
-  one-more m x vs p o F four d u e = record {
-    names = under-pushed (s .header) (withOperation m (s .header)) (s .operations) vs four (omega (arith, F .room .lent)) refl refl refl refl refl U (subst (OpUnder (s .header .nodes)) (sym d) u);
-    reads = reads-pushed (s .header) (withOperation m (s .header)) (s .operations) vs four (omega (arith, F .room .lent)) refl refl refl refl refl (s .nodes) o
-        (ap (meaning (s .header .qubits) (s .header .nodes) (s .nodes)) d ∙ e);
+  one-more : (m : ℕ) (x : PauliAxis) (vs : List ℕ) (p : PbcOp) (o : Operation) → FitsOperation (s .header) (length (s .operations)) x → length vs ≡ operationWords
+      → decoded (s .header .owner) (s .header .cbits) vs ≡ from handMark p → OpUnder (s .header .nodes) p → meaning (s .header .qubits) (s .header .nodes) (s .nodes) p ≡ o
+      → Reads s (more m vs) (o ∷ [])
+  one-more m x vs p o F size d u e = record {
+    names = under-pushed (s .header) (withOperation m (s .header)) (s .operations) vs size (omega (arith, F .room .lent)) refl refl refl refl refl U
+        (subst (λ q. OpUnder (s .header .nodes) (q .what)) (sym d) u);
+    reads = reads-pushed (s .header) (withOperation m (s .header)) (s .operations) vs size (omega (arith, F .room .lent)) refl refl refl refl refl (s .nodes) (from handMark o)
+        (ap (mapFrom (meaning (s .header .qubits) (s .header .nodes) (s .nodes))) d ∙ ap (from handMark) e);
   }
 
   rotate-call : (x : PauliAxis) (k : PauliAngle) → Reads s (later (callRotate x k) s) (pushedBy (callRotate x k) s)
@@ -123,8 +125,8 @@ module _ (s : Circuit) (U : Names s) where
       go Fine e =
           let F = fits-rotate (s .header) (length (s .operations)) x e in
           let same : eighthsOf (angleOf (eighthsOf k)) ≡ eighthsOf k = omega arith in
-          rw (e, pushedBy) (one-more (s .header .measurements) x (rotateWords (x .0 .word) (eighthsOf k)) _ _ F refl
-          (decode-rotate (s .header .owner) (s .header .cbits) (eighthsOf k) (x .0 .word) (omega arith)) (omega (arith, F .axis-own .used)) (ap (λ j. rotateBy j (imageOf s (x .0 .word))) same))
+          rw (e, pushedBy) (one-more (s .header .measurements) x (rotateWords (x .0 .word) (eighthsOf k) handMark) _ _ F refl
+          (ap (from handMark) (decode-rotate (s .header .owner) (s .header .cbits) (eighthsOf k) (x .0 .word) (omega arith))) (omega (arith, F .axis-own .used)) (ap (λ j. rotateBy j (imageOf s (x .0 .word))) same))
       go (Wrong y) e = rw (e, pushedBy) (quiet s (kept-self s))
 
   conditional-call : (x : PauliAxis) (k : PauliAngle) (m : MeasId) → Reads s (later (callConditional x k m) s) (pushedBy (callConditional x k m) s)
@@ -135,8 +137,8 @@ module _ (s : Circuit) (U : Names s) where
       go Fine e =
           let F = fits-conditional (s .header) (length (s .operations)) x m e in
           let same : eighthsOf (angleOf (eighthsOf k)) ≡ eighthsOf k = omega arith in
-          rw (e, pushedBy) (one-more (s .header .measurements) x (conditionalWords (x .0 .word) (eighthsOf k) (m .1)) _ _ F refl
-          (decode-conditional (s .header .owner) (s .header .cbits) (eighthsOf k) (x .0 .word) (m .1) (omega arith)) (omega (arith, F .axis-own .used))
+          rw (e, pushedBy) (one-more (s .header .measurements) x (conditionalWords (x .0 .word) (eighthsOf k) (m .1) handMark) _ _ F refl
+          (ap (from handMark) (decode-conditional (s .header .owner) (s .header .cbits) (eighthsOf k) (x .0 .word) (m .1) (omega arith))) (omega (arith, F .axis-own .used))
           (ap (λ j. conditionalBy j (imageOf s (x .0 .word)) (m .1)) same))
       go (Wrong y) e = rw (e, pushedBy) (quiet s (kept-self s))
 
@@ -147,8 +149,8 @@ module _ (s : Circuit) (U : Names s) where
       go : (c : Checked) → measureCheck (s .header) (length (s .operations)) x t ≡ c → Reads s (later (callMeasure x t) s) (pushedBy (callMeasure x t) s)
       go Fine e =
           let F = fits-measure (s .header) (length (s .operations)) x t e .0 in
-          rw (e, pushedBy) (one-more (s .header .measurements + 1) x (measureWords (x .0 .word) (s .header .measurements) t) _ _ F refl
-          (decode-measure (s .header) (x .0 .word) (s .header .measurements) t (test-passed _ _ _ (passed-before _ _ _ e))) (omega (arith, F .axis-own .used)) refl)
+          rw (e, pushedBy) (one-more (s .header .measurements + 1) x (measureWords (x .0 .word) (s .header .measurements) t handMark) _ _ F refl
+          (ap (from handMark) (decode-measure (s .header) (x .0 .word) (s .header .measurements) t (test-passed _ _ _ (passed-before _ _ _ e)))) (omega (arith, F .axis-own .used)) refl)
       go (Wrong y) e = rw (e, pushedBy) (quiet s (kept-self s))
 
   -- ---- any call; other operation words that are lent carry those in use

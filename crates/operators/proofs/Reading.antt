@@ -11,24 +11,25 @@ use Rattle.arena.specs.Limits.{operationWords}
 use Rattle.arena.specs.Operations.{decodeOp}
 use Rattle.arena.specs.Expansion.{opAt}
 use Rattle.arena.proofs.NodeRows.{image-older}
+use Rattle.convert.specs.Records.{From, from, mapFrom}
 use Rattle.convert.specs.Plain.{Operation, rotateBy, measureOf, conditionalBy}
-use Rattle.convert.specs.Words.{decoded, meaning, opsFrom, operationsIn}
+use Rattle.convert.specs.Words.{decoded, opFrom, meaning, opsFrom, operationsIn}
 use Rattle.convert.specs.Later.{Circuit}
 use Rattle.convert.proofs.meaning.Words.{map-append, OpUnder, OpsUnder}
 use Rattle.operators.specs.Types.{Header, PbcOp, Rotate, Measure, ConditionalRotate, MalformedOp}
-use Rattle.operators.specs.Whole.{operationsOf}
+use Rattle.operators.specs.Whole.{sourcedOf}
 
 -- ---- lists of operations
 
-ops-agree : (f g : ℕ → PbcOp) (i k : ℕ) → ((j : ℕ) → j < i + k → f j ≡ g j) → opsFrom f i k ≡ opsFrom g i k
+ops-agree : {A : Type 0} (f g : ℕ → A) (i k : ℕ) → ((j : ℕ) → j < i + k → f j ≡ g j) → opsFrom f i k ≡ opsFrom g i k
 ops-agree f g i zero h = refl
 ops-agree f g i (suc k) h = ap₂ _∷_ (h i (omega arith)) (ops-agree f g (suc i) k (λ j lt. h j (omega arith)))
 
-ops-snoc : (f : ℕ → PbcOp) (i k : ℕ) → opsFrom f i (suc k) ≡ opsFrom f i k ++ f (i + k) ∷ []
+ops-snoc : {A : Type 0} (f : ℕ → A) (i k : ℕ) → opsFrom f i (suc k) ≡ opsFrom f i k ++ f (i + k) ∷ []
 ops-snoc f i zero = let e : i ≡ i + 0 = omega arith in ap (λ j. f j ∷ []) e
 ops-snoc f i (suc k) = let e : suc i + k ≡ i + suc k = omega arith in ap (λ l. f i ∷ l) (ops-snoc f (suc i) k ∙ ap (λ j. opsFrom f (suc i) k ++ f j ∷ []) e)
 
-under-snoc : (k : ℕ) (os : List PbcOp) (o : PbcOp) → OpsUnder k os → OpUnder k o → OpsUnder k (os ++ o ∷ [])
+under-snoc : (k : ℕ) (os : List (From PbcOp)) (o : From PbcOp) → OpsUnder k os → OpUnder k (o .what) → OpsUnder k (os ++ o ∷ [])
 under-snoc k [] o u v = (v, tt)
 under-snoc k (p ∷ os) o u v = (u .0, under-snoc k os o (u .1) v)
 
@@ -38,9 +39,9 @@ under-op k m le (Measure x i t) u = omega arith
 under-op k m le (ConditionalRotate x a i) u = omega arith
 under-op k m le MalformedOp u = tt
 
-under-ops : (k m : ℕ) → k ≤ m → (os : List PbcOp) → OpsUnder k os → OpsUnder m os
+under-ops : (k m : ℕ) → k ≤ m → (os : List (From PbcOp)) → OpsUnder k os → OpsUnder m os
 under-ops k m le [] u = tt
-under-ops k m le (o ∷ os) u = (under-op k m le o (u .0), under-ops k m le os (u .1))
+under-ops k m le (o ∷ os) u = (under-op k m le (o .what) (u .0), under-ops k m le os (u .1))
 
 -- ---- older operations through newer nodes
 
@@ -52,9 +53,9 @@ module _ (n k m : ℕ) (ws vs : List ℕ) (le : k ≤ m) (e : take (2 * k) ws �
   meaning-older (ConditionalRotate x a i) u = ap (λ P. conditionalBy (eighthsOf a) P (i .1)) (image-older n k m ws vs (x .0 .word) (omega arith) le e)
   meaning-older MalformedOp u = refl
 
-  meanings-older : (os : List PbcOp) → OpsUnder k os → map (meaning n m vs) os ≡ map (meaning n k ws) os
+  meanings-older : (os : List (From PbcOp)) → OpsUnder k os → map (mapFrom (meaning n m vs)) os ≡ map (mapFrom (meaning n k ws)) os
   meanings-older [] u = refl
-  meanings-older (o ∷ os) u = ap₂ _∷_ (meaning-older o (u .0)) (meanings-older os (u .1))
+  meanings-older (o ∷ os) u = ap₂ _∷_ (ap (from (o .index)) (meaning-older (o .what) (u .0))) (meanings-older os (u .1))
 
 -- a circuit with the same used operations over more nodes
 pub record Kept (s s′ : Circuit) : Type 0 where
@@ -66,8 +67,8 @@ pub record Kept (s s′ : Circuit) : Type 0 where
   pub older : take (2 * s .header .nodes) (s .nodes) ≡ take (2 * s .header .nodes) (s′ .nodes)
   pub words : take (operationWords * s .header .operations) (s′ .operations) ≡ take (operationWords * s .header .operations) (s .operations)
 
-abbrev pub usedOps : Circuit → List PbcOp
-usedOps s = opsFrom (opAt (s .header) (s .operations)) 0 (s .header .operations)
+abbrev pub usedOps : Circuit → List (From PbcOp)
+usedOps s = opsFrom (opFrom (s .header) (s .operations)) 0 (s .header .operations)
 
 -- the axis of each used operation names a used node
 abbrev pub Names : Circuit → Type 0
@@ -77,26 +78,28 @@ module _ (s s′ : Circuit) (K : Kept s s′) (U : Names s) where
   same-word : (i : ℕ) → i < operationWords * s .header .operations → getD (s′ .operations) i 0 ≡ getD (s .operations) i 0
   same-word i lt = sym (getD-take (operationWords * s .header .operations) (s′ .operations) i 0 lt) ∙ ap (λ l. getD l i 0) (K .words) ∙ getD-take (operationWords * s .header .operations) (s .operations) i 0 lt
 
-  same-op : (i : ℕ) → i < s .header .operations → opAt (s′ .header) (s′ .operations) i ≡ opAt (s .header) (s .operations) i
+  same-op : (i : ℕ) → i < s .header .operations → opFrom (s′ .header) (s′ .operations) i ≡ opFrom (s .header) (s .operations) i
   unfolding opAt
-  same-op i lt = λ t. decodeOp (K .owner t) (K .cbits t) (same-word (operationWords * i) (omega arith) t) (same-word (operationWords * i + 1) (omega arith) t) (same-word (operationWords * i + 2) (omega arith) t) (same-word (operationWords * i + 3) (omega arith) t)
+  same-op i lt = λ t. from (same-word (operationWords * i + 4) (omega arith) t)
+      (decodeOp (K .owner t) (K .cbits t) (same-word (operationWords * i) (omega arith) t) (same-word (operationWords * i + 1) (omega arith) t)
+      (same-word (operationWords * i + 2) (omega arith) t) (same-word (operationWords * i + 3) (omega arith) t))
 
   same-ops : usedOps s′ ≡ usedOps s
-  same-ops = ap (opsFrom (opAt (s′ .header) (s′ .operations)) 0) (K .operations)
-      ∙ ops-agree (opAt (s′ .header) (s′ .operations)) (opAt (s .header) (s .operations)) 0 (s .header .operations) (λ j lt. same-op j (omega arith))
+  same-ops = ap (opsFrom (opFrom (s′ .header) (s′ .operations)) 0) (K .operations)
+      ∙ ops-agree (opFrom (s′ .header) (s′ .operations)) (opFrom (s .header) (s .operations)) 0 (s .header .operations) (λ j lt. same-op j (omega arith))
 
   pub names-kept : Names s′
   names-kept = subst (λ l. OpsUnder (s′ .header .nodes) l) (sym same-ops) (under-ops (s .header .nodes) (s′ .header .nodes) (K .more) (usedOps s) U)
 
-  pub reads-kept : operationsOf s′ ≡ operationsOf s
+  pub reads-kept : sourcedOf s′ ≡ sourcedOf s
   unfolding operationsIn
   reads-kept =
-      ap₂ (λ q l. map (meaning q (s′ .header .nodes) (s′ .nodes)) l) (K .qubits) same-ops
+      ap₂ (λ q l. map (mapFrom (meaning q (s′ .header .nodes) (s′ .nodes))) l) (K .qubits) same-ops
       ∙ meanings-older (s .header .qubits) (s .header .nodes) (s′ .header .nodes) (s .nodes) (s′ .nodes) (K .more) (K .older) (usedOps s) U
 
 -- ---- one more operation
 
-module _ (h h′ : Header) (ops vs : List ℕ) (four : length vs ≡ operationWords) (room : operationWords * (h .operations + 1) ≤ length ops)
+module _ (h h′ : Header) (ops vs : List ℕ) (size : length vs ≡ operationWords) (room : operationWords * (h .operations + 1) ≤ length ops)
     (owner : h′ .owner ≡ h .owner) (cbits : h′ .cbits ≡ h .cbits) (count : h′ .operations ≡ h .operations + 1) (nodes : h′ .nodes ≡ h .nodes) (qubits : h′ .qubits ≡ h .qubits) where
   after : List ℕ
   after = sets ops (operationWords * h .operations) vs
@@ -116,33 +119,42 @@ module _ (h h′ : Header) (ops vs : List ℕ) (four : length vs ≡ operationWo
       let f : i ≡ length (take (operationWords * h .operations) ops) + j = at ∙ ap (λ m. m + j) (sym front) in
       ap₂ (λ l m. getD l m 0) laid f ∙ getD-append-add (take (operationWords * h .operations) ops) _ j 0 ∙ List·getD-append vs _ 0 j (omega arith)
 
-  old-op : (i : ℕ) → i < h .operations → opAt h′ after i ≡ opAt h ops i
+  old-op : (i : ℕ) → i < h .operations → opFrom h′ after i ≡ opFrom h ops i
   unfolding opAt
-  old-op i lt = λ t. decodeOp (owner t) (cbits t) (old-word (operationWords * i) (omega arith) t) (old-word (operationWords * i + 1) (omega arith) t) (old-word (operationWords * i + 2) (omega arith) t) (old-word (operationWords * i + 3) (omega arith) t)
+  old-op i lt = λ t. from (old-word (operationWords * i + 4) (omega arith) t)
+      (decodeOp (owner t) (cbits t) (old-word (operationWords * i) (omega arith) t) (old-word (operationWords * i + 1) (omega arith) t)
+      (old-word (operationWords * i + 2) (omega arith) t) (old-word (operationWords * i + 3) (omega arith) t))
 
-  new-op : opAt h′ after (h .operations) ≡ decoded (h .owner) (h .cbits) vs
+  new-op : opFrom h′ after (h .operations) ≡ decoded (h .owner) (h .cbits) vs
   unfolding opAt
-  new-op = λ t. decodeOp (owner t) (cbits t) (new-word (operationWords * h .operations) 0 (omega arith) (omega arith) t) (new-word (operationWords * h .operations + 1) 1 (omega arith) (omega arith) t)
-      (new-word (operationWords * h .operations + 2) 2 (omega arith) (omega arith) t) (new-word (operationWords * h .operations + 3) 3 (omega arith) (omega arith) t)
+  new-op = λ t. from (new-word (operationWords * h .operations + 4) 4 (omega arith) (omega arith) t)
+      (decodeOp (owner t) (cbits t) (new-word (operationWords * h .operations) 0 (omega arith) (omega arith) t) (new-word (operationWords * h .operations + 1) 1 (omega arith) (omega arith) t)
+      (new-word (operationWords * h .operations + 2) 2 (omega arith) (omega arith) t) (new-word (operationWords * h .operations + 3) 3 (omega arith) (omega arith) t))
 
-  all-ops : opsFrom (opAt h′ after) 0 (h′ .operations) ≡ opsFrom (opAt h ops) 0 (h .operations) ++ decoded (h .owner) (h .cbits) vs ∷ []
+  -- the operations before, and the new one
+  abbrev older : List (From PbcOp)
+  older = opsFrom (opFrom h ops) 0 (h .operations)
+
+  abbrev newest : From PbcOp
+  newest = decoded (h .owner) (h .cbits) vs
+
+  all-ops : opsFrom (opFrom h′ after) 0 (h′ .operations) ≡ older ++ newest ∷ []
   all-ops =
       let z : 0 + h .operations ≡ h .operations = omega arith in
-      ap (opsFrom (opAt h′ after) 0) (count ∙ add-one (h .operations)) ∙ ops-snoc (opAt h′ after) 0 (h .operations)
-      ∙ ap₂ (λ l o. l ++ o ∷ []) (ops-agree (opAt h′ after) (opAt h ops) 0 (h .operations) (λ j lt. old-op j (omega arith))) (ap (opAt h′ after) z ∙ new-op)
+      ap (opsFrom (opFrom h′ after) 0) (count ∙ add-one (h .operations)) ∙ ops-snoc (opFrom h′ after) 0 (h .operations)
+      ∙ ap₂ (λ l o. l ++ o ∷ []) (ops-agree (opFrom h′ after) (opFrom h ops) 0 (h .operations) (λ j lt. old-op j (omega arith))) (ap (opFrom h′ after) z ∙ new-op)
 
-  pub under-pushed : OpsUnder (h .nodes) (opsFrom (opAt h ops) 0 (h .operations)) → OpUnder (h .nodes) (decoded (h .owner) (h .cbits) vs)
-      → OpsUnder (h′ .nodes) (opsFrom (opAt h′ (sets ops (operationWords * h .operations) vs)) 0 (h′ .operations))
+  pub under-pushed : OpsUnder (h .nodes) older → OpUnder (h .nodes) (newest .what)
+      → OpsUnder (h′ .nodes) (opsFrom (opFrom h′ (sets ops (operationWords * h .operations) vs)) 0 (h′ .operations))
   unfolding after
   under-pushed U u = subst (λ l. OpsUnder (h′ .nodes) l) (sym all-ops)
-      (subst (λ m. OpsUnder m (opsFrom (opAt h ops) 0 (h .operations) ++ decoded (h .owner) (h .cbits) vs ∷ [])) (sym nodes)
-      (under-snoc (h .nodes) (opsFrom (opAt h ops) 0 (h .operations)) (decoded (h .owner) (h .cbits) vs) U u))
+      (subst (λ m. OpsUnder m (older ++ newest ∷ [])) (sym nodes) (under-snoc (h .nodes) older newest U u))
 
-  pub reads-pushed : (ws : List ℕ) (o : Operation) → meaning (h .qubits) (h .nodes) ws (decoded (h .owner) (h .cbits) vs) ≡ o
+  pub reads-pushed : (ws : List ℕ) (o : From Operation) → mapFrom (meaning (h .qubits) (h .nodes) ws) newest ≡ o
       → operationsIn h′ ws (sets ops (operationWords * h .operations) vs) ≡ operationsIn h ws ops ++ o ∷ []
   unfolding operationsIn after
   reads-pushed ws o e =
-      ap₂ (λ q l. map (meaning q (h′ .nodes) ws) l) qubits all-ops
-      ∙ ap (λ m. map (meaning (h .qubits) m ws) (opsFrom (opAt h ops) 0 (h .operations) ++ decoded (h .owner) (h .cbits) vs ∷ [])) nodes
-      ∙ map-append (meaning (h .qubits) (h .nodes) ws) (opsFrom (opAt h ops) 0 (h .operations)) (decoded (h .owner) (h .cbits) vs ∷ [])
-      ∙ ap (λ p. map (meaning (h .qubits) (h .nodes) ws) (opsFrom (opAt h ops) 0 (h .operations)) ++ p ∷ []) e
+      ap₂ (λ q l. map (mapFrom (meaning q (h′ .nodes) ws)) l) qubits all-ops
+      ∙ ap (λ m. map (mapFrom (meaning (h .qubits) m ws)) (older ++ newest ∷ [])) nodes
+      ∙ map-append (mapFrom (meaning (h .qubits) (h .nodes) ws)) older (newest ∷ [])
+      ∙ ap (λ p. map (mapFrom (meaning (h .qubits) (h .nodes) ws)) older ++ p ∷ []) e

@@ -19,8 +19,8 @@ use Rattle.convert.specs.Statement.{frameImages, endGates}
 use Rattle.operators.specs.Types.{One, PlusI, MinusI, Z, Fine}
 use Rattle.operators.specs.Operators.{Operators, rootTo, turn}
 use Rattle.operators.specs.Textbook.{seen, xOf, yOf, zOf, ifOne, hadamardOf, sxOf, swapOf, gatesOperator}
-use Rattle.operators.specs.Whole.{operationsOf, Whole}
-use Rattle.operators.specs.After.{pushed, After, AfterWords}
+use Rattle.operators.specs.Whole.{sourcedOf, operationsOf, Whole}
+use Rattle.operators.specs.After.{pushed, byHand, After, AfterWords}
 use Rattle.operators.specs.Bits.{recordBits, operationBits}
 use Rattle.operators.specs.Model.{Scalars, BitString, Amplitudes, Linear, phased, flipAll, entryAll, bitAt, flipAt, signOf, overRootTwo, ket}
 use Rattle.operators.specs.Dyadic.{Halved, plusHalved, rootHalved, halfHalved}
@@ -55,6 +55,11 @@ after = After.after
 pub read-after : (x : Input) → convertCheck limits x ≡ Fine → (cs : List LaterCall) → AllCarried cs (converted x)
     → operationsOf (laters cs (converted x)) ≡ operationsOf (converted x) ++ pushed cs (converted x)
 read-after = Words.read-after
+
+-- with the gate record that each names: those pushed are by hand (document 02, E2)
+pub sources-after : (x : Input) → convertCheck limits x ≡ Fine → (cs : List LaterCall) → AllCarried cs (converted x)
+    → sourcedOf (laters cs (converted x)) ≡ sourcedOf (converted x) ++ byHand (pushed cs (converted x))
+sources-after = Words.sources-after
 
 pub after-words : (x : Input) → convertCheck limits x ≡ Fine → (cs : List LaterCall) → AllCarried cs (converted x) → (O : Operators (x .qubits)) (outcome : ℕ → Bool) → AfterWords x cs O outcome
 after-words = Words.after-words

@@ -14,14 +14,14 @@ use Rattle.pauli.specs.Rotations.{Rotation, by, written, flush}
 use Rattle.pauli.proofs.Short.{width-single}
 use Rattle.pauli.proofs.Rows.{width-★}
 use Rattle.arena.proofs.Accepted.{passed-before}
-use Rattle.convert.specs.Records.{records, Elementary, clifford, elT, elTdg, elCcx, elCcz, elMeasure, lowerAll, bare, Proper, AllProper}
-use Rattle.convert.specs.Plain.{Operation, asRotation, seven}
+use Rattle.convert.specs.Records.{records, Elementary, clifford, elT, elTdg, elCcx, elCcz, elMeasure, lowerAll, Placed, bare, from, withoutIndex, Proper, AllProper}
+use Rattle.convert.specs.Plain.{Operation, asRotation, seven, flushFrom}
 use Rattle.convert.specs.Paper.{Paper, gateProducts, axes, tooHeavy, sevenAngles, rotateAll, writes, paperPerform, paperFlushed, paperStep, paperRun, paperBegin}
 use Rattle.convert.specs.Conversion.{Input, limits, gatesIn, paperEnd, convertCheck, roomChecked, gatesCheck, gatesChecked}
 use Rattle.convert.specs.Later.{converted}
 use Rattle.convert.specs.Statement.{Frame}
 use Rattle.convert.proofs.Accepted.{accepted}
-use Rattle.convert.proofs.meaning.Words.{valid-append}
+use Rattle.convert.proofs.meaning.Words.{without-more, without-flushed, valid-append, bare-snoc}
 use Rattle.convert.proofs.packed.Deciding.{wide-start}
 use Rattle.convert.proofs.Theorems.{converts}
 use Rattle.operators.specs.Types.{Pauli, X, Z, Cap, Fine}
@@ -80,18 +80,22 @@ module _ {n : ℕ} (O : Operators n) (outcome : ℕ → Bool) where
   -- ---- a state: what is written, and then the gates since the last flush
 
   abbrev value : Paper → O .Op
-  value p = turns O (flush n (p .since)) ⊠ ops (p .operations)
+  value p = turns O (flush n (bare (p .since))) ⊠ ops (withoutIndex (p .operations))
 
-  flushed-value : (p : Paper) → value p ≡ value (paperFlushed flush n p)
+  flushed-value : (p : Paper) → value p ≡ value (paperFlushed flushFrom n p)
   unfolding flush
-  flushed-value p = sym (O .one-left _ ∙ ops-append (p .operations) (map asRotation (flush n (p .since))) ∙ ap (λ a. a ⊠ ops (p .operations)) (ops-turns (flush n (p .since))))
+  flushed-value p =
+      let gs = bare (p .since) in
+      sym (O .one-left _ ∙ ap ops (without-flushed (p .operations) n (p .since)) ∙ ops-append (withoutIndex (p .operations)) (map asRotation (flush n gs))
+      ∙ ap (λ a. a ⊠ ops (withoutIndex (p .operations))) (ops-turns (flush n gs)))
 
   -- an operator in front of the gates that is a list of operations behind them
-  written-value : (p : Paper) (a : O .Op) (os : List Operation) → a ⊠ turns O (flush n (p .since)) ≡ turns O (flush n (p .since)) ⊠ ops os
-      → a ⊠ value p ≡ O .one ⊠ (turns O (flush n (p .since)) ⊠ ops (p .operations ++ os))
-  written-value p a os e =
-      sym (O .times-assoc a _ _) ∙ ap (λ b. b ⊠ ops (p .operations)) e ∙ O .times-assoc _ (ops os) (ops (p .operations))
-      ∙ ap (λ b. turns O (flush n (p .since)) ⊠ b) (sym (ops-append (p .operations) os)) ∙ sym (O .one-left _)
+  written-value : (p : Paper) (i : ℕ) (a : O .Op) (os : List Operation) → a ⊠ turns O (flush n (bare (p .since))) ≡ turns O (flush n (bare (p .since))) ⊠ ops os
+      → a ⊠ value p ≡ O .one ⊠ (turns O (flush n (bare (p .since))) ⊠ ops (withoutIndex (p .operations ++ map (from i) os)))
+  written-value p i a os e =
+      let before = withoutIndex (p .operations) in
+      sym (O .times-assoc a _ _) ∙ ap (λ b. b ⊠ ops before) e ∙ O .times-assoc _ (ops os) (ops before)
+      ∙ ap (λ b. turns O (flush n (bare (p .since))) ⊠ b) (sym (ops-append before os) ∙ ap ops (sym (without-more (p .operations) i os))) ∙ sym (O .one-left _)
 
   seven-width : (n a b d : ℕ) (l : Pauli) → AllWidth n (seven (single n a Z) (single n b Z) (single n d l))
   seven-width n a b d l =
@@ -125,69 +129,80 @@ module _ {n : ℕ} (O : Operators n) (outcome : ℕ → Bool) where
       ap (λ a. a ⊠ turns O (flush n gs)) (sym (turn-as O k (single n q Z))) ∙ turn-back O gs v k (single n q Z) (width-single n q Z)
       ∙ ap (λ a. turns O (flush n gs) ⊠ a) (sym (O .one-left _))
 
-  performed : (c : ℕ) (e : Elementary) (p : Paper) → Proper n c e → AllValid n (p .since)
-      → elementOperator O outcome (p .given) e ⊠ value p ≡ rootTo O (elementPhase e) ⊠ value (paperPerform n e p)
+  performed : (c i j : ℕ) (e : Elementary) (p : Paper) → Proper n c e → AllValid n (bare (p .since))
+      → elementOperator O outcome (p .given) e ⊠ value p ≡ rootTo O (elementPhase e) ⊠ value (paperPerform n i j e p)
   unfolding paperPerform writes axes gateProducts
-  performed c (clifford g) p h v =
+  performed c i j (clifford g) p h v =
+      let gs = bare (p .since) in
+      let before = ops (withoutIndex (p .operations)) in
       ap (λ a. a ⊠ value p) (gate-turns O g h) ∙ O .times-assoc (rootTo O (gatePhase O g)) (turns O (written n g)) (value p)
-      ∙ ap (λ a. rootTo O (gatePhase O g) ⊠ a) (sym (O .times-assoc (turns O (written n g)) (turns O (flush n (p .since))) (ops (p .operations)))
-      ∙ ap (λ a. a ⊠ ops (p .operations)) (sym (turns-append O (flush n (p .since)) (written n g)) ∙ ap (turns O) (sym (flush-snoc O (p .since) g))))
-  performed c (elT q) p h v = written-value p _ _ (one-turn (p .since) v 1 q)
-  performed c (elTdg q) p h v = written-value p _ _ (one-turn (p .since) v 7 q)
-  performed c (elCcx a b d) p h v = written-value p _ _ (seven-back (p .since) v a b d X (h .0) (h .1) (h .2) (h .3) (h .4) (h .5))
-  performed c (elCcz a b d) p h v = written-value p _ _ (seven-back (p .since) v a b d Z (h .0) (h .1) (h .2) (h .3) (h .4) (h .5))
-  performed c (elMeasure q k) p h v = written-value p _ _ (seen-back (p .since) v (outcome (p .given)) (single n q Z) (width-single n q Z) ∙ ap (λ a. turns O (flush n (p .since)) ⊠ a) (sym (O .one-left _)))
+      ∙ ap (λ a. rootTo O (gatePhase O g) ⊠ a) (sym (O .times-assoc (turns O (written n g)) (turns O (flush n gs)) before)
+      ∙ ap (λ a. a ⊠ before) (sym (turns-append O (flush n gs) (written n g)) ∙ ap (turns O) (sym (flush-snoc O gs g) ∙ ap (flush n) (sym (bare-snoc (p .since) i j g)))))
+  performed c i j (elT q) p h v = written-value p i _ (writes n (bare (p .since)) (p .given) (elT q)) (one-turn (bare (p .since)) v 1 q)
+  performed c i j (elTdg q) p h v = written-value p i _ (writes n (bare (p .since)) (p .given) (elTdg q)) (one-turn (bare (p .since)) v 7 q)
+  performed c i j (elCcx a b d) p h v =
+      written-value p i _ (writes n (bare (p .since)) (p .given) (elCcx a b d)) (seven-back (bare (p .since)) v a b d X (h .0) (h .1) (h .2) (h .3) (h .4) (h .5))
+  performed c i j (elCcz a b d) p h v =
+      written-value p i _ (writes n (bare (p .since)) (p .given) (elCcz a b d)) (seven-back (bare (p .since)) v a b d Z (h .0) (h .1) (h .2) (h .3) (h .4) (h .5))
+  performed c i j (elMeasure q k) p h v =
+      written-value p i _ (writes n (bare (p .since)) (p .given) (elMeasure q k))
+      (seen-back (bare (p .since)) v (outcome (p .given)) (single n q Z) (width-single n q Z) ∙ ap (λ a. turns O (flush n (bare (p .since))) ⊠ a) (sym (O .one-left _)))
 
   -- ---- the whole list
 
-  still-valid : (n c : ℕ) (e : Elementary) (p : Paper) → Proper n c e → AllValid n (p .since) → AllValid n (paperPerform n e p .since)
-  unfolding paperPerform
-  still-valid n c (clifford g) p h v = valid-append n (p .since) (g ∷ []) v (h, tt)
-  still-valid n c (elT q) p h v = v
-  still-valid n c (elTdg q) p h v = v
-  still-valid n c (elCcx a b d) p h v = v
-  still-valid n c (elCcz a b d) p h v = v
-  still-valid n c (elMeasure q k) p h v = v
+  -- the state after a gate
+  abbrev past : ℕ → Placed Elementary → Paper → Paper
+  past n e p = paperPerform n (e .index) (e .part) (e .gate) p
 
-  given-after : (n : ℕ) (e : Elementary) (p : Paper) → paperPerform n e p .given ≡ givenAfter e (p .given)
+  still-valid : (n c i j : ℕ) (e : Elementary) (p : Paper) → Proper n c e → AllValid n (bare (p .since)) → AllValid n (bare (paperPerform n i j e p .since))
   unfolding paperPerform
-  given-after n (clifford g) p = refl
-  given-after n (elT q) p = refl
-  given-after n (elTdg q) p = refl
-  given-after n (elCcx a b d) p = refl
-  given-after n (elCcz a b d) p = refl
-  given-after n (elMeasure q k) p = refl
+  still-valid n c i j (clifford g) p h v = rw (bare-snoc (p .since) i j g) (valid-append n (bare (p .since)) (g ∷ []) v (h, tt))
+  still-valid n c i j (elT q) p h v = v
+  still-valid n c i j (elTdg q) p h v = v
+  still-valid n c i j (elCcx a b d) p h v = v
+  still-valid n c i j (elCcz a b d) p h v = v
+  still-valid n c i j (elMeasure q k) p h v = v
 
-  record Run (m : ℕ) (es : List Elementary) (p p′ : Paper) : Type 0 where
+  given-after : (n i j : ℕ) (e : Elementary) (p : Paper) → paperPerform n i j e p .given ≡ givenAfter e (p .given)
+  unfolding paperPerform
+  given-after n i j (clifford g) p = refl
+  given-after n i j (elT q) p = refl
+  given-after n i j (elTdg q) p = refl
+  given-after n i j (elCcx a b d) p = refl
+  given-after n i j (elCcz a b d) p = refl
+  given-after n i j (elMeasure q k) p = refl
+
+  record Run (m : ℕ) (es : List (Placed Elementary)) (p p′ : Paper) : Type 0 where
     phase : ℕ
-    valid : AllValid n (p′ .since)
-    same : elementsOperator O outcome m es ⊠ value p ≡ rootTo O phase ⊠ value p′
+    valid : AllValid n (bare (p′ .since))
+    same : elementsOperator O outcome m (bare es) ⊠ value p ≡ rootTo O phase ⊠ value p′
 
   -- a gate from a state that may have been flushed
-  next : (c : ℕ) (e : Elementary) (es : List Elementary) (p p₁ p′ : Paper) → Proper n c e → AllValid n (p₁ .since) → p₁ .given ≡ p .given → value p ≡ value p₁
-      → Run (paperPerform n e p₁ .given) es (paperPerform n e p₁) p′ → Run (p .given) (e ∷ es) p p′
+  next : (c : ℕ) (e : Placed Elementary) (es : List (Placed Elementary)) (p p₁ p′ : Paper) → Proper n c (e .gate) → AllValid n (bare (p₁ .since)) → p₁ .given ≡ p .given
+      → value p ≡ value p₁ → Run (past n e p₁ .given) es (past n e p₁) p′ → Run (p .given) (e ∷ es) p p′
   next c e es p p₁ p′ h v g f r = record {
-    phase = elementPhase e + r .phase;
+    phase = elementPhase (e .gate) + r .phase;
     valid = r .valid;
     same =
-        ap (λ a. elementsOperator O outcome (p .given) (e ∷ es) ⊠ a) f
-        ∙ O .times-assoc (elementsOperator O outcome (givenAfter e (p .given)) es) (elementOperator O outcome (p .given) e) (value p₁)
-        ∙ ap₂ (λ m a. elementsOperator O outcome m es ⊠ a) (ap (givenAfter e) (sym g) ∙ sym (given-after n e p₁))
-        (ap (λ m. elementOperator O outcome m e ⊠ value p₁) (sym g) ∙ performed c e p₁ h v)
-        ∙ root-past O (elementsOperator O outcome (paperPerform n e p₁ .given) es) (elementPhase e) (value (paperPerform n e p₁))
-        ∙ ap (λ a. rootTo O (elementPhase e) ⊠ a) (r .same) ∙ root-add O (elementPhase e) (r .phase) (value p′);
+        ap (λ a. elementsOperator O outcome (p .given) (bare (e ∷ es)) ⊠ a) f
+        ∙ O .times-assoc (elementsOperator O outcome (givenAfter (e .gate) (p .given)) (bare es)) (elementOperator O outcome (p .given) (e .gate)) (value p₁)
+        ∙ ap₂ (λ m a. elementsOperator O outcome m (bare es) ⊠ a) (ap (givenAfter (e .gate)) (sym g) ∙ sym (given-after n (e .index) (e .part) (e .gate) p₁))
+        (ap (λ m. elementOperator O outcome m (e .gate) ⊠ value p₁) (sym g) ∙ performed c (e .index) (e .part) (e .gate) p₁ h v)
+        ∙ root-past O (elementsOperator O outcome (past n e p₁ .given) (bare es)) (elementPhase (e .gate)) (value (past n e p₁))
+        ∙ ap (λ a. rootTo O (elementPhase (e .gate)) ⊠ a) (r .same) ∙ root-add O (elementPhase (e .gate)) (r .phase) (value p′);
   }
 
-  run-value : (c : ℕ) (cap : Cap) (es : List Elementary) (p : Paper) → AllProper n c es → AllValid n (p .since) → Run (p .given) es p (paperRun flush n cap es p)
+  run-value : (c : ℕ) (cap : Cap) (es : List (Placed Elementary)) (p : Paper) → AllProper n c (bare es) → AllValid n (bare (p .since))
+      → Run (p .given) es p (paperRun flushFrom n cap es p)
   unfolding paperRun paperStep
   run-value c cap [] p h v = record { phase = 0; valid = v; same = refl }
   run-value c cap (e ∷ es) p h v =
-      go (λ p₁ v₁. run-value c cap es (paperPerform n e p₁) (h .1) (still-valid n c e p₁ (h .0) v₁)) (tooHeavy n cap (p .since) e)
+      go (λ p₁ v₁. run-value c cap es (past n e p₁) (h .1) (still-valid n c (e .index) (e .part) (e .gate) p₁ (h .0) v₁)) (tooHeavy n cap (bare (p .since)) (e .gate))
     where
-      go : ((p₁ : Paper) → AllValid n (p₁ .since) → Run (paperPerform n e p₁ .given) es (paperPerform n e p₁) (paperRun flush n cap es (paperPerform n e p₁)))
-          → (b : Bool) → Run (p .given) (e ∷ es) p (paperRun flush n cap es (paperPerform n e (cond b (paperFlushed flush n p) p)))
-      go from true = next c e es p (paperFlushed flush n p) _ (h .0) tt refl (flushed-value p) (from (paperFlushed flush n p) tt)
-      go from false = next c e es p p _ (h .0) v refl refl (from p v)
+      go : ((p₁ : Paper) → AllValid n (bare (p₁ .since)) → Run (past n e p₁ .given) es (past n e p₁) (paperRun flushFrom n cap es (past n e p₁)))
+          → (b : Bool) → Run (p .given) (e ∷ es) p (paperRun flushFrom n cap es (past n e (cond b (paperFlushed flushFrom n p) p)))
+      go rest true = next c e es p (paperFlushed flushFrom n p) _ (h .0) tt refl (flushed-value p) (rest (paperFlushed flushFrom n p) tt)
+      go rest false = next c e es p p _ (h .0) v refl refl (rest p v)
 
 -- ---- the image of a place is U† P U
 
@@ -214,10 +229,10 @@ supported x e₁₅ =
 
 -- the operators of an accepted conversion, with the gates since its last flush
 pub record Ends (x : Input) (O : Operators (x .qubits)) (outcome : ℕ → Bool) : Type 0 where
-  pub valid : AllValid (x .qubits) (paperEnd x .since)
+  pub valid : AllValid (x .qubits) (bare (paperEnd x .since))
   pub phase : ℕ
   pub same : circuitOperator O outcome 0 (records (x .gates))
-      ≡ O .times (rootTo O phase) (O .times (turns O (flush (x .qubits) (paperEnd x .since))) (operationsOperator O outcome (operationsOf (converted x))))
+      ≡ O .times (rootTo O phase) (O .times (turns O (flush (x .qubits) (bare (paperEnd x .since)))) (operationsOperator O outcome (operationsOf (converted x))))
 
 pub ends : (x : Input) → convertCheck limits x ≡ Fine → (O : Operators (x .qubits)) (outcome : ℕ → Bool) → Ends x O outcome
 unfolding paperEnd flush gatesIn lowerAll converted
@@ -226,11 +241,11 @@ ends x e O outcome = record {
   phase = L .phase + R .phase;
   same =
       L .same ∙ ap (λ a. O .times (rootTo O (L .phase)) a) lowered ∙ root-add O (L .phase) (R .phase) _
-      ∙ ap (λ os. O .times (rootTo O (L .phase + R .phase)) (O .times (turns O (flush (x .qubits) (paperEnd x .since))) (operationsOperator O outcome os))) (sym (converts x e .operations));
+      ∙ ap (λ os. O .times (rootTo O (L .phase + R .phase)) (O .times (turns O (flush (x .qubits) (bare (paperEnd x .since)))) (operationsOperator O outcome os))) (sym (ap (λ os. withoutIndex os) (converts x e .operations)));
 }
   where
-    R : Run O outcome 0 (bare (gatesIn x)) paperBegin (paperEnd x)
-    R = run-value O outcome (x .cbits) (x .cap) (bare (gatesIn x)) paperBegin (accepted limits x e .proper) tt
+    R : Run O outcome 0 (gatesIn x) paperBegin (paperEnd x)
+    R = run-value O outcome (x .cbits) (x .cap) (gatesIn x) paperBegin (accepted limits x e .proper) tt
 
     start-value : value O outcome paperBegin ≡ O .one
     start-value = O .one-left (O .one)
@@ -239,7 +254,7 @@ ends x e O outcome = record {
     L = lowers O outcome (x .cbits) 0 0 (records (x .gates)) (supported x e) (accepted limits x e .proper)
 
     lowered : elementsOperator O outcome 0 (bare (gatesIn x))
-        ≡ O .times (rootTo O (R .phase)) (O .times (turns O (flush (x .qubits) (paperEnd x .since))) (operationsOperator O outcome (paperEnd x .operations)))
+        ≡ O .times (rootTo O (R .phase)) (O .times (turns O (flush (x .qubits) (bare (paperEnd x .since)))) (operationsOperator O outcome (withoutIndex (paperEnd x .operations))))
     lowered = sym (O .one-right _) ∙ ap (λ a. O .times (elementsOperator O outcome 0 (bare (gatesIn x))) a) (sym start-value) ∙ R .same
 
 pub whole : (x : Input) → convertCheck limits x ≡ Fine → (O : Operators (x .qubits)) (outcome : ℕ → Bool) → Whole x O outcome
@@ -259,7 +274,7 @@ whole x e O outcome = record {
     n = x .qubits
 
     gs : List Gate
-    gs = paperEnd x .since
+    gs = bare (paperEnd x .since)
 
     E : Ends x O outcome
     E = ends x e O outcome

@@ -4,48 +4,51 @@ use mathlib.Core.Bool.{Bool}
 use mathlib.Core.List.{List, [], _∷_, _++_, map, append-nil, append-assoc}
 use Prim.Native.Nat.{ℕ}
 use lib.ListN.{length}
-use Rattle.arena.specs.Expansion.{opAt}
-use Rattle.convert.specs.Plain.{plainBegin}
-use Rattle.convert.specs.Words.{startWords, decoded, opsFrom}
-use Rattle.convert.specs.Conversion.{Input, limits, gatesIn, wordEnd, convertCheck, convertedHeader, convertStep}
+use Rattle.arena.specs.Limits.{handMark}
+use Rattle.convert.specs.Records.{from, withoutIndex}
+use Rattle.convert.specs.Words.{decoded, opFrom, opsFrom}
+use Rattle.convert.specs.Conversion.{Input, limits, wordEnd, convertCheck, convertedHeader, convertStep}
 use Rattle.convert.specs.Later.{Circuit, converted, LaterCall, later, laters, AllCarried}
-use Rattle.convert.proofs.meaning.Words.{OpsUnder}
-use Rattle.convert.proofs.meaning.Operations.{AllFour, four-run, ops-read}
+use Rattle.convert.proofs.meaning.Words.{map-append, without-more, OpsUnder}
+use Rattle.convert.proofs.meaning.Operations.{ops-read}
 use Rattle.convert.proofs.calls.Table.{made-step, meant-input}
+use Rattle.convert.proofs.calls.Converted.{sized-words}
 use Rattle.operators.specs.Types.{Fine}
 use Rattle.operators.specs.Operators.{Operators}
-use Rattle.operators.specs.Whole.{operationsOf, Performs}
-use Rattle.operators.specs.After.{pushedBy, pushed, circuitAndCalls, AfterWords}
+use Rattle.operators.specs.Whole.{sourcedOf, operationsOf, Performs}
+use Rattle.operators.specs.After.{pushedBy, pushed, byHand, circuitAndCalls, AfterWords}
 use Rattle.operators.proofs.After.{after}
 use Rattle.operators.proofs.Reading.{Names}
 use Rattle.operators.proofs.Calls.{Reads, call-reads}
 
 -- any calls
-read-calls : (cs : List LaterCall) (s : Circuit) → AllCarried cs s → Names s → operationsOf (laters cs s) ≡ operationsOf s ++ pushed cs s
+read-calls : (cs : List LaterCall) (s : Circuit) → AllCarried cs s → Names s → sourcedOf (laters cs s) ≡ sourcedOf s ++ byHand (pushed cs s)
 unfolding laters AllCarried pushed
-read-calls [] s h U = sym (append-nil (operationsOf s))
+read-calls [] s h U = sym (append-nil (sourcedOf s))
 read-calls (c ∷ cs) s h U =
-    read-calls cs (later c s) (h .1) (R .names) ∙ ap (λ os. os ++ pushed cs (later c s)) (R .reads) ∙ append-assoc (operationsOf s) (pushedBy c s) (pushed cs (later c s))
+    read-calls cs (later c s) (h .1) (R .names) ∙ ap (λ os. os ++ byHand (pushed cs (later c s))) (R .reads) ∙ append-assoc (sourcedOf s) (byHand (pushedBy c s)) (byHand (pushed cs (later c s)))
+    ∙ ap (λ os. sourcedOf s ++ os) (sym (map-append (from handMark) (pushedBy c s) (pushed cs (later c s))))
   where
     R : Reads s (later c s) (pushedBy c s)
     R = call-reads s U c (h .0)
 
 -- ---- after a conversion
 
-fours : (x : Input) → AllFour (wordEnd x .ops)
-unfolding wordEnd startWords
-fours x = four-run (x .qubits) (x .cap) (gatesIn x) (plainBegin (x .qubits)) (startWords (x .qubits)) tt
-
 names-input : (x : Input) → convertCheck limits x ≡ Fine → Names (converted x)
 unfolding converted
 names-input x e = subst (OpsUnder (wordEnd x .arena .count)) (sym read) (meant-input x e .core .written .below)
   where
-    read : opsFrom (opAt (convertedHeader x) (convertStep x .operations)) 0 (length (wordEnd x .ops)) ≡ map (decoded (x .owner) (x .cbits)) (wordEnd x .ops)
-    read = ap (λ w. opsFrom (opAt (convertedHeader x) w) 0 (length (wordEnd x .ops))) (ap (λ r. r .operations) (made-step x e)) ∙ ops-read (convertedHeader x) (wordEnd x .ops) _ (fours x)
+    read : opsFrom (opFrom (convertedHeader x) (convertStep x .operations)) 0 (length (wordEnd x .ops)) ≡ map (decoded (x .owner) (x .cbits)) (wordEnd x .ops)
+    read = ap (λ w. opsFrom (opFrom (convertedHeader x) w) 0 (length (wordEnd x .ops))) (ap (λ r. r .operations) (made-step x e)) ∙ ops-read (convertedHeader x) (wordEnd x .ops) _ (sized-words x)
+
+-- with the gate record that each names: none for those pushed, which are by hand
+pub sources-after : (x : Input) → convertCheck limits x ≡ Fine → (cs : List LaterCall) → AllCarried cs (converted x)
+    → sourcedOf (laters cs (converted x)) ≡ sourcedOf (converted x) ++ byHand (pushed cs (converted x))
+sources-after x e cs h = read-calls cs (converted x) h (names-input x e)
 
 pub read-after : (x : Input) → convertCheck limits x ≡ Fine → (cs : List LaterCall) → AllCarried cs (converted x)
     → operationsOf (laters cs (converted x)) ≡ operationsOf (converted x) ++ pushed cs (converted x)
-read-after x e cs h = read-calls cs (converted x) h (names-input x e)
+read-after x e cs h = ap (λ os. withoutIndex os) (sources-after x e cs h) ∙ without-more (sourcedOf (converted x)) handMark (pushed cs (converted x))
 
 pub after-words : (x : Input) → convertCheck limits x ≡ Fine → (cs : List LaterCall) → AllCarried cs (converted x) → (O : Operators (x .qubits)) (outcome : ℕ → Bool) → AfterWords x cs O outcome
 after-words x e cs h O outcome =

@@ -5,9 +5,10 @@ use Prim.Native.Nat.{ℕ}
 use Rattle.pauli.specs.Angle.{eighthsOf}
 use Rattle.pauli.specs.Rows.{Row}
 use Rattle.pauli.specs.Gates.{Gate, forward}
+use Rattle.arena.specs.Limits.{handMark}
 use Rattle.arena.specs.Nodes.{image}
 use Rattle.arena.specs.Builder.{rotateStep, measureStep, conditionalStep}
-use Rattle.convert.specs.Records.{records}
+use Rattle.convert.specs.Records.{records, bare, From, from}
 use Rattle.convert.specs.Plain.{Operation, rotateBy, measureOf, conditionalBy, malformed}
 use Rattle.convert.specs.Frame.{cliffordStep}
 use Rattle.convert.specs.Conversion.{Input, paperEnd}
@@ -42,6 +43,10 @@ unfoldable pub pushed : List LaterCall → Circuit → List Operation
 pushed [] s = []
 pushed (c ∷ cs) s = pushedBy c s ++ pushed cs (later c s)
 
+-- operations that name no gate record, since they are added by hand (document 02, E2)
+abbrev pub byHand : List Operation → List (From Operation)
+byHand os = map (from handMark) os
+
 -- an operation at the circuit's end, after the frame gates gs = U: along U P U†. Of the image of a frame place that is the place's own X or Z.
 abbrev pub atEnd : List Gate → Operation → Operation
 atEnd gs (rotateBy k P) = rotateBy k (forward gs P)
@@ -71,7 +76,7 @@ afterOperator O outcome gs (c ∷ cs) s = O .times (afterOperator O outcome (gs 
 
 -- the circuit and then the calls
 abbrev pub circuitAndCalls : (x : Input) (O : Operators (x .qubits)) → (ℕ → Bool) → List LaterCall → O .Op
-circuitAndCalls x O outcome cs = O .times (afterOperator O outcome (paperEnd x .since) cs (converted x)) (circuitOperator O outcome 0 (records (x .gates)))
+circuitAndCalls x O outcome cs = O .times (afterOperator O outcome (bare (paperEnd x .since)) cs (converted x)) (circuitOperator O outcome 0 (records (x .gates)))
 
 -- they are the conversion's operations, then those that the calls pushed, then the frame as the calls leave it
 abbrev pub After : (x : Input) → List LaterCall → Operators (x .qubits) → (ℕ → Bool) → Type 0

@@ -7,7 +7,7 @@ use lib.ListN.{getD}
 use Rattle.pauli.specs.Rows.{identity}
 use Rattle.pauli.specs.Gates.{Gate, AllValid}
 use Rattle.pauli.specs.Table.{start}
-use Rattle.convert.specs.Records.{records}
+use Rattle.convert.specs.Records.{records, From, withoutIndex}
 use Rattle.convert.specs.Plain.{Operation, rotateBy, measureOf, conditionalBy, malformed}
 use Rattle.convert.specs.Words.{operationsIn}
 use Rattle.convert.specs.Conversion.{Input}
@@ -16,9 +16,13 @@ use Rattle.convert.specs.Statement.{frameImages}
 use Rattle.operators.specs.Operators.{Operators, rootTo, turn}
 use Rattle.operators.specs.Textbook.{seen, circuitOperator, gatesOperator}
 
--- the used operations of a circuit, read from its words
+-- the used operations of a circuit, read from its words, with the gate record that each names
+abbrev pub sourcedOf : Circuit → List (From Operation)
+sourcedOf s = operationsIn (s .header) (s .nodes) (s .operations)
+
+-- and without
 abbrev pub operationsOf : Circuit → List Operation
-operationsOf s = operationsIn (s .header) (s .nodes) (s .operations)
+operationsOf s = withoutIndex (sourcedOf s)
 
 -- words that are no operation are the operator 0
 abbrev pub operationOperator : {n : ℕ} (O : Operators n) → (ℕ → Bool) → Operation → O .Op

@@ -10,7 +10,7 @@ pub use Rattle.pbc.specs.declared.buffers.Lends.{Lends}
 abbrev pub allLends : Lends
 allLends = record {
   nodes = 131080;
-  operations = 262160;
+  operations = 327700;
   frame = 512;
   planes = 4096;
   scratch = 262144;

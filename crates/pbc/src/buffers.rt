@@ -10,7 +10,7 @@ ghost use Rattle.pbc.specs.Buffers.{allLends, lendsOf, lendsExceed, part
 /// u32 words.
 pub const NODES: usize = 131080;
 
-pub const OPERATIONS: usize = 262160;
+pub const OPERATIONS: usize = 327700;
 
 pub const FRAME: usize = 512;
 /// u64 words.
@@ -22,7 +22,7 @@ pub const POOL: usize = 196620;
 /// Bytes.
 pub const LETTERS: usize = 256;
 /// The numbers of a line that are kept: those of the longest `store`, and some more.
-pub const LINE_WORDS: usize = 400000;
+pub const LINE_WORDS: usize = 460000;
 /// Bytes that are read, or written, at a time.
 pub const CHUNK: usize = 65536;
 

@@ -1,4 +1,5 @@
-//! Runs the readers on circuits C, D, F, I and L of document 01, at each edge and one past it, and prints the answers.
+//! Runs the readers on circuits C, D, F, I and L of document 01, and on operations of each origin (E2 of document 02), at each edge and one past it,
+//! and prints the answers.
 //! crates/walks/stdout holds what it must print. After each answer stand the letters, and how many words of scratch and pool are zero from the front on:
 //! all are filled with 7 first.
 
@@ -285,10 +286,33 @@ fn circuit_f(h: Header, nodes: &[u32], operations: &[u32]) {
     );
 }
 
-fn first_operation(label: &[u8], h: Header, nodes: &[u32], operations: &[u32]) {
+fn report(label: &[u8], h: Header, nodes: &[u32], operations: &[u32]) {
     let mut seven = [7u32; 22];
     let mut scratch = [7u32; 45];
     weights(label, h, nodes, operations, &mut scratch, 34, &mut seven);
+}
+
+// One rotation along Z, whose last word says that it came from this gate record.
+fn source(label: &[u8], h: Header, nodes: &[u32], gate: u32) {
+    let mut operations = [7u32; 5];
+    let one = rotate(h, &mut operations, 8, 1);
+    operations[4] = gate;
+    report(label, one, nodes, &operations);
+}
+
+fn sources(h: Header, nodes: &[u32]) {
+    source(b"from gate 65535", h, nodes, 65535);
+    source(b"from gate 65536", h, nodes, 65536);
+    source(b"from one below the mark", h, nodes, 4294967294);
+    source(b"from the mark", h, nodes, 4294967295);
+}
+
+// Seven operations of zeros, five words each: rotations by nothing along I.
+fn seven_operations(h: Header, nodes: &[u32]) {
+    let enough = [0u32; 35];
+    let short = [0u32; 34];
+    report(b"seven in 35 words", h, nodes, &enough);
+    report(b"seven in 34 words", h, nodes, &short);
 }
 
 // ---- what they run on
@@ -300,6 +324,7 @@ fn one_qubit() {
     let h = product(start(1, &mut nodes, &mut frame), &mut nodes, 4, 8);
     circuit_c(h, &nodes);
     circuit_l(h, &nodes);
+    sources(h, &nodes);
 }
 
 // cnot 0 1, t 1 on two qubits.
@@ -343,16 +368,17 @@ fn ccx_operations(h: Header, operations: &mut [u32]) -> Header {
 fn three_qubits() {
     let mut nodes = [7u32; 22];
     let mut frame = [7u32; 6];
-    let mut operations = [7u32; 28];
+    let mut operations = [7u32; 35];
     let three = pairs(start(3, &mut nodes, &mut frame), &mut nodes);
     let empty = product(three, &mut nodes, 28, 20);
     no_operations(empty, &nodes);
     let h = ccx_operations(empty, &mut operations);
     circuit_f(h, &nodes, &operations);
     operations[0] = 8;
-    first_operation(b"F, one angle even", h, &nodes, &operations);
+    report(b"F, one angle even", h, &nodes, &operations);
     operations[0] = 3;
-    first_operation(b"F, a malformed operation", h, &nodes, &operations);
+    report(b"F, a malformed operation", h, &nodes, &operations);
+    seven_operations(h, &nodes);
 }
 
 fn main() {
