@@ -93,9 +93,7 @@ fn operation_words(op: &PbcOp) -> [u32; 4] {
     match *op {
         PbcOp::Rotate { axis, angle } => [4 * angle.eighths() as u32, word(axis.as_ref()), 0, 0],
         PbcOp::Measure { axis, outcome, target } => [1, word(axis.as_ref()), outcome.index() as u32, target.map_or(0, |b| b + 1)],
-        PbcOp::ConditionalRotate { axis, angle, if_one } => {
-            [2 + 4 * angle.eighths() as u32, word(axis.as_ref()), if_one.index() as u32, 0]
-        }
+        PbcOp::ConditionalRotate { axis, angle, if_one } => [2 + 4 * angle.eighths() as u32, word(axis.as_ref()), if_one.index() as u32, 0],
     }
 }
 
