@@ -61,6 +61,9 @@ fn keep_pages() {
     }
 }
 
+/// The library has so many words an operation; the Rust has what the first four say.
+const OPERATION_WORDS: usize = 5;
+
 struct Buffers {
     nodes: Vec<u32>,
     operations: Vec<u32>,
@@ -77,7 +80,7 @@ impl Buffers {
     fn new() -> Self {
         Self {
             nodes: vec![0; 131072],
-            operations: vec![0; 262144],
+            operations: vec![0; OPERATION_WORDS * 65_536],
             frame: vec![0; 512],
             planes: vec![0; 4096],
             scratch: Vec::new(),
@@ -113,7 +116,7 @@ impl Buffers {
     fn expand_all(&mut self) -> u32 {
         let mut refused = 0;
         for k in 0..self.header[4] as usize {
-            let word = self.operations[4 * k + 1];
+            let word = self.operations[OPERATION_WORDS * k + 1];
             let number = unsafe {
                 pbc_expand(
                     self.header.as_mut_ptr(), 6, self.nodes.as_ptr(), self.nodes.len(), self.letters.as_mut_ptr(), self.letters.len(),
@@ -266,23 +269,23 @@ fn agree(b: &mut Buffers, w: &Workload) -> bool {
         return false;
     }
     let (c, cap) = rust_circuit(w);
-    let text = driver::dump(&to_pbc(&c, cap).unwrap());
-    let [n, cbits, _, nodes, operations, measurements] = b.header.map(|x| x as usize);
-    let mut ours = format!("ok {n} {cbits} {measurements}");
-    for list in [&b.nodes[..2 * nodes], &b.operations[..4 * operations], &b.frame[..2 * n]] {
-        ours.push_str(&format!(" {}", list.len()));
-        for x in list {
-            ours.push_str(&format!(" {x}"));
-        }
-    }
-    assert!(ours == text, "{} cap {:?}: the words differ", w.name, w.cap);
+    let rust = to_pbc(&c, cap).unwrap();
+    let [nodes, operations, frame] = used(b);
+    let four: Vec<u32> = operations.chunks(OPERATION_WORDS).flat_map(|words| &words[..4]).copied().collect();
+    let same = driver::words(&rust) == [nodes.to_vec(), four, frame.to_vec()] && rust.measurement_count() as u64 == b.header[5];
+    assert!(same, "{} cap {:?}: the words differ", w.name, w.cap);
     true
+}
+
+/// The words in use of nodes, operations and frame.
+fn used(b: &Buffers) -> [&[u32]; 3] {
+    let [n, _, _, nodes, operations, _] = b.header.map(|x| x as usize);
+    [&b.nodes[..2 * nodes], &b.operations[..OPERATION_WORDS * operations], &b.frame[..2 * n]]
 }
 
 /// One copy of the words that the conversion wrote.
 fn copied(b: &Buffers) -> f64 {
-    let [n, _, _, nodes, operations, _] = b.header.map(|x| x as usize);
-    let words: Vec<u32> = [&b.nodes[..2 * nodes], &b.operations[..4 * operations], &b.frame[..2 * n]].concat();
+    let words = used(b).concat();
     let mut to = vec![0u32; words.len()];
     best(|| timed(|| black_box(&mut to).copy_from_slice(black_box(&words))).0)
 }

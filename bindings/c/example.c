@@ -1,5 +1,5 @@
-/* Converts a 2-bit ripple-carry adder (Cuccaro, Draper, Kutin and Moulton) with measured sums, and prints each operation with the letters
- * of its axis. Exits with 1 where a call answers something else than expected. */
+/* Converts a 2-bit ripple-carry adder (Cuccaro, Draper, Kutin and Moulton) with measured sums, and prints each operation with its gate and
+ * the letters of its axis. Exits with 1 where a call answers something else than expected. */
 #include "pbc.h"
 
 #include <stdio.h>
@@ -47,6 +47,10 @@ static void print_operation(const uint32_t *op)
     static const char *const kinds[] = {"rotate", "measure", "conditional"}, *const phases[] = {"+", "+i", "-", "-i"};
     uint8_t letters[QUBITS];
     expect("expand", expand(op[1], letters, LIMIT), 0);
+    if (op[4] == PBC_HAND)
+        printf("by hand: ");
+    else
+        printf("gate %u: ", op[4]);
     printf("%s %u %s", kinds[op[0] % 4], op[0] / 4, phases[answer[0]]);
     for (int q = 0; q < QUBITS; q++)
         putchar("IXYZ"[letters[q]]);

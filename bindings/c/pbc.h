@@ -36,7 +36,7 @@ extern "C" {
 #define PBC_ANSWER_WORDS 4
 #define PBC_GATE_WORDS 4      /* u32: kind (enum pbc_gate), then operands, then zeros */
 #define PBC_NODE_WORDS 2      /* u32: identity (0, 0); single (1 + 4 * letter, qubit); product (2 + 4 * left word, right word) */
-#define PBC_OPERATION_WORDS 4 /* u32: kind (enum pbc_op) + 4 * angle, axis word, measurement, bit + 1 */
+#define PBC_OPERATION_WORDS 5 /* u32: kind (enum pbc_op) + 4 * angle, axis word, measurement, bit + 1, gate or PBC_HAND */
 #define PBC_RECORD_WORDS 3    /* u32: of the pool */
 
 /* Limits. */
@@ -68,6 +68,8 @@ extern "C" {
 /* No cap, for pbc_convert; no bit, for pbc_measure. */
 #define PBC_NO_CAP UINT64_MAX
 #define PBC_NO_TARGET 0
+/* The fifth word of an operation that was added by hand; of a converted one it is the index of its gate in the list, below PBC_MAX_GATES. */
+#define PBC_HAND UINT32_MAX
 
 /* Places in a header. */
 enum { PBC_QUBITS, PBC_CBITS, PBC_OWNER, PBC_NODES, PBC_OPERATIONS, PBC_MEASUREMENTS };
@@ -175,7 +177,8 @@ uint32_t pbc_single(uint64_t *header, size_t header_len, uint32_t *nodes, size_t
 uint32_t pbc_product(uint64_t *header, size_t header_len, uint32_t *nodes, size_t nodes_len, uint64_t left_owner, uint32_t left,
                      uint64_t right_owner, uint32_t right, uint64_t *answer, size_t answer_len);
 
-/* One more rotation along a handle, which should have the sign +1 or -1 (pbc_hermitian_axis tells). No value. Refuses with 3, 4, 15. */
+/* One more rotation along a handle, which should have the sign +1 or -1 (pbc_hermitian_axis tells). It is marked PBC_HAND, as what the two calls
+ * below add is. No value. Refuses with 3, 4, 15. */
 uint32_t pbc_rotate(uint64_t *header, size_t header_len, uint32_t *operations, size_t operations_len, uint64_t owner, uint32_t word, int64_t angle,
                     uint64_t *answer, size_t answer_len);
 
@@ -204,7 +207,7 @@ uint32_t pbc_hermitian_axis(const uint64_t *header, size_t header_len, const uin
                             size_t answer_len);
 
 /* The largest weights of axes. Values: non-Clifford (odd angles and measurements), Clifford (even angles, 0 too), work.
- * Refuses with 3, 16, 17, 18. */
+ * Refuses with 3 (also for an operation whose fifth word is neither below PBC_MAX_GATES nor PBC_HAND), 16, 17, 18. */
 uint32_t pbc_max_axis_weights(const uint64_t *header, size_t header_len, const uint32_t *nodes, size_t nodes_len, const uint32_t *operations,
                               size_t operations_len, uint32_t *scratch, size_t scratch_len, uint32_t *pool, size_t pool_len, uint64_t limit,
                               uint64_t *answer, size_t answer_len);
@@ -217,7 +220,9 @@ uint32_t pbc_push_output_clifford(uint64_t *header, size_t header_len, uint32_t 
 
 /* The circuit of a gate list. A cap over 4294967295 is none. Under a cap no axis of an odd angle or of a measurement has more letters other than
  * I: pending Clifford gates are written as rotations before one would, and those have at most two letters, whatever the cap. The planes then need
- * PBC_PLANE_WORDS(qubits) words, and hold the frame's letters afterwards; without a cap they need none. No value; writes the header.
+ * PBC_PLANE_WORDS(qubits) words, and hold the frame's letters afterwards; without a cap they need none.
+ * The fifth word of each operation is the index of the gate that it came from; a rotation that stands for a pending gate names that gate.
+ * No value; writes the header.
  * Refuses with 1, 2, 5, 7, 8, 9, 11, 12, 13, 14, 15. */
 uint32_t pbc_convert(uint32_t qubits, uint32_t cbits, uint64_t owner, uint64_t cap, const uint32_t *gates, size_t gates_len, uint32_t *nodes,
                      size_t nodes_len, uint32_t *operations, size_t operations_len, uint32_t *frame, size_t frame_len, uint64_t *planes,

@@ -1,4 +1,5 @@
-/* Tests of what pbc.h says beside the calls' own answers: sizes that suffice, names, null pointers, targets past 32 bits, caps, threads.
+/* Tests of what pbc.h says beside the calls' own answers: sizes that suffice, names, null pointers, targets past 32 bits, caps, the gates of
+ * operations, threads.
  * Exits with 1 at the first call that answers something else than expected. */
 #include "pbc.h"
 
@@ -138,6 +139,43 @@ static void targets_past_32_bits(void)
     expect("its number", answer[0], 1);
 }
 
+/* Every gate is flushed by the measurement under a cap of 1, and its rotations name it; what a gate is lowered to names the gate. */
+static void operations_name_their_gates(void)
+{
+    static const uint32_t list[] = {PBC_GATE_H,  0, 0, 0, PBC_GATE_Y,    0, 0, 0, PBC_GATE_SX, 0, 0, 0, PBC_GATE_SWAP,    0, 1, 0,
+                                    PBC_GATE_CY, 0, 1, 0, PBC_GATE_CNOT, 2, 3, 0, PBC_GATE_T,  2, 0, 0, PBC_GATE_MEASURE, 3, 0, 0};
+    static const uint64_t written[] = {3, 2, 7, 9, 5, 3, 0, 1};
+    memcpy(gates, list, sizeof list);
+    expect("convert", convert(1, LENGTH(written)), PBC_ACCEPTED);
+    uint64_t seen[LENGTH(written)] = {0};
+    /* The t stands before the flush. */
+    expect("the gate of the t", operations[4], 6);
+    for (uint64_t i = 1, last = 0; i < header[PBC_OPERATIONS]; i++) {
+        uint32_t gate = operations[PBC_OPERATION_WORDS * i + 4];
+        expect("in order", gate >= last && gate < LENGTH(written), 1);
+        last = gate;
+        seen[gate]++;
+    }
+    for (size_t i = 0; i < LENGTH(written); i++)
+        expect("operations of a gate", seen[i], written[i]);
+}
+
+/* Operations that are added carry the mark, and a report refuses any other word that is no index. */
+static void hand_is_marked(void)
+{
+    static const uint32_t words[] = {0, PBC_MAX_GATES - 1, PBC_MAX_GATES, PBC_HAND - 1, PBC_HAND};
+    new_circuit(1, 1);
+    expect("rotate", pbc_rotate(LENT(header), LENT(operations), OWNER, 4, 1, LENT(answer)), PBC_ACCEPTED);
+    expect("measure", pbc_measure(LENT(header), LENT(operations), OWNER, 8, 1, LENT(answer)), PBC_ACCEPTED);
+    expect("conditional", pbc_conditional_rotate(LENT(header), LENT(operations), OWNER, 4, 4, OWNER, 0, LENT(answer)), PBC_ACCEPTED);
+    for (size_t i = 0; i < 3; i++)
+        expect("the mark", operations[PBC_OPERATION_WORDS * i + 4], PBC_HAND);
+    for (size_t i = 0; i < LENGTH(words); i++) {
+        operations[PBC_OPERATION_WORDS + 4] = words[i];
+        expect("weights", weights(), i == 2 || i == 3 ? PBC_BAD_STORE : PBC_ACCEPTED);
+    }
+}
+
 /* Null slices, alone and together, are answered as empty ones. */
 static void null_is_empty(void)
 {
@@ -226,6 +264,8 @@ int main(void)
     less_does_not_suffice();
     caps_hold_for_odd_angles();
     targets_past_32_bits();
+    operations_name_their_gates();
+    hand_is_marked();
     null_is_empty();
     names();
     threads_read_one_circuit();

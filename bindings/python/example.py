@@ -1,4 +1,5 @@
-"""Converts a 2-bit ripple-carry adder with measured sums and prints each operation with the letters of its axis, then makes a few calls by hand."""
+"""Converts a 2-bit ripple-carry adder with measured sums and prints each operation with its gate and the letters of its axis, then makes a few
+calls by hand."""
 import pbc
 
 # Qubit 0 is the carry in, then b_0, a_0, b_1, a_1, and the carry out.
@@ -10,8 +11,9 @@ ADDER = [
 
 def show(circuit):
     for operation in circuit.operations:
+        source = "by hand" if operation.gate is None else f"gate {operation.gate}"
         into = "" if operation.target is None else f" into {operation.target}"
-        print(operation.kind, operation.angle or 0, f"{circuit.expand(operation.axis, 100000)}{into}")
+        print(f"{source}:", operation.kind, operation.angle or 0, f"{circuit.expand(operation.axis, 100000)}{into}")
 
 
 circuit = pbc.to_pbc(6, 3, ADDER)

@@ -138,6 +138,28 @@ class Gates(unittest.TestCase):
             self.assertEqual(len(pbc.to_pbc(2, 0, gates, max_weight=cap).operations), 1)
 
 
+class Sources(unittest.TestCase):
+    def named(self, *arguments):
+        return [operation.gate for operation in pbc.to_pbc(*arguments).operations]
+
+    def test_operations_name_their_gate(self):
+        gates = [("h", 0), ("t", 0), ("x", 1), ("ccx", 0, 1, 2), ("measure", 2, 0)]
+        self.assertEqual(self.named(3, 1, gates), [1] + 7 * [3] + [4])
+
+    def test_a_flush_names_its_own_gates(self):
+        # What is lowered too; the t, whose axis is light, stands before the gates that were pending then, and names itself.
+        gates = [("h", 0), ("y", 0), ("sx", 0), ("swap", 0, 1), ("cy", 0, 1), ("cnot", 2, 3), ("t", 2), ("measure", 3, 0), ("tdg", 1)]
+        flushed = 3 * [0] + 2 * [1] + 7 * [2] + 9 * [3] + 5 * [4] + 3 * [5]
+        self.assertEqual(self.named(4, 1, gates, 1), [6] + flushed + [7, 8])
+
+    def test_by_hand_there_is_no_gate(self):
+        circuit = pbc.to_pbc(1, 1, [("t", 0)])
+        z = circuit.single(0, pbc.Z)
+        circuit.rotate(z, 1)
+        circuit.conditional_rotate(z, 4, circuit.measure(z, 0))
+        self.assertEqual([operation.gate for operation in circuit.operations], [0, None, None, None])
+
+
 class Rooms(unittest.TestCase):
     def converted(self, *arguments):
         """A conversion, and how many calls it took."""
@@ -152,7 +174,7 @@ class Rooms(unittest.TestCase):
         for cap in (None, 3, 8):
             circuit, calls = self.converted(16, 1, random_gates(2, 16, 3000), cap)
             self.assertEqual(calls, 1)
-            self.assertEqual((len(circuit._nodes), len(circuit._operations)), (2 * circuit._header[3], 4 * circuit._header[4]))
+            self.assertEqual((len(circuit._nodes), len(circuit._operations)), (2 * circuit._header[3], 5 * circuit._header[4]))
 
     def test_without_a_cap_the_rooms_are_exact(self):
         for name in NAMES:
@@ -177,7 +199,8 @@ class Rooms(unittest.TestCase):
                 pbc.to_pbc(2, 0, gates)
             self.assertEqual(raised.exception.name, name)
         gates = [("h", 0), ("t", 0)] * 32768
-        self.assertEqual(len(pbc.to_pbc(2, 0, gates).operations), 32768)
+        operations = pbc.to_pbc(2, 0, gates).operations
+        self.assertEqual((len(operations), operations[-1].gate), (32768, 65535))
 
     def test_a_circuit_grows_after_a_conversion(self):
         circuit = pbc.to_pbc(2, 1, [("t", 0)])

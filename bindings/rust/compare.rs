@@ -3,6 +3,7 @@
 //! how many of each kind.
 //!
 //! Not made are those inputs for which docs/DIFFERENCES.md lists another answer: sizes past the limits, and ccx and ccz under a cap below 3.
+//! The gate that an operation came from is the crate's alone: the other words are compared, and what was converted has a gate, what was added none.
 //! tools/beside/build puts this file among the Rust's.
 #![allow(dead_code, unused_imports, unused_variables)]
 
@@ -52,11 +53,12 @@ struct Handles {
     outcomes: Vec<Outcome>,
 }
 
-/// One circuit in both, with its handles.
+/// One circuit in both, with its handles and the number of operations that it began with.
 struct Both {
     rust: pbc::PbcCircuit,
     ours: bound::PbcCircuit,
     handles: Handles,
+    converted: usize,
 }
 
 struct Comparison {
@@ -159,7 +161,8 @@ fn same_expansion(rust: &pbc::ExpandedPauli, ours: &bound::ExpandedPauli) -> boo
 
 impl Both {
     fn of(rust: pbc::PbcCircuit, ours: bound::PbcCircuit) -> Self {
-        let mut both = Self { rust, ours, handles: Handles::default() };
+        let converted = rust.operations().len();
+        let mut both = Self { rust, ours, handles: Handles::default(), converted };
         both.check_words();
         let (mut axes, mut references) = (both.operation_axes(), both.frame());
         axes.push((both.rust.identity(), both.ours.identity()));
@@ -177,6 +180,7 @@ impl Both {
         assert!(rust.pauli_nodes().iter().zip(ours.pauli_nodes()).all(|(a, b)| same_node(a, &b)), "the nodes differ");
         assert_eq!(rust.operations().len(), ours.operations().len());
         assert!(rust.operations().iter().zip(ours.operations()).all(|(a, b)| same_operation(a, &b)), "the operations differ");
+        assert!(ours.operations().enumerate().all(|(i, op)| op.gate().is_some() == (i < self.converted)), "a gate is missing, or one too many");
         assert_eq!(rust.output_frame().len(), ours.output_frame().len());
         assert!(self.frame().iter().all(|&(a, b)| same_reference(a, b)), "the frames differ");
     }

@@ -1,12 +1,18 @@
-//! Commands to answers. What the Rust does not carry (the operands of refusals 6 and 8) is answered `?`.
+//! Commands to answers. What the Rust does not carry is answered `?`: the operands of refusals 6 and 8, and the fifth word of a converted operation.
+//! The fifth words of operations that were stored or added by hand are kept beside the Rust's circuit, which has four.
 use crate::circuit::{Circuit, Gate, GateKind};
 use crate::pbc::{AxisKind, Pauli, PauliAngle, PauliNode, PauliRef, PbcCircuit, PbcError, PbcOp, Phase, to_pbc};
 use std::fmt::Write as _;
 use std::io::{BufRead, Write};
 use std::num::NonZeroUsize;
 
-pub fn word(r: PauliRef) -> u64 {
-    4 * r.node_index() as u64 + r.phase() as u64
+/// The fifth word of an operation that was added by hand.
+pub const HAND: u32 = u32::MAX;
+/// Gate indices are below this.
+const MAX_GATES: u32 = 65_536;
+
+pub fn word(r: PauliRef) -> u32 {
+    4 * r.node_index() as u32 + r.phase() as u32
 }
 
 /// A gate of these kinds, by number; None for a number that the Rust does not have.
@@ -74,36 +80,40 @@ pub fn circuit(n: usize, cbits: usize, words: &[u32]) -> (Circuit, Option<(usize
     (circuit, None)
 }
 
-pub fn dump(c: &PbcCircuit) -> String {
-    let mut nodes = Vec::new();
-    for node in c.pauli_nodes() {
-        match *node {
-            PauliNode::Identity => nodes.extend([0, 0]),
-            PauliNode::Single { qubit, pauli } => nodes.extend([1 + 4 * pauli as u64, qubit as u64]),
-            PauliNode::Product(l, r) => nodes.extend([2 + 4 * word(l), word(r)]),
-        }
+fn node_words(node: &PauliNode) -> [u32; 2] {
+    match *node {
+        PauliNode::Identity => [0, 0],
+        PauliNode::Single { qubit, pauli } => [1 + 4 * pauli as u32, qubit],
+        PauliNode::Product(l, r) => [2 + 4 * word(l), word(r)],
     }
-    let mut operations = Vec::new();
-    for op in c.operations() {
-        match *op {
-            PbcOp::Rotate { axis, angle } => operations.extend([4 * angle.eighths() as u64, word(axis.as_ref()), 0, 0]),
-            PbcOp::Measure { axis, outcome, target } => {
-                operations.extend([1, word(axis.as_ref()), outcome.index() as u64, target.map_or(0, |b| b as u64 + 1)])
-            }
-            PbcOp::ConditionalRotate { axis, angle, if_one } => {
-                operations.extend([2 + 4 * angle.eighths() as u64, word(axis.as_ref()), if_one.index() as u64, 0])
-            }
-        }
+}
+
+/// The first four words of an operation.
+fn operation_words(op: &PbcOp) -> [u32; 4] {
+    match *op {
+        PbcOp::Rotate { axis, angle } => [4 * angle.eighths() as u32, word(axis.as_ref()), 0, 0],
+        PbcOp::Measure { axis, outcome, target } => [1, word(axis.as_ref()), outcome.index() as u32, target.map_or(0, |b| b + 1)],
+        PbcOp::ConditionalRotate { axis, angle, if_one } => [2 + 4 * angle.eighths() as u32, word(axis.as_ref()), if_one.index() as u32, 0],
     }
-    let frame: Vec<u64> = c.frame_roots().into_iter().map(word).collect();
-    let mut out = format!("ok {} {} {}", c.num_qubits(), c.num_cbits(), c.measurement_count());
-    for list in [&nodes, &operations, &frame] {
-        write!(out, " {}", list.len()).unwrap();
-        for w in list {
-            write!(out, " {w}").unwrap();
-        }
+}
+
+/// Nodes, operations with four words each, and frame.
+pub fn words(c: &PbcCircuit) -> [Vec<u32>; 3] {
+    let nodes = c.pauli_nodes().iter().flat_map(node_words).collect();
+    let operations = c.operations().iter().flat_map(operation_words).collect();
+    [nodes, operations, c.frame_roots().into_iter().map(word).collect()]
+}
+
+fn put(out: &mut String, words: &[u32]) {
+    for w in words {
+        write!(out, " {w}").unwrap();
     }
-    out
+}
+
+/// The first number of a list is how many follow that belong to it; they, and the rest.
+fn counted(numbers: &[u32]) -> Option<(&[u32], &[u32])> {
+    let (&count, rest) = numbers.split_first()?;
+    rest.split_at_checked(count as usize)
 }
 
 fn unsigned(token: &str) -> Option<u32> {
@@ -119,22 +129,87 @@ const LETTERS: [Pauli; 4] = [Pauli::I, Pauli::X, Pauli::Y, Pauli::Z];
 
 pub struct Driver {
     pub circuit: PbcCircuit,
+    /// The fifth word of each operation, if it is known: of those of a conversion it is not.
+    fifths: Vec<Option<u32>>,
 }
 
 impl Driver {
     pub fn new() -> Self {
-        Self { circuit: PbcCircuit::new(0, 0) }
+        Self { circuit: PbcCircuit::new(0, 0), fifths: Vec::new() }
     }
 
     fn handle(&self, f: u32, w: u32) -> PauliRef {
         self.circuit.handle(self.circuit.owner().wrapping_add(f as u64), w)
     }
 
+    fn dump(&self) -> String {
+        let c = &self.circuit;
+        let [nodes, operations, frame] = words(c);
+        let mut out = format!("ok {} {} {} {}", c.num_qubits(), c.num_cbits(), c.measurement_count(), nodes.len());
+        put(&mut out, &nodes);
+        write!(out, " {}", 5 * self.fifths.len()).unwrap();
+        for (four, fifth) in operations.chunks(4).zip(&self.fifths) {
+            put(&mut out, four);
+            match fifth {
+                Some(w) => put(&mut out, &[*w]),
+                None => out.push_str(" ?"),
+            }
+        }
+        write!(out, " {}", frame.len()).unwrap();
+        put(&mut out, &frame);
+        out
+    }
+
+    /// What was added since by hand is marked.
+    fn mark(&mut self) {
+        self.fifths.resize(self.circuit.operations().len(), Some(HAND));
+    }
+
+    /// Sound words as a circuit; the fifth word of an operation may be any.
+    fn store(&mut self, numbers: &[u32]) -> Option<String> {
+        let (&[n, cbits, measurements], lists) = numbers.split_first_chunk()?;
+        let (nodes, rest) = counted(lists)?;
+        let (operations, rest) = counted(rest)?;
+        let (frame, rest) = counted(rest)?;
+        if nodes.len() % 2 != 0 || operations.len() % 5 != 0 || frame.len() != 2 * n as usize || !rest.is_empty() {
+            return None;
+        }
+        let mut c = PbcCircuit::new(n as usize, cbits as usize);
+        let own = |w: u32| c.handle(c.owner(), w);
+        let node = |w: &[u32]| match w[0] % 4 {
+            0 => PauliNode::Identity,
+            1 => PauliNode::Single { qubit: w[1], pauli: LETTERS[w[0] as usize / 4] },
+            _ => PauliNode::Product(own(w[0] / 4), own(w[1])),
+        };
+        let operation = |w: &[u32]| {
+            let (axis, angle, outcome) = (c.axis(own(w[1])), PauliAngle::new(i64::from(w[0] / 4)), c.outcome(c.owner(), w[2] as usize));
+            match w[0] % 4 {
+                0 => PbcOp::Rotate { axis, angle },
+                1 => PbcOp::Measure { axis, outcome, target: w[3].checked_sub(1) },
+                _ => PbcOp::ConditionalRotate { axis, angle, if_one: outcome },
+            }
+        };
+        let nodes = nodes.chunks(2).map(node).collect();
+        let images: Vec<_> = frame.iter().map(|&w| own(w)).collect();
+        let stored = operations.chunks(5).map(operation).collect();
+        c.store(nodes, stored, &images, measurements as usize);
+        self.circuit = c;
+        self.fifths = operations.chunks(5).map(|w| Some(w[4])).collect();
+        Some("ok".into())
+    }
+
+    /// Whether an operation has a fifth word that is no gate's index and not the mark.
+    fn malformed(&self) -> bool {
+        self.fifths.iter().flatten().any(|&w| w >= MAX_GATES && w != HAND)
+    }
+
     /// The answer of one line, or None for a line of spaces.
     pub fn line(&mut self, line: &str) -> Option<String> {
         let tokens: Vec<&str> = line.split(' ').filter(|t| !t.is_empty()).collect();
         let (&name, rest) = tokens.split_first()?;
-        Some(self.command(name, rest).unwrap_or_else(|| "bad".into()))
+        let answer = self.command(name, rest);
+        self.mark();
+        Some(answer.unwrap_or_else(|| "bad".into()))
     }
 
     fn command(&mut self, name: &str, rest: &[&str]) -> Option<String> {
@@ -170,9 +245,11 @@ impl Driver {
         Some(match (name, numbers) {
             ("new", &[n, cbits]) => {
                 self.circuit = PbcCircuit::new(n as usize, cbits as usize);
-                dump(&self.circuit)
+                self.fifths.clear();
+                self.dump()
             }
-            ("dump", []) => dump(c),
+            ("store", numbers) => return self.store(numbers),
+            ("dump", []) => self.dump(),
             ("kinds", []) => {
                 let mut out = String::from("ok");
                 for op in c.operations() {
@@ -224,9 +301,13 @@ impl Driver {
                     Ok(a) => format!("ok {} {}", word(a.as_ref()), self.circuit.work(&[r], usize::MAX).unwrap()),
                 }
             }
-            ("report", &[limit]) => match c.max_axis_weights(limit as usize) {
+            ("report", &[_]) if self.malformed() => "err 3 0 0".into(),
+            ("report", &[limit]) => match self.circuit.max_axis_weights(limit as usize) {
                 Err(e) => refusal(&e, 0),
-                Ok(m) => format!("ok {} {} {}", m.non_clifford, m.clifford, c.work(&c.axes(), usize::MAX).unwrap()),
+                Ok(m) => {
+                    let work = self.circuit.work(&self.circuit.axes(), usize::MAX).unwrap();
+                    format!("ok {} {} {work}", m.non_clifford, m.clifford)
+                }
             },
             ("times", &[a, b]) if a < 4 && b < 4 => {
                 let (p, l) = LETTERS[a as usize].times(LETTERS[b as usize]);
@@ -250,8 +331,9 @@ impl Driver {
             (Err(e), _) => refusal(&e, 0),
             (Ok(_), Some((index, kind))) => format!("err 5 {index} {kind}"),
             (Ok(c), None) => {
+                self.fifths = vec![None; c.operations().len()];
                 self.circuit = c;
-                dump(&self.circuit)
+                self.dump()
             }
         })
     }

@@ -1,5 +1,5 @@
 //! Commands for both sides. The limits of the walks are taken from the Rust: the work that a walk needs, and one less.
-use crate::driver::{Driver, circuit, word};
+use crate::driver::{Driver, HAND, circuit, word};
 use crate::pbc::PauliRef;
 use std::io::Write;
 
@@ -165,8 +165,12 @@ fn cap(random: &mut Random, n: u32) -> Option<u32> {
     }
 }
 
+fn seeded(seed: u64) -> Random {
+    Random(seed.wrapping_mul(0x9e37_79b9_7f4a_7c15) | 1)
+}
+
 pub fn generate(seed: u64, lines: u64) {
-    let mut random = Random(seed.wrapping_mul(0x9e37_79b9_7f4a_7c15) | 1);
+    let mut random = seeded(seed);
     let out = std::io::BufWriter::new(std::io::stdout().lock());
     let mut w = Writer { driver: Driver::new(), out, lines: 0 };
     for a in 0..4 {
@@ -195,6 +199,67 @@ pub fn generate(seed: u64, lines: u64) {
         w.convert(n, cbits, cap, &words);
         w.walks(&mut random);
         for _ in 0..random.below(12) {
+            w.later(&mut random, cbits);
+        }
+        w.say("dump");
+        w.walks(&mut random);
+    }
+}
+
+/// A node at this place: the identity, a letter on a qubit, or a product of nodes before it.
+fn node(random: &mut Random, n: u32, place: u32) -> [u32; 2] {
+    match random.below(10) {
+        1..6 if n > 0 => [1 + 4 * (1 + random.below(3)), random.below(n)],
+        6.. if place > 0 => [2 + 4 * random.below(4 * place), random.below(4 * place)],
+        _ => [0, 0],
+    }
+}
+
+/// Where an operation came from: a gate's index or the mark, or neither where `damaged`.
+fn fifth(random: &mut Random, damaged: bool) -> u32 {
+    match random.below(if damaged { 6 } else { 4 }) {
+        0 => random.below(20),
+        1 => random.below(65_536),
+        2 => 65_535,
+        3 => HAND,
+        4 => 65_536,
+        _ => HAND - 1 - random.below(2) * random.below(HAND - 65_537),
+    }
+}
+
+/// Five words; what kind it is, angle, measurement and bit are sound.
+fn operation(random: &mut Random, nodes: u32, cbits: u32, measurements: u32, damaged: bool) -> [u32; 5] {
+    let (kind, angle, axis) = (random.below(if measurements > 0 { 3 } else { 1 }), random.below(8), random.below(4 * nodes));
+    let (measurement, target) = (random.below(measurements), random.below(cbits + 1));
+    let fifth = fifth(random, damaged);
+    match kind {
+        0 => [4 * angle, axis, 0, 0, fifth],
+        1 => [1, axis, measurement, target, fifth],
+        _ => [2 + 4 * angle, axis, measurement, 0, fifth],
+    }
+}
+
+/// Circuits as their words, made by no call, with later calls and walks. One in four has fifth words that a report refuses.
+pub fn stores(seed: u64, lines: u64) {
+    let mut random = seeded(seed);
+    let out = std::io::BufWriter::new(std::io::stdout().lock());
+    let mut w = Writer { driver: Driver::new(), out, lines: 0 };
+    while w.lines < lines {
+        let (n, cbits, nodes, count) = (random.below(6), random.below(4), 1 + random.below(16), random.below(10));
+        let (measurements, damaged) = (random.below(count + 1), random.one_in(4));
+        let lists: [Vec<u32>; 3] = [
+            (0..nodes).flat_map(|place| node(&mut random, n, place)).collect(),
+            (0..count).flat_map(|_| operation(&mut random, nodes, cbits, measurements, damaged)).collect(),
+            (0..2 * n).map(|_| random.below(4 * nodes)).collect(),
+        ];
+        let mut line = format!("store {n} {cbits} {measurements}");
+        for list in &lists {
+            line.push_str(&format!(" {}", list.len()));
+            line.extend(list.iter().map(|word| format!(" {word}")));
+        }
+        w.say(&line);
+        w.walks(&mut random);
+        for _ in 0..random.below(8) {
             w.later(&mut random, cbits);
         }
         w.say("dump");

@@ -9,9 +9,9 @@ Letters are 0 to 3 (I, X, Y, Z), phases 0 to 3 (powers of i); an angle k stands 
 >>> import pbc
 >>> circuit = pbc.to_pbc(3, 1, [("h", 0), ("cx", 0, 1), ("t", 1), ("measure", 2, 0)])
 >>> for operation in circuit.operations:
-...     print(operation.kind, operation.angle, circuit.expand(operation.axis, 1000))
-rotate 1 +XZI
-measure None +IIZ
+...     print(operation.gate, operation.kind, operation.angle, circuit.expand(operation.axis, 1000))
+2 rotate 1 +XZI
+3 measure None +IIZ
 """
 from ._circuit import (
     MAX_CBITS, MAX_NODES, MAX_OPERATIONS, MAX_QUBITS, NO_NODES, NO_OPERATIONS, NO_POOL, NODE_WORDS, OPERATION_WORDS, POOL_WORDS, PbcCircuit,

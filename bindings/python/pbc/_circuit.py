@@ -10,9 +10,9 @@ from ._library import U32, U64, answer_words, call, number, resized, words
 from ._values import ExpandedPauli, MaxAxisWeights, MeasId, PauliRef, PbcError, PbcOp, Z
 
 MAX_QUBITS, MAX_CBITS, MAX_NODES, MAX_OPERATIONS = 256, 65536, 65536, 65536
-NODE_WORDS, OPERATION_WORDS, POOL_WORDS = 2, 4, 3 * 65536
+NODE_WORDS, OPERATION_WORDS, POOL_WORDS = 2, 5, 3 * 65536
 NO_NODES, NO_OPERATIONS, NO_POOL = 14, 15, 18
-_SCRATCH_WORDS, _FIRST_POOL_WORDS, _NO_CAP = 4, 3 * 64, U64
+_SCRATCH_WORDS, _FIRST_POOL_WORDS, _NO_CAP, _HAND = 4, 3 * 64, U64, U32
 _OF_GATES = (5, 7, 8, 9)
 
 _owners = itertools.count()
@@ -155,11 +155,11 @@ class PbcCircuit:
     def _node(self, first, second):
         return [None, (second, first // 4), (self._reference(first // 4), self._reference(second))][first % 4]
 
-    def _operation(self, first, axis, measurement, target):
+    def _operation(self, first, axis, measurement, target, gate):
         kind = first % 4
         return PbcOp(
             ["rotate", "measure", "conditional_rotate"][kind], self._reference(axis), None if kind == 1 else first // 4,
-            None if kind == 0 else MeasId(self.owner, measurement), target - 1 if target else None,
+            None if kind == 0 else MeasId(self.owner, measurement), target - 1 if target else None, None if gate == _HAND else gate,
         )
 
     @property
@@ -179,12 +179,12 @@ class PbcCircuit:
         """The operations, in order. Each is read once.
 
         >>> circuit = to_pbc(1, 1, [("h", 0), ("t", 0), ("measure", 0, 0)])
-        >>> [(operation.kind, operation.angle, operation.target) for operation in circuit.operations]
-        [('rotate', 1, None), ('measure', None, 0)]
+        >>> [(operation.kind, operation.angle, operation.target, operation.gate) for operation in circuit.operations]
+        [('rotate', 1, None, 1), ('measure', None, 0, 2)]
         """
         with self._lock:
             new = iter(self._operations[OPERATION_WORDS * len(self._read_operations):OPERATION_WORDS * self._header[4]])
-            self._read_operations += tuple(self._operation(*operation) for operation in zip(new, new, new, new))
+            self._read_operations += tuple(self._operation(*operation) for operation in zip(*[new] * OPERATION_WORDS))
             return self._read_operations
 
     @property

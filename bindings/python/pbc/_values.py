@@ -104,13 +104,22 @@ class MeasId(_Handle, _MeasId):
 
 
 class PbcOp(NamedTuple):
-    """An operation: kind is rotate, measure or conditional_rotate; what a kind does not have is None."""
+    """An operation: kind is rotate, measure or conditional_rotate; what a kind does not have is None. gate is the place, in the list
+    of to_pbc, of the gate that it came from, and None for one added by hand; a rotation that stands for a pending gate names that gate.
+
+    >>> import pbc
+    >>> circuit = pbc.to_pbc(2, 0, [("cnot", 0, 1), ("t", 1)], max_weight=1)
+    >>> circuit.rotate(circuit.identity, 1)
+    >>> [operation.gate for operation in circuit.operations]
+    [0, 0, 0, 1, None]
+    """
 
     kind: str
     axis: PauliRef
     angle: Optional[int]
     measurement: Optional[MeasId]
     target: Optional[int]
+    gate: Optional[int]
 
 
 class ExpandedPauli(NamedTuple):

@@ -9,7 +9,7 @@ use crate::{MAX_NODES, MAX_OPERATIONS, MAX_QUBITS};
 use std::sync::atomic::{AtomicU64, Ordering};
 
 const NODE_WORDS: usize = 2;
-const OPERATION_WORDS: usize = 4;
+const OPERATION_WORDS: usize = 5;
 
 /// An owned circuit. References and measurements belong to the circuit that gave them.
 ///
@@ -239,7 +239,7 @@ impl PbcCircuit {
     /// let mut circuit = PbcCircuit::new(1, 0)?;
     /// let (axis, angle) = (circuit.identity(), PauliAngle::new(1));
     /// circuit.rotate(axis, angle)?;
-    /// assert_eq!(circuit.operations().next(), Some(PbcOp::Rotate { axis, angle }));
+    /// assert_eq!(circuit.operations().next(), Some(PbcOp::Rotate { axis, angle, gate: None }));
     /// # Ok::<(), pbc::PbcError>(())
     /// ```
     ///

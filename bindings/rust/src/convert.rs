@@ -103,7 +103,7 @@ fn needs(gates: &[Gate], capped: bool) -> (usize, usize) {
 /// The circuit of a gate list.
 ///
 /// Under `max_weight` no axis of an odd angle or of a measurement has more letters other than I: pending Clifford gates are written as
-/// rotations before one would. Those have at most two letters, whatever the cap.
+/// rotations before one would. Those have at most two letters, whatever the cap. Each operation names its gate ([`PbcOp::gate`](crate::PbcOp::gate)).
 /// Time and space are O(gates + qubits); under a cap O(qubits / 64) more a gate, and O(qubits² / 64) more a flush.
 ///
 /// ```

@@ -34,6 +34,9 @@ impl fmt::Display for MeasId {
     }
 }
 
+/// The fifth word of an operation that was added by hand.
+const HAND: u32 = u32::MAX;
+
 /// An operation. +1 yields 0 as a measurement's bit, -1 yields 1; a conditional rotation turns where its measurement gave 1.
 ///
 /// ```
@@ -42,7 +45,7 @@ impl fmt::Display for MeasId {
 /// for op in circuit.operations() {
 ///     let axis = circuit.expand(op.axis().as_ref(), 100)?;
 ///     match op {
-///         PbcOp::Rotate { angle, .. } => assert_eq!(format!("{angle} {axis}"), "pi/8 +X"),
+///         PbcOp::Rotate { angle, gate, .. } => assert_eq!((format!("{angle} {axis}").as_str(), gate), ("pi/8 +X", Some(1))),
 ///         PbcOp::Measure { outcome, target, .. } => assert_eq!((outcome.index(), target), (0, Some(0))),
 ///         _ => unreachable!("a conversion makes no other"),
 ///     }
@@ -58,6 +61,8 @@ pub enum PbcOp {
         axis: PauliAxis,
         /// The angle.
         angle: PauliAngle,
+        /// As [`PbcOp::gate`].
+        gate: Option<u32>,
     },
     /// A measurement.
     Measure {
@@ -67,6 +72,8 @@ pub enum PbcOp {
         outcome: MeasId,
         /// The classical bit that it is written to.
         target: Option<u32>,
+        /// As [`PbcOp::gate`].
+        gate: Option<u32>,
     },
     /// A rotation where a measurement gave 1.
     ConditionalRotate {
@@ -76,6 +83,8 @@ pub enum PbcOp {
         angle: PauliAngle,
         /// The measurement.
         if_one: MeasId,
+        /// As [`PbcOp::gate`].
+        gate: Option<u32>,
     },
 }
 
@@ -87,14 +96,33 @@ impl PbcOp {
         }
     }
 
+    /// The gate that it came from, by its place in the list of [`to_pbc`](crate::to_pbc); `None` if it was added by hand.
+    /// A rotation that stands for a pending Clifford gate names that gate, not the one that had it written.
+    ///
+    /// ```
+    /// use pbc::{Gate, PauliAngle, to_pbc};
+    /// use std::num::NonZeroU32;
+    /// let mut circuit = to_pbc(2, 0, &[Gate::Cnot(0, 1), Gate::T(1)], NonZeroU32::new(1))?;
+    /// circuit.rotate(circuit.identity(), PauliAngle::new(1))?;
+    /// let gates: Vec<_> = circuit.operations().map(|op| op.gate()).collect();
+    /// assert_eq!(gates, [Some(0), Some(0), Some(0), Some(1), None]);
+    /// # Ok::<(), pbc::PbcError>(())
+    /// ```
+    pub fn gate(&self) -> Option<u32> {
+        match *self {
+            Self::Rotate { gate, .. } | Self::Measure { gate, .. } | Self::ConditionalRotate { gate, .. } => gate,
+        }
+    }
+
     pub(crate) fn read(owner: u64, words: &[u32]) -> Self {
         let axis = PauliAxis(PauliRef { owner, word: words[1] });
         let angle = PauliAngle::new(i64::from(words[0] / 4));
         let measurement = MeasId { owner, index: words[2] };
+        let gate = (words[4] != HAND).then_some(words[4]);
         match words[0] % 4 {
-            0 => Self::Rotate { axis, angle },
-            1 => Self::Measure { axis, outcome: measurement, target: words[3].checked_sub(1) },
-            _ => Self::ConditionalRotate { axis, angle, if_one: measurement },
+            0 => Self::Rotate { axis, angle, gate },
+            1 => Self::Measure { axis, outcome: measurement, target: words[3].checked_sub(1), gate },
+            _ => Self::ConditionalRotate { axis, angle, if_one: measurement, gate },
         }
     }
 }

@@ -57,7 +57,7 @@ fn a_conversion_allocates_once() {
         let circuit = to_pbc(64, 1, &gates, cap).unwrap();
         // The gates' words, the nodes and the operations; the planes and the frame are small.
         assert_eq!((MADE.get() - made, GROWN.get() - grown), (3, 0));
-        let in_use = 8 * circuit.pauli_nodes().len() + 16 * circuit.operations().len() + 4 * 128;
+        let in_use = 8 * circuit.pauli_nodes().len() + 20 * circuit.operations().len() + 4 * 128;
         assert_eq!(HELD.get().wrapping_sub(held), in_use);
     }
 }

@@ -51,10 +51,10 @@ fn operations_are_read_back() {
     circuit.conditional_pauli(y, outcome).unwrap();
     assert_eq!((outcome.index(), hidden.index(), circuit.measurement_count()), (0, 1, 2));
     let operations: Vec<_> = circuit.operations().collect();
-    assert_eq!(operations[0], PbcOp::Rotate { axis: x.negated(), angle: PauliAngle::new(7) });
-    assert_eq!(operations[1], PbcOp::Measure { axis: y, outcome, target: Some(0) });
-    assert_eq!(operations[2], PbcOp::Measure { axis: y, outcome: hidden, target: None });
-    assert_eq!(operations[3], PbcOp::ConditionalRotate { axis: x, angle: PauliAngle::new(2), if_one: hidden });
+    assert_eq!(operations[0], PbcOp::Rotate { axis: x.negated(), angle: PauliAngle::new(7), gate: None });
+    assert_eq!(operations[1], PbcOp::Measure { axis: y, outcome, target: Some(0), gate: None });
+    assert_eq!(operations[2], PbcOp::Measure { axis: y, outcome: hidden, target: None, gate: None });
+    assert_eq!(operations[3], PbcOp::ConditionalRotate { axis: x, angle: PauliAngle::new(2), if_one: hidden, gate: None });
     assert_eq!(AxisKind::of(&operations[0]), Some(AxisKind::Pi8));
     assert_eq!(AxisKind::of(&operations[4]), Some(AxisKind::Clifford));
     assert_eq!(x.negated().as_ref().phase(), Phase::MinusOne);

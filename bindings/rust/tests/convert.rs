@@ -1,6 +1,6 @@
 //! Conversions that are small enough to follow by hand, and gates on a circuit's output.
 
-use pbc::{Gate, Gate::*, Pauli, PbcCircuit, PbcError, PbcOp, Phase, to_pbc};
+use pbc::{Gate, Gate::*, Pauli, PauliAngle, PbcCircuit, PbcError, PbcOp, Phase, to_pbc};
 use std::num::NonZeroU32;
 
 fn cap(most: u32) -> Option<NonZeroU32> {
@@ -12,10 +12,16 @@ fn rotations(circuit: &PbcCircuit) -> Vec<(usize, u8)> {
     circuit
         .operations()
         .map(|op| match op {
-            PbcOp::Rotate { axis, angle } => (axis.as_ref().node_index(), angle.eighths()),
+            PbcOp::Rotate { axis, angle, .. } => (axis.as_ref().node_index(), angle.eighths()),
             _ => panic!("a rotation was expected"),
         })
         .collect()
+}
+
+/// For each gate in turn that operations name, one after another, how many; `None` for those added by hand.
+fn named(circuit: &PbcCircuit) -> Vec<(Option<u32>, usize)> {
+    let gates: Vec<_> = circuit.operations().map(|op| op.gate()).collect();
+    gates.chunk_by(|a, b| a == b).map(|alike| (alike[0], alike.len())).collect()
 }
 
 #[test]
@@ -60,6 +66,34 @@ fn ccx_is_seven_rotations() {
 }
 
 #[test]
+fn operations_name_their_gate() {
+    let circuit = to_pbc(3, 1, &[H(0), T(0), X(1), Ccx(0, 1, 2), Measure(2, 0)], None).unwrap();
+    assert_eq!(named(&circuit), [(Some(1), 1), (Some(3), 7), (Some(4), 1)]);
+}
+
+#[test]
+fn a_flush_names_its_own_gates() {
+    assert_eq!(named(&to_pbc(2, 0, &[Cnot(0, 1), T(1)], cap(1)).unwrap()), [(Some(0), 3), (Some(1), 1)]);
+    // What is lowered too; the t, whose axis is light, stands before the gates that were pending then, and names itself.
+    let gates = [H(0), Y(0), Sx(0), Swap(0, 1), Cy(0, 1), Cnot(2, 3), T(2), Measure(3, 0), Cz(0, 1), Tdg(1)];
+    let circuit = to_pbc(4, 1, &gates, cap(1)).unwrap();
+    let flushed = [(Some(0), 3), (Some(1), 2), (Some(2), 7), (Some(3), 9), (Some(4), 5), (Some(5), 3)];
+    assert_eq!(named(&circuit)[0], (Some(6), 1));
+    assert_eq!(named(&circuit)[1..7], flushed);
+    assert_eq!(named(&circuit)[7..], [(Some(7), 1), (Some(9), 1)]);
+}
+
+#[test]
+fn by_hand_there_is_no_gate() {
+    let mut circuit = to_pbc(1, 1, &[T(0)], None).unwrap();
+    let z = circuit.single(0, Pauli::Z).unwrap();
+    circuit.rotate(z, PauliAngle::new(1)).unwrap();
+    let outcome = circuit.measure(z, Some(0)).unwrap();
+    circuit.conditional_pauli(z, outcome).unwrap();
+    assert_eq!(named(&circuit), [(Some(0), 1), (None, 3)]);
+}
+
+#[test]
 fn refusals_name_the_gate() {
     let refused = |gates: &[Gate], most| to_pbc(3, 1, gates, most).unwrap_err();
     assert_eq!(refused(&[H(0), Cnot(5, 5)], None), PbcError::QubitOutOfRange { index: 1, qubit: 5 });
@@ -75,6 +109,7 @@ fn buffers_grow() {
     let gates: Vec<Gate> = (0..65_536).map(|i| if i % 2 == 0 { H(0) } else { T(0) }).collect();
     let circuit = to_pbc(65, 0, &gates, cap(3)).unwrap();
     assert_eq!(circuit.operations().len(), 32_768);
+    assert_eq!(circuit.operations().last().unwrap().gate(), Some(65_535));
     assert_eq!(to_pbc(2, 0, &vec![Swap(0, 1); 65_536], None).unwrap_err(), PbcError::NoNodes);
 }
 

@@ -31,4 +31,12 @@ impl PbcCircuit {
     pub(crate) fn frame_roots(&self) -> Vec<PauliRef> {
         self.output_frame.roots().collect()
     }
+    /// These parts in place of its own; the frame has the images of X, then those of Z.
+    pub(crate) fn store(&mut self, nodes: Vec<PauliNode>, operations: Vec<PbcOp>, frame: &[PauliRef], measurements: usize) {
+        let (x, z) = frame.split_at(self.num_qubits);
+        self.arena.nodes = nodes;
+        self.operations = operations;
+        self.output_frame = CliffordFrame { x: x.to_vec(), z: z.to_vec() };
+        self.measurements = measurements;
+    }
 }
