@@ -1,17 +1,15 @@
 //! The stored words of a circuit, read entry by entry: whether a used one is malformed, and the axis of an operation.
 
 use crate::header::Header;
-use crate::limits::HAND_MARK;
-use crate::limits::MAX_GATES;
 use crate::limits::NODE_WORDS;
 use crate::limits::OPERATION_WORDS;
 use crate::node::PauliNode;
 use crate::op::AxisKind;
 use crate::op::PbcOp;
+use crate::op::Source;
 ghost use mathlib.Core.Path.{_≡_};
 ghost use lib.ListN.{getD};
 ghost use Rattle.arena.specs.Nodes.{nodeAt};
-ghost use Rattle.arena.specs.Operations.{sourceOf};
 ghost use Rattle.arena.specs.Expansion.{isMalformed, anyMalformed, badNodes, opAt, gateWord, isBadOp, isNoSource, isBadAt, anyBadOp, badOperations, weighedOf};
 ghost use Rattle.arena.specs.Code.Roots.{countsClifford};
 
@@ -104,17 +102,21 @@ fn gate_word(operations: &[u32], index: u32) -> u32
     word_at(operations, OPERATION_WORDS * (index as usize) + 4)
 }
 
-fn is_no_source(gate: u32) -> bool
-    ensures { λ r. ⌜ r ≡ isNoSource (sourceOf gate) ⌝ }
+fn is_no_source(source: Source) -> bool
+    ensures { λ r. ⌜ r ≡ isNoSource source ⌝ }
 {
-    !((gate < MAX_GATES) | (gate == HAND_MARK))
+    match source {
+        Source::Gate(_) => false,
+        Source::Hand => false,
+        Source::Malformed => true,
+    }
 }
 
 fn is_bad_at(header: Header, operations: &[u32], index: u32) -> bool
     ensures { λ r. ⌜ r ≡ isBadAt header (now (operations .entry)) index ⌝ }
 {
     let bad = is_bad_op(header, op_at(header, operations, index));
-    bad | is_no_source(gate_word(operations, index))
+    bad | is_no_source(Source::of_word(gate_word(operations, index)))
 }
 
 fn any_bad_op(header: Header, operations: &[u32]) -> bool

@@ -16,14 +16,17 @@ is-bad-op-requires c κs = search needs
 gate-word-requires : tie.Need-gate-word-requires
 gate-word-requires c κs = search needs
 
+of-word-requires : tie.Need-of-word-requires
+of-word-requires c κs = search needs
+
 is-no-source-requires : tie.Need-is-no-source-requires
 is-no-source-requires c κs = search needs
 
 returns : tie.Need-returns
-returns c = ap₂ _||_ (c .before .before .is-bad-op .ensures ∙ ap (isBadOp (c .before .before .before .before .before .args .header)) (c .before .before .before .op-at .ensures))
-    (c .is-no-source .ensures ∙ ap (λ gate. isNoSource (sourceOf gate)) (c .before .gate-word .ensures))
+returns c = ap₂ _||_ (c .before .before .before .is-bad-op .ensures ∙ ap (isBadOp (c .before .before .before .before .before .before .args .header)) (c .before .before .before .before .op-at .ensures))
+    (c .is-no-source .ensures ∙ ap isNoSource (c .before .of-word .ensures ∙ ap sourceOf (c .before .before .gate-word .ensures)))
 
 pub is-bad-at-spec : {M : Type 1} → statement M
 is-bad-at-spec =
     tie.close
-    (tie.spec op-at-requires is-bad-op-requires gate-word-requires is-no-source-requires returns)
+    (tie.spec op-at-requires is-bad-op-requires gate-word-requires of-word-requires is-no-source-requires returns)
