@@ -1,7 +1,7 @@
 -- E2 of document 02: the gate record that an operation names. What is claimed of it, besides that it is the papers' (Converts).
 use mathlib.Core.Path.{_≡_}
 use mathlib.Core.Logic.{_⊎_}
-use mathlib.Core.Bool.{Bool, true, cond}
+use mathlib.Core.Bool.{Bool, true, false, cond}
 use mathlib.Core.List.{List, [], _∷_, map}
 use Prim.Native.Nat.{ℕ, _%_, _<_, _≤_}
 use lib.Dec.{eqb}
@@ -39,20 +39,24 @@ pub record Writes (n : ℕ) (e : Elementary) (o : Operation) : Type 0 where
   pub given : ℕ
   pub wrote : Member o (writes n since given e)
 
--- an operation names a record of the list; one of the gates that this record is lowered to wrote it, or a flush for that gate
-pub record OfRecord (n : ℕ) (rs : List Record) (o : From Operation) : Type 0 where
-  pub gate : Elementary
-  pub lowered : Member gate (getD (map lower rs) (o .index) [])
-  pub wrote : Member (o .what) (flushWrites n gate) ⊎ Writes n gate (o .what)
-
--- ---- the order of indices
-
--- no flush wrote it: a flush writes even angles only, a gate itself odd ones and measurements
+-- no flush wrote it: it has an odd angle or is measured
 abbrev pub unflushed : Operation → Bool
 unflushed (rotateBy k P) = eqb (k % 2) 1
 unflushed (measureOf P m b) = true
 unflushed (conditionalBy k P m) = true
 unflushed malformed = true
+
+-- a flush wrote an operation for a gate, or the gate wrote it itself
+abbrev pub Wrote : ℕ → Elementary → Operation → Type 0
+Wrote n e o = (Member o (flushWrites n e) × (unflushed o ≡ false)) ⊎ (Writes n e o × (unflushed o ≡ true))
+
+-- an operation names a record of the list, one of whose gates it is of
+pub record OfRecord (n : ℕ) (rs : List Record) (o : From Operation) : Type 0 where
+  pub gate : Elementary
+  pub lowered : Member gate (getD (map lower rs) (o .index) [])
+  pub wrote : Wrote n gate (o .what)
+
+-- ---- the order of indices
 
 abbrev pub unflushedIndices : List (From Operation) → List ℕ
 unflushedIndices [] = []

@@ -3,15 +3,18 @@ use mathlib.Core.Path.{_≡_, refl, ap, sym, _∙_}
 use mathlib.Core.Logic.{inl, inr}
 use mathlib.Core.Bool.{Bool, true, false, cond}
 use mathlib.Core.List.{List, [], _∷_, _++_, map, append-nil}
-use Prim.Native.Nat.{ℕ, zero, suc, _≤_, _<_}
+use Prim.Native.Nat.{ℕ, zero, suc, _%_, _≤_, _<_}
+use lib.Dec.{eqb}
 use native.Mathlib.Omega.{arith}
 use lib.ListN.{length, getD, length-append, length-map}
 use lib.Seq.{getD-at, append-snoc}
+use Rattle.pauli.specs.Rows.{Row}
 use Rattle.pauli.specs.Gates.{Gate, gateH, gateX, gateZ, gateS, gateSdg, gateCnot, gateCz}
-use Rattle.pauli.specs.Rotations.{written}
+use Rattle.pauli.specs.Rotations.{Rotation, written, Each}
+use Rattle.convert.specs.Types.{Target, Bit}
 use Rattle.convert.specs.Records.{Cap, Record, records, Elementary, clifford, elT, elTdg, elCcx, elCcz, elMeasure, lower, Placed, placed, placedFrom, lowerFrom, lowerAll, bare, From, from, mapFrom}
 use Rattle.convert.specs.Plain.{Operation, asRotation, flushFrom}
-use Rattle.convert.specs.Paper.{Paper, tooHeavy, writes, paperPerform, paperFlushed, paperStep, paperRun, paperBegin}
+use Rattle.convert.specs.Paper.{Paper, axes, tooHeavy, sevenAngles, rotateAll, measureFirst, writes, paperPerform, paperFlushed, paperStep, paperRun, paperBegin}
 use Rattle.convert.specs.Conversion.{Input, gatesIn, paperEnd}
 use Rattle.convert.specs.Sources.{Member, All, OfRecord, unflushed, unflushedIndices, NeverFall}
 use Rattle.convert.proofs.meaning.Words.{map-append, map-from}
@@ -76,21 +79,51 @@ unflushed-from i (o ∷ os) = go (unflushed o) (unflushed-from i os)
     go true h = (refl, h)
     go false h = h
 
--- a flush writes even angles only
+-- ---- who wrote an operation is told by its angle: a flush writes even ones only
+
+even-turns : (l : List Rotation) → Each (λ r. eqb (r .angle % 2) 1 ≡ false) l → (o : Operation) → Member o (map asRotation l) → unflushed o ≡ false
+even-turns [] h o m = absurd m
+even-turns (r ∷ l) h o (inl e) = ap unflushed e ∙ h .0
+even-turns (r ∷ l) h o (inr m) = even-turns l (h .1) o m
+
+written-even : (n : ℕ) (g : Gate) → Each (λ r. eqb (r .angle % 2) 1 ≡ false) (written n g)
+written-even n (gateH q) = (refl, (refl, (refl, tt)))
+written-even n (gateX q) = (refl, tt)
+written-even n (gateZ q) = (refl, tt)
+written-even n (gateS q) = (refl, tt)
+written-even n (gateSdg q) = (refl, tt)
+written-even n (gateCnot c t) = (refl, (refl, (refl, tt)))
+written-even n (gateCz c t) = (refl, (refl, (refl, tt)))
+
+skip-even : (i : ℕ) (l : List Rotation) (rest : List (From Rotation)) → Each (λ r. eqb (r .angle % 2) 1 ≡ false) l
+    → unflushedIndices (map (mapFrom asRotation) (map (from i) l ++ rest)) ≡ unflushedIndices (map (mapFrom asRotation) rest)
+skip-even i [] rest h = refl
+skip-even i (r ∷ l) rest h = rw (h .0) (skip-even i l rest (h .1))
+
 flush-unflushed : (n : ℕ) (gs : List (Placed Gate)) → unflushedIndices (map (mapFrom asRotation) (flushFrom n gs)) ≡ []
 unfolding flushFrom
 flush-unflushed n [] = refl
-flush-unflushed n (g ∷ gs) = go (g .gate) (flush-unflushed n gs)
-  where
-    go : (h : Gate) → unflushedIndices (map (mapFrom asRotation) (flushFrom n gs)) ≡ []
-        → unflushedIndices (map (mapFrom asRotation) (map (from (g .index)) (written n h) ++ flushFrom n gs)) ≡ []
-    go (gateH q) e = e
-    go (gateX q) e = e
-    go (gateZ q) e = e
-    go (gateS q) e = e
-    go (gateSdg q) e = e
-    go (gateCnot c t) e = e
-    go (gateCz c t) e = e
+flush-unflushed n (g ∷ gs) = skip-even (g .index) (written n (g .gate)) (flushFrom n gs) (written-even n (g .gate)) ∙ flush-unflushed n gs
+
+odd-turns : (ks : List ℕ) (Ps : List Row) → All (λ k. eqb (k % 2) 1 ≡ true) ks → (o : Operation) → Member o (rotateAll ks Ps) → unflushed o ≡ true
+odd-turns [] Ps h o m = absurd m
+odd-turns (k ∷ ks) [] h o m = absurd m
+odd-turns (k ∷ ks) (P ∷ Ps) h o (inl e) = ap unflushed e ∙ h .0
+odd-turns (k ∷ ks) (P ∷ Ps) h o (inr m) = odd-turns ks Ps (h .1) o m
+
+measured : (k : ℕ) (b : Target) (Ps : List Row) (o : Operation) → Member o (measureFirst k b Ps) → unflushed o ≡ true
+measured k b [] o m = absurd m
+measured k b (P ∷ Ps) o (inl e) = ap unflushed e
+measured k b (P ∷ Ps) o (inr m) = absurd m
+
+writes-odd : (n : ℕ) (gs : List Gate) (k : ℕ) (e : Elementary) (o : Operation) → Member o (writes n gs k e) → unflushed o ≡ true
+unfolding writes
+writes-odd n gs k (clifford g) o m = absurd m
+writes-odd n gs k (elT q) o m = odd-turns (1 ∷ []) (axes n gs (elT q)) (refl, tt) o m
+writes-odd n gs k (elTdg q) o m = odd-turns (7 ∷ []) (axes n gs (elTdg q)) (refl, tt) o m
+writes-odd n gs k (elCcx a b d) o m = odd-turns sevenAngles (axes n gs (elCcx a b d)) (refl, (refl, (refl, (refl, (refl, (refl, (refl, tt))))))) o m
+writes-odd n gs k (elCcz a b d) o m = odd-turns sevenAngles (axes n gs (elCcz a b d)) (refl, (refl, (refl, (refl, (refl, (refl, (refl, tt))))))) o m
+writes-odd n gs k (elMeasure q c) o m = measured k (Bit c) (axes n gs (elMeasure q c)) o m
 
 -- ---- the gates of records
 
@@ -147,7 +180,7 @@ flush-named n rs [] h = tt
 flush-named n rs (g ∷ gs) h =
     rw (map-append (mapFrom asRotation) (map (from (g .index)) (written n (g .gate))) (flushFrom n gs), map-from asRotation (g .index) (written n (g .gate)))
     (all-append (OfRecord n rs) (map (from (g .index)) (map asRotation (written n (g .gate)))) (map (mapFrom asRotation) (flushFrom n gs))
-    (each-from (OfRecord n rs) (g .index) (map asRotation (written n (g .gate))) (λ o m. record { gate = clifford (g .gate); lowered = h .0; wrote = inl m }))
+    (each-from (OfRecord n rs) (g .index) (map asRotation (written n (g .gate))) (λ o m. record { gate = clifford (g .gate); lowered = h .0; wrote = inl (m, even-turns (written n (g .gate)) (written-even n (g .gate)) o m) }))
     (flush-named n rs gs (h .1)))
 
 module _ (n : ℕ) (rs : List Record) (b : ℕ) (p : Paper) (S : Sourced n rs b p) where
@@ -172,7 +205,7 @@ module _ (n : ℕ) (rs : List Record) (b : ℕ) (p : Paper) (S : Sourced n rs b 
     more-named : All (OfRecord n rs) (p .operations ++ map (from i) new)
     unfolding new
     more-named = all-append (OfRecord n rs) (p .operations) (map (from i) new) (S .named)
-        (each-from (OfRecord n rs) i new (λ o w. record { gate = e; lowered = m; wrote = inr (record { since = bare (p .since); given = p .given; wrote = w }) }))
+        (each-from (OfRecord n rs) i new (λ o w. record { gate = e; lowered = m; wrote = inr (record { since = bare (p .since); given = p .given; wrote = w }, writes-odd n (bare (p .since)) (p .given) e o w) }))
 
     old : List ℕ
     old = unflushedIndices (p .operations)
