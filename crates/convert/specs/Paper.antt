@@ -56,10 +56,11 @@ writes n gs m (elCcx a b d) = rotateAll sevenAngles (axes n gs (elCcx a b d))
 writes n gs m (elCcz a b d) = rotateAll sevenAngles (axes n gs (elCcz a b d))
 writes n gs m (elMeasure q k) = measureFirst m (Bit k) (axes n gs (elMeasure q k))
 
--- part j of record i is performed
+-- operations of record i
 abbrev pub paperAdds : ℕ → Paper → List Operation → Paper
 paperAdds i p os = record { since = p .since; operations = p .operations ++ map (from i) os; given = p .given }
 
+-- a gate that is part j of record i
 unfoldable pub paperPerform : ℕ → ℕ → ℕ → Elementary → Paper → Paper
 paperPerform n i j (clifford g) p = record { since = p .since ++ placed i j g ∷ []; operations = p .operations; given = p .given }
 paperPerform n i j (elT q) p = paperAdds i p (writes n (bare (p .since)) (p .given) (elT q))

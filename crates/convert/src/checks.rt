@@ -6,6 +6,7 @@ use crate::gate::Shape;
 use arena::Checked;
 use arena::Header;
 use arena::MAX_CBITS;
+use arena::MAX_GATES;
 use arena::MAX_NODES;
 use arena::MAX_OPERATIONS;
 use arena::MAX_QUBITS;
@@ -27,7 +28,7 @@ ghost use Rattle.convert.specs.Planes.{partWords};
 ghost use Rattle.convert.specs.Code.Raw.{recordOf};
 
 /// The most words of a gate list.
-pub const MAX_GATE_WORDS: usize = 262144;
+pub const MAX_GATE_WORDS: usize = 4 * (MAX_GATES as usize);
 
 // A qubit of gate i.
 fn check_operand(checked: Checked, n: u32, i: u64, q: u32) -> Checked
