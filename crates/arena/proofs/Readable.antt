@@ -18,7 +18,7 @@ use Rattle.arena.specs.Operations.{MeasId, PbcOp, Rotate, Measure, Condi
 use Rattle.arena.specs.Store.{Header, breaksLimit, exceedsNodes, exceedsOperations, foreign, unknown}
 use Rattle.arena.specs.Errors.{Checked, Fine, Wrong}
 use Rattle.arena.specs.Builder.{Step, stepOf, decided, qubitNodes, startNodes, startFrame, overlay, NodesAndFrame, Created, CreatedMade, CreatedRefused, newHeader, newCheck, newStep}
-use Rattle.arena.specs.Expansion.{isMalformed, anyMalformed, badNodes, opAt, isBadOp, isBadAt, anyBadOp, badOperations}
+use Rattle.arena.specs.Expansion.{isMalformed, anyMalformed, badNodes, opAt, isBadOp, isBadAt, anyBadOp, badOperations, weighedOf}
 use Rattle.arena.proofs.Accepted.{passed-before, test-passed, left-false, right-false, Sound, sound, Own, own, fits-new}
 use Rattle.arena.proofs.NodeRows.{node-older, single-decodes, product-decodes}
 use Rattle.arena.proofs.Overlay.{length-overlay, length-qubitNodes}
@@ -179,6 +179,12 @@ module _ (h h′ : Header) (G : Grows h h′) where
   good-more (Measure x m t) e = both-false _ _ (own-more (x .0) (left-false (foreign h (x .0)) _ e)) (known-more m (right-false (foreign h (x .0)) _ e))
   good-more (ConditionalRotate x k m) e = both-false _ _ (own-more (x .0) (left-false (foreign h (x .0)) _ e)) (known-more m (right-false (foreign h (x .0)) _ e))
   good-more Malformed e = e
+
+pub axis-named : (h : Header) (op : PbcOp) → isBadOp h op ≡ false → nodeIn (weighedOf op .word) < h .nodes
+axis-named h (Rotate x k) e = own h (x .0) e .used
+axis-named h (Measure x m t) e = own h (x .0) (left-false (foreign h (x .0)) _ e) .used
+axis-named h (ConditionalRotate x k m) e = own h (x .0) (left-false (foreign h (x .0)) _ e) .used
+axis-named h Malformed e = let z : _≡_ {A = ℕ} 0 1 = cc in absurd (omega arith)
 
 none-bad : (h : Header) (ops : List ℕ) (k : ℕ) → ((i : ℕ) → i < k → isBadAt h ops i ≡ false) → anyBadOp h ops k ≡ false
 none-bad h ops zero all = refl

@@ -15,7 +15,7 @@ use Rattle.convert.specs.Records.{From, from, mapFrom}
 use Rattle.convert.specs.Plain.{Operation, rotateBy, measureOf, conditionalBy}
 use Rattle.convert.specs.Words.{decoded, opFrom, meaning, opsFrom, operationsIn}
 use Rattle.convert.specs.Later.{Circuit}
-use Rattle.convert.proofs.meaning.Words.{map-append, OpUnder, OpsUnder}
+use Rattle.convert.proofs.meaning.Words.{ops-more, map-append, OpUnder, OpsUnder}
 use Rattle.operators.specs.Types.{Header, PbcOp, Rotate, Measure, ConditionalRotate, MalformedOp}
 use Rattle.operators.specs.Whole.{sourcedOf}
 
@@ -32,16 +32,6 @@ ops-snoc f i (suc k) = let e : suc i + k ≡ i + suc k = omega arith in ap (λ l
 under-snoc : (k : ℕ) (os : List (From PbcOp)) (o : From PbcOp) → OpsUnder k os → OpUnder k (o .what) → OpsUnder k (os ++ o ∷ [])
 under-snoc k [] o u v = (v, tt)
 under-snoc k (p ∷ os) o u v = (u .0, under-snoc k os o (u .1) v)
-
-under-op : (k m : ℕ) → k ≤ m → (o : PbcOp) → OpUnder k o → OpUnder m o
-under-op k m le (Rotate x a) u = omega arith
-under-op k m le (Measure x i t) u = omega arith
-under-op k m le (ConditionalRotate x a i) u = omega arith
-under-op k m le MalformedOp u = tt
-
-under-ops : (k m : ℕ) → k ≤ m → (os : List (From PbcOp)) → OpsUnder k os → OpsUnder m os
-under-ops k m le [] u = tt
-under-ops k m le (o ∷ os) u = (under-op k m le (o .what) (u .0), under-ops k m le os (u .1))
 
 -- ---- older operations through newer nodes
 
@@ -89,7 +79,7 @@ module _ (s s′ : Circuit) (K : Kept s s′) (U : Names s) where
       ∙ ops-agree (opFrom (s′ .header) (s′ .operations)) (opFrom (s .header) (s .operations)) 0 (s .header .operations) (λ j lt. same-op j (omega arith))
 
   pub names-kept : Names s′
-  names-kept = subst (λ l. OpsUnder (s′ .header .nodes) l) (sym same-ops) (under-ops (s .header .nodes) (s′ .header .nodes) (K .more) (usedOps s) U)
+  names-kept = subst (λ l. OpsUnder (s′ .header .nodes) l) (sym same-ops) (ops-more (s .header .nodes) (s′ .header .nodes) (usedOps s) (K .more) U)
 
   pub reads-kept : sourcedOf s′ ≡ sourcedOf s
   unfolding operationsIn

@@ -21,7 +21,7 @@ use Rattle.arena.specs.Code.Results.{Ledger, Value, Says}
 use Rattle.arena.specs.Code.WalkWords.{Inv, none, edge, usesAt, withUse, valueAt, Uses, Rooted}
 use Rattle.arena.specs.Expansion.{maxWeightsOf, WeightsMade, WeightsRefused, opAt, isBadOp, anyBadOp, badNodes, weighedOf, axesTo, reportCheck}
 use Rattle.arena.specs.Code.Roots.{Rootable, tallyOf, startOf, Begun, showRoot, RootShown, Releasable, Released, Fit, weighedAt, axesOf, AxesNamed, Countable, AxesCounted, RootWeight, weightOf, weighRoot, RootWeighed, weighRoots, weightsOf, Resting, Weighing}
-use Rattle.arena.proofs.Readable.{each-good}
+use Rattle.arena.proofs.Readable.{axis-named, each-good}
 use Rattle.arena.proofs.walk.Outcomes.{bind-assoc}
 use Rattle.arena.proofs.DecodedNodes.{node-fits}
 use Rattle.arena.proofs.walk.Uses.{plus-edge}
@@ -360,12 +360,6 @@ module _ {h : Header} {words l : List ℕ} (ops : List ℕ) (f : Fit h words l) 
         report-is = report-weighs limit room (h .qubits) (h .nodes) words (axesOf h ops) ∙ ap (λ z. bind z onward) (begun-at .1)
 
 -- ---- what passed the checks
-
-axis-named : (h : Header) (op : PbcOp) → isBadOp h op ≡ false → nodeIn (weighedOf op .word) < h .nodes
-axis-named h (Rotate x k) e = own h (x .0) e .used
-axis-named h (Measure x m t) e = own h (x .0) (left-false (foreign h (x .0)) _ e) .used
-axis-named h (ConditionalRotate x k m) e = own h (x .0) (left-false (foreign h (x .0)) _ e) .used
-axis-named h Malformed e = let z : _≡_ {A = ℕ} 0 1 = cc in absurd (omega arith)
 
 all-named : (h : Header) (ops : List ℕ) (k : ℕ) → anyBadOp h ops k ≡ false → (i : ℕ) → i < k → nodeIn (weighedOf (opAt h ops i) .word) < h .nodes
 all-named h ops k e i l = axis-named h (opAt h ops i) (left-false (isBadOp h (opAt h ops i)) _ (each-good h ops k e i l))

@@ -19,6 +19,7 @@ use Rattle.arena.specs.Sparse.{Factor, spread, dense}
 use Rattle.arena.specs.Walk.{Named, Out, fine, refused, bind, Answer, walk}
 use Rattle.arena.specs.Readers.{firstOf, Expanded, expandWalk, hermitianWalk, Weighed, Weights, largest, wordsOf, Report, reportWalk}
 use Rattle.arena.specs.Expansion.{ExpansionMade, HermitianMade, WeightsMade, expansionOf, hermitianOf, maxWeightsOf, badNodes, badOperations, opAt, isBadOp, anyBadOp, weighedOf, axesTo, roomIn, lettersLeft, expandBy, expandCheck, expandStep, walkBy, hermitianCheck, hermitianStep, reportCheck, reportStep}
+use Rattle.arena.proofs.Readable.{axis-named}
 use Rattle.arena.proofs.Accepted.{passed-before, test-passed, left-false, right-false, own}
 use Rattle.arena.proofs.walk.Reports.{expand-means, hermitian-means, report-means}
 use Rattle.arena.proofs.walk.Errors.{Limited, limited-bind, limited-walk, limited-not, errors-differ, bad-limit, bad-pool, refused-before, test-error, test-failed}
@@ -197,17 +198,11 @@ named-snoc : (count : ℕ) (xs : List Weighed) (x : Weighed) → Named count (wo
 named-snoc count [] x ns lt = (lt, tt)
 named-snoc count (y ∷ xs) x ns lt = (ns .0, named-snoc count xs x (ns .1) lt)
 
-op-named : (h : Header) (op : PbcOp) → isBadOp h op ≡ false → nodeIn (weighedOf op .word) < h .nodes
-op-named h (Rotate x k) e = own h (x .0) e .used
-op-named h (Measure x m t) e = own h (x .0) (left-false (foreign h (x .0)) _ e) .used
-op-named h (ConditionalRotate x k m) e = own h (x .0) (left-false (foreign h (x .0)) _ e) .used
-op-named h MalformedOp e = let z : _≡_ {A = ℕ} 0 1 = cc in absurd (zero-is-one z)
-
 axes-named : (h : Header) (ops : List ℕ) (k : ℕ) → anyBadOp h ops k ≡ false → Named (h .nodes) (wordsOf (axesTo (opAt h ops) k))
 axes-named h ops zero e = tt
 axes-named h ops (suc k) e =
     named-snoc (h .nodes) (axesTo (opAt h ops) k) (weighedOf (opAt h ops k)) (axes-named h ops k (left-false (anyBadOp h ops k) _ e))
-    (op-named h (opAt h ops k) (left-false (isBadOp h (opAt h ops k)) _ (right-false (anyBadOp h ops k) _ e)))
+    (axis-named h (opAt h ops k) (left-false (isBadOp h (opAt h ops k)) _ (right-false (anyBadOp h ops k) _ e)))
 
 module _ (h : Header) (nodes ops scratch pool : List ℕ) (limit : ℕ) where
   abbrev axes : List Weighed

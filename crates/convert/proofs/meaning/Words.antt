@@ -84,7 +84,7 @@ op-more k m (Measure x i t) le u = omega arith
 op-more k m (ConditionalRotate x a i) le u = omega arith
 op-more k m Malformed le u = tt
 
-ops-more : (k m : ℕ) (ops : List (From PbcOp)) → k ≤ m → OpsUnder k ops → OpsUnder m ops
+pub ops-more : (k m : ℕ) (ops : List (From PbcOp)) → k ≤ m → OpsUnder k ops → OpsUnder m ops
 ops-more k m [] le u = tt
 ops-more k m (o ∷ ops) le u = (op-more k m (o .what) le (u .0), ops-more k m ops le (u .1))
 
