@@ -6,14 +6,14 @@ use Prim.Native.Nat.{ℕ}
 use lib.ListN.{replicate}
 use Rattle.pauli.specs.Letters.{power}
 use Rattle.arena.specs.Types.{I, X, Y, Z, One, MinusOne, MinusI}
-use Rattle.arena.specs.Errors.{ExpansionLimit, NoPool, NonHermitianAxis, _⟫_⇒_}
+use Rattle.arena.specs.Errors.{BadStore, NoScratch, ExpansionLimit, NoPool, NonHermitianAxis, _⟫_⇒_}
 use Rattle.arena.specs.Nodes.{decode, nodeAt, values, image}
 use Rattle.arena.specs.Sparse.{factor, dense}
 use Rattle.arena.specs.Walk.{Out, fine, refused, bind, Answer, walk}
 use Rattle.arena.specs.Operations.{sourceOf, decodeOp}
 use Rattle.arena.specs.Store.{Header, breaksLimit, exceedsNodes, exceedsOperations, foreign, unknown}
-use Rattle.arena.specs.Readers.{Weighed, Report, expandWalk, hermitianWalk, reportWalk}
-use Rattle.arena.specs.Expansion.{WalkStep, opAt, reportCheck, reportStep}
+use Rattle.arena.specs.Readers.{Weighed, Report, expandWalk, hermitianWalk, reportWalk, axesWalk}
+use Rattle.arena.specs.Expansion.{WalkStep, opAt, reportCheck, reportStep, AxesStep, axesCheck, axesStep, expandedAxesOf, AxesMade}
 
 abbrev workOf : Out Answer → Out ℕ
 workOf o = bind o (λ a. fine (a .work))
@@ -175,3 +175,47 @@ f-report-limit = refl
 f-report-pool : f-reported 34 20 ≡ record { answer = refused NoPool; scratch = replicate 44 0 ++ 7 ∷ []; pool = replicate 18 0 ++ 7 ∷ 7 ∷ [] }
 unfolding f-reported reportStep reportCheck breaksLimit exceedsNodes exceedsOperations foreign unknown opAt decodeOp sourceOf reportWalk walk nodeAt decode power f-header f-operations f-words _⟫_⇒_
 f-report-pool = refl
+
+-- ---- the axes of F as rows: Z₀, Z₁, X₂, Z₀ Z₁, Z₀ X₂, Z₁ X₂, Z₀ Z₁ X₂, in 28 bytes
+
+f-expanded : (limit pool rows : ℕ) → AxesStep
+f-expanded limit pool rows = axesStep f-header f-words f-operations (replicate rows 7) (replicate 45 7) (replicate pool 7) limit
+
+f-axes-work : expandedAxesOf (f-expanded 34 21 29 .answer) ≡ AxesMade 34
+unfolding f-expanded axesStep axesCheck breaksLimit exceedsNodes exceedsOperations foreign unknown opAt decodeOp sourceOf axesWalk walk nodeAt decode power dense f-header f-operations f-words _⟫_⇒_
+f-axes-work = refl
+
+f-axes-rows : f-expanded 34 21 29 .rows
+    ≡ 3 ∷ 0 ∷ 0 ∷ 0 ∷ 0 ∷ 3 ∷ 0 ∷ 0 ∷ 0 ∷ 0 ∷ 1 ∷ 0 ∷ 3 ∷ 3 ∷ 0 ∷ 0 ∷ 3 ∷ 0 ∷ 1 ∷ 0 ∷ 0 ∷ 3 ∷ 1 ∷ 0 ∷ 3 ∷ 3 ∷ 1 ∷ 0 ∷ 7 ∷ []
+unfolding f-expanded axesStep axesCheck breaksLimit exceedsNodes exceedsOperations foreign unknown opAt decodeOp sourceOf axesWalk walk nodeAt decode power dense f-header f-operations f-words _⟫_⇒_
+f-axes-rows = refl
+
+-- one less of limit or pool: refused, the rows are zero, and so are scratch and pool
+f-axes-limit : f-expanded 33 21 29 ≡ record { answer = refused ExpansionLimit; rows = replicate 28 0 ++ 7 ∷ []; scratch = replicate 44 0 ++ 7 ∷ []; pool = replicate 21 0 }
+unfolding f-expanded axesStep axesCheck breaksLimit exceedsNodes exceedsOperations foreign unknown opAt decodeOp sourceOf axesWalk walk nodeAt decode power dense f-header f-operations f-words _⟫_⇒_
+f-axes-limit = refl
+
+f-axes-pool : f-expanded 34 20 29
+    ≡ record { answer = refused NoPool; rows = replicate 28 0 ++ 7 ∷ []; scratch = replicate 44 0 ++ 7 ∷ []; pool = replicate 18 0 ++ 7 ∷ 7 ∷ [] }
+unfolding f-expanded axesStep axesCheck breaksLimit exceedsNodes exceedsOperations foreign unknown opAt decodeOp sourceOf axesWalk walk nodeAt decode power dense f-header f-operations f-words _⟫_⇒_
+f-axes-pool = refl
+
+-- a byte too few, or scratch for ten nodes: refused, and nothing is touched
+f-axes-short : f-expanded 34 21 27 ≡ record { answer = refused NoScratch; rows = replicate 27 7; scratch = replicate 45 7; pool = replicate 21 7 }
+unfolding f-expanded axesStep axesCheck breaksLimit exceedsNodes exceedsOperations foreign unknown opAt decodeOp sourceOf axesWalk walk nodeAt decode power dense f-header f-operations f-words _⟫_⇒_
+f-axes-short = refl
+
+f-axes-scratch : axesStep f-header f-words f-operations (replicate 28 7) (replicate 43 7) [] 34 ≡ record { answer = refused NoScratch; rows = replicate 28 7; scratch = replicate 43 7; pool = [] }
+unfolding axesStep axesCheck breaksLimit exceedsNodes exceedsOperations foreign unknown opAt decodeOp sourceOf axesWalk walk nodeAt decode power dense f-header f-operations f-words _⟫_⇒_
+f-axes-scratch = refl
+
+-- an operation word too few comes first
+f-axes-bad : axesStep f-header f-words [] [] [] [] 34 ≡ record { answer = refused BadStore; rows = []; scratch = []; pool = [] }
+unfolding axesStep axesCheck breaksLimit exceedsNodes exceedsOperations foreign unknown opAt decodeOp sourceOf axesWalk walk nodeAt decode power dense f-header f-words _⟫_⇒_
+f-axes-bad = refl
+
+-- C and L as axes: Y with the phases -1 and -i
+c-axes-rows : axesStep (record { qubits = 1; cbits = 0; owner = 5; nodes = 4; operations = 2; measurements = 0 }) c-words (4 ∷ 15 ∷ 0 ∷ 0 ∷ 0 ∷ 4 ∷ 12 ∷ 0 ∷ 0 ∷ 0 ∷ [])
+    (replicate 4 7) (replicate 16 7) (replicate 9 7) 20 .rows ≡ 2 ∷ 2 ∷ 2 ∷ 3 ∷ []
+unfolding axesStep axesCheck breaksLimit exceedsNodes exceedsOperations foreign unknown opAt decodeOp sourceOf axesWalk walk nodeAt decode power dense c-words _⟫_⇒_
+c-axes-rows = refl

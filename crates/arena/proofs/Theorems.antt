@@ -18,11 +18,11 @@ use Rattle.arena.specs.Operations.{MeasId, measId, Target, Rotate, Measu
 use Rattle.arena.specs.Store.{Header}
 use Rattle.arena.specs.Builder.{CreatedMade, SingledMade, MultipliedMade, PushedMade, MeasuredMade, newStep, singleStep, productStep, rotateStep, measureStep, conditionalStep}
 use Rattle.arena.specs.Sparse.{size, dense, Sparse}
-use Rattle.arena.specs.Walk.{Named, fine, refused, State, Walked, charge, walkNodes, Answer, walk, Taken, rootUses, scan, takeUse}
+use Rattle.arena.specs.Walk.{Named, fine, refused, bind, State, Walked, charge, walkNodes, Answer, walk, Taken, rootUses, scan, takeUse}
 use Rattle.arena.specs.Charges.{workOf}
 use Rattle.arena.specs.Reachability.{Reachable}
-use Rattle.arena.specs.Readers.{Expanded, expandWalk, hermitianWalk, Weighed, largest, wordsOf, Report, reportWalk}
-use Rattle.arena.specs.Expansion.{ExpansionMade, HermitianMade, WeightsMade, expansionOf, hermitianOf, maxWeightsOf, opAt, gateWord, badNodes, badOperations, expandStep, hermitianStep, axesTo, reportStep}
+use Rattle.arena.specs.Readers.{Expanded, expandWalk, hermitianWalk, Weighed, largest, wordsOf, Report, reportWalk, Axes}
+use Rattle.arena.specs.Expansion.{ExpansionMade, HermitianMade, WeightsMade, AxesMade, expansionOf, hermitianOf, maxWeightsOf, expandedAxesOf, opAt, gateWord, badNodes, badOperations, expandStep, hermitianStep, weighedOf, axesTo, reportStep, rowBytes, axesBytes, axesSize, axesStep}
 use Rattle.arena.specs.Stats.{Within, Refused, workAfter, chargeAnswer}
 use Rattle.arena.specs.Calls.{Call, Slices, checked, after, KeptSlices}
 use Rattle.arena.specs.Pool.{Lendable, Who}
@@ -39,6 +39,7 @@ use Rattle.arena.proofs.walk.Means
 use Rattle.arena.proofs.walk.Ends
 use Rattle.arena.proofs.walk.Reports
 use Rattle.arena.proofs.walk.Readers
+use Rattle.arena.proofs.walk.Axes as AxesLaws
 use Rattle.arena.proofs.walk.Charges
 use Rattle.arena.proofs.chains.Safe
 use Rattle.arena.proofs.DecodedNodes
@@ -250,6 +251,23 @@ pub report-reads : (h : Header) (nodes ops scratch pool : List ℕ) (limit : ℕ
     x .weights ≡ largest axes (map (λ w. weight (image (h .qubits) (h .nodes) nodes w .letters)) (wordsOf axes))
 report-reads = Readers.report-reads
 
+-- an accepted expansion of all axes is their images, in the order of the operations, and these stand in the first of the bytes lent
+pub axes-read : (h : Header) (nodes ops rows scratch pool : List ℕ) (limit : ℕ) (x : Axes) → axesStep h nodes ops rows scratch pool limit .answer ≡ fine x
+    → let images = map (image (h .qubits) (h .nodes) nodes) (wordsOf (axesTo (opAt h ops) (h .operations))) in
+    (x .rows ≡ images) × (axesStep h nodes ops rows scratch pool limit .rows ≡ axesBytes images ++ drop (axesSize h) rows)
+axes-read = AxesLaws.axes-read
+
+-- row i of the bytes is the image of operation i's axis
+pub axes-row : (h : Header) (nodes ops rows scratch pool : List ℕ) (limit : ℕ) (x : Axes) (i : ℕ) → axesStep h nodes ops rows scratch pool limit .answer ≡ fine x → i < h .operations
+    → take (h .qubits + 1) (drop (i * (h .qubits + 1)) (axesStep h nodes ops rows scratch pool limit .rows))
+    ≡ rowBytes (image (h .qubits) (h .nodes) nodes (weighedOf (opAt h ops i) .word))
+axes-row = AxesLaws.axes-row
+
+-- with bytes enough it answers the report's work, and is refused where the report is, with the same refusal
+pub axes-work : (h : Header) (nodes ops rows scratch pool : List ℕ) (limit : ℕ) → axesSize h ≤ length rows
+    → bind (axesStep h nodes ops rows scratch pool limit .answer) (λ x. fine (x .work)) ≡ bind (reportStep h nodes ops scratch pool limit .answer) (λ x. fine (x .work))
+axes-work = AxesLaws.axes-work
+
 -- what a caller gets of these: the phase of the image, the reference itself as an axis, and the two largest weights
 pub expand-answers : (h : Header) (nodes letters scratch pool : List ℕ) (r : PauliRef) (cells : ℕ) (phase : Phase) (work : ℕ)
     → expansionOf (expandStep h nodes letters scratch pool r cells .answer) ≡ ExpansionMade phase work
@@ -267,6 +285,11 @@ pub report-answers : (h : Header) (nodes ops scratch pool : List ℕ) (limit a b
     largest axes (map (λ w. weight (image (h .qubits) (h .nodes) nodes w .letters)) (wordsOf axes)) ≡ record { nonClifford = a; clifford = b }
 report-answers = Readers.report-answers
 
+pub axes-answers : (h : Header) (nodes ops rows scratch pool : List ℕ) (limit work : ℕ) → expandedAxesOf (axesStep h nodes ops rows scratch pool limit .answer) ≡ AxesMade work
+    → axesStep h nodes ops rows scratch pool limit .rows
+    ≡ axesBytes (map (image (h .qubits) (h .nodes) nodes) (wordsOf (axesTo (opAt h ops) (h .operations)))) ++ drop (axesSize h) rows
+axes-answers = AxesLaws.axes-answers
+
 -- 3 is answered for a bad store alone
 pub expand-bad : (h : Header) (nodes letters scratch pool : List ℕ) (r : PauliRef) (cells : ℕ) → expandStep h nodes letters scratch pool r cells .answer ≡ refused BadStore
     → badNodes h nodes ≡ true
@@ -279,6 +302,10 @@ hermitian-bad = Readers.hermitian-bad
 pub report-bad : (h : Header) (nodes ops scratch pool : List ℕ) (limit : ℕ) → reportStep h nodes ops scratch pool limit .answer ≡ refused BadStore
     → (badNodes h nodes || badOperations h ops) ≡ true
 report-bad = Readers.report-bad
+
+pub axes-bad : (h : Header) (nodes ops rows scratch pool : List ℕ) (limit : ℕ) → axesStep h nodes ops rows scratch pool limit .answer ≡ refused BadStore
+    → (badNodes h nodes || badOperations h ops) ≡ true
+axes-bad = AxesLaws.axes-bad
 
 -- ---- a charge is the walk's charge
 

@@ -1,4 +1,4 @@
--- Laws of the walk's code: its scratch words, its steps, and what src/materialize.rt, roots.rt, readers.rt and weights.rt do to them. From the bottom up.
+-- Laws of the walk's code: its scratch words, its steps, and what src/materialize.rt, roots.rt, readers.rt, weights.rt and axes.rt do to them. From the bottom up.
 pub mod Saying
 pub mod Scratch
 pub mod Counting
@@ -10,6 +10,7 @@ pub mod Runs
 pub mod Roots
 pub mod Readers
 pub mod Weights
+pub mod Axes
 pub mod Cells
 pub mod Records
 pub mod Holding

@@ -13,6 +13,7 @@ pub mod Bounds
 pub mod Reports
 pub mod Errors
 pub mod Readers
+pub mod Axes
 pub mod Charges
 pub mod Reached
 pub mod Work

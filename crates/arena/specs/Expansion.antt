@@ -1,11 +1,12 @@
--- What the three readers answer, and what they leave in the letters, the scratch words and the pool: for acceptance and every refusal.
+-- What the four readers answer, and what they leave in the letters or rows, the scratch words and the pool: for acceptance and every refusal.
 use mathlib.Core.Bool.{Bool, true, false, _||_}
 use mathlib.Core.List.{List, [], _∷_, _++_, map}
 use Prim.Native.Nat.{ℕ, zero, suc, _+_, _-_, _*_, _%_}
 use lib.Dec.{ltb, eqb}
 use lib.ListN.{length, getD, replicate, drop}
-use Rattle.pauli.specs.Letters.{pauliNumber}
+use Rattle.pauli.specs.Letters.{pauliNumber, phaseNumber}
 use Rattle.pauli.specs.Angle.{eighthsOf}
+use Rattle.pauli.specs.Rows.{Row}
 use Rattle.arena.specs.Limits.{operationWords, capOf}
 use Rattle.arena.specs.Errors.{BadStore, ForeignPauli, NoScratch, Checked, Fine, Wrong, _⟫_⇒_}
 use Rattle.arena.specs.References.{PauliRef, axisOf}
@@ -13,10 +14,11 @@ use Rattle.arena.specs.Nodes.{PauliNode, Identity, Single, Product, Malf
 use Rattle.arena.specs.Operations.{PbcOp, Rotate, Measure, ConditionalRotate, decodeOp, Malformed as MalformedOp, Source, OfGate, ByHand, NoSource, sourceOf}
 use Rattle.arena.specs.Store.{Header, breaksLimit, exceedsNodes, exceedsOperations, foreign, unknown}
 use Rattle.arena.specs.Walk.{Out, fine, refused}
-use Rattle.arena.specs.Readers.{Expanded, expandWalk, hermitianWalk, Weighed, Report, reportWalk}
+use Rattle.arena.specs.Readers.{Expanded, expandWalk, hermitianWalk, Weighed, wordsOf, Report, reportWalk, Axes, axesWalk}
 pub use Rattle.arena.specs.declared.expansion.Expansion.the-variants.{the-data as Expansion, Made as ExpansionMade, Refused as ExpansionRefused}
 pub use Rattle.arena.specs.declared.expansion.HermitianAxis.the-variants.{the-data as HermitianAxis, Made as HermitianMade, Refused as HermitianRefused}
 pub use Rattle.arena.specs.declared.expansion.MaxAxisWeights.the-variants.{the-data as MaxAxisWeights, Made as WeightsMade, Refused as WeightsRefused}
+pub use Rattle.arena.specs.declared.expansion.ExpandedAxes.the-variants.{the-data as ExpandedAxes, Made as AxesMade, Refused as AxesRefused}
 
 -- every counted record is zero, and the words after those are as they were
 abbrev pub cleared : List ℕ → List ℕ
@@ -36,6 +38,10 @@ hermitianOf r (refused e) = HermitianRefused e
 abbrev pub maxWeightsOf : Out Report → MaxAxisWeights
 maxWeightsOf (fine x) = WeightsMade (x .weights .nonClifford) (x .weights .clifford) (x .work)
 maxWeightsOf (refused e) = WeightsRefused e
+
+abbrev pub expandedAxesOf : Out Axes → ExpandedAxes
+expandedAxesOf (fine x) = AxesMade (x .work)
+expandedAxesOf (refused e) = AxesRefused e
 
 -- ---- 3 BadStore, for a walk: a used node is malformed
 
@@ -170,3 +176,44 @@ reportCheck h nodes ops scratch =
 unfoldable pub reportStep : Header → (nodes operations scratch pool : List ℕ) → (limit : ℕ) → WalkStep Report
 reportStep h nodes ops scratch pool limit =
     walkBy (reportCheck h nodes ops (length scratch)) (reportWalk limit (roomIn pool) (h .qubits) (h .nodes) nodes (axesTo (opAt h ops) (h .operations))) h scratch pool
+
+-- ---- expand_axes: 3, 16, then the report's walk; row i is the axis of operation i
+
+-- a letter byte for each qubit, then the phase
+abbrev pub rowBytes : Row → List ℕ
+rowBytes P = map pauliNumber (P .letters) ++ (phaseNumber (P .phase) ∷ [])
+
+abbrev pub axesBytes : List Row → List ℕ
+axesBytes [] = []
+axesBytes (P ∷ Ps) = rowBytes P ++ axesBytes Ps
+
+-- the bytes of all rows
+abbrev pub axesSize : Header → ℕ
+axesSize h = h .operations * (h .qubits + 1)
+
+pub record AxesStep : Type 0 where
+  pub answer : Out Axes
+  pub rows : List ℕ
+  pub scratch : List ℕ
+  pub pool : List ℕ
+
+unfoldable pub axesCheck : Header → (nodes operations : List ℕ) → (rows scratch : ℕ) → Checked
+axesCheck h nodes ops rows scratch =
+    Fine
+    ⟫ badNodes h nodes || badOperations h ops ⇒ BadStore
+    ⟫ ltb scratch (4 * h .nodes) || ltb rows (axesSize h) ⇒ NoScratch
+
+-- the first k bytes: the rows of an accepted walk, else zero
+abbrev pub rowsMade : Out Axes → (k : ℕ) → List ℕ
+rowsMade (fine x) k = axesBytes (x .rows)
+rowsMade (refused e) k = replicate k 0
+
+abbrev pub axesBy : Checked → Out Axes → Header → (rows scratch pool : List ℕ) → AxesStep
+axesBy Fine o h rows scratch pool =
+    record { answer = o; rows = rowsMade o (axesSize h) ++ drop (axesSize h) rows; scratch = scratchLeft h scratch; pool = cleared pool }
+axesBy (Wrong e) o h rows scratch pool = record { answer = refused e; rows = rows; scratch = scratch; pool = pool }
+
+unfoldable pub axesStep : Header → (nodes operations rows scratch pool : List ℕ) → (limit : ℕ) → AxesStep
+axesStep h nodes ops rows scratch pool limit =
+    axesBy (axesCheck h nodes ops (length rows) (length scratch))
+    (axesWalk limit (roomIn pool) (h .qubits) (h .nodes) nodes (wordsOf (axesTo (opAt h ops) (h .operations)))) h rows scratch pool

@@ -1,4 +1,4 @@
--- What expand, hermitian_axis and the weight report make of a walk; the checks before it are not here.
+-- What expand, hermitian_axis, the weight report and expand_axes make of a walk; the checks before it are not here.
 use mathlib.Core.Bool.{Bool, true, false, cond}
 use mathlib.Core.List.{List, [], _∷_, map}
 use Prim.Native.Nat.{ℕ, _-_, max}
@@ -62,3 +62,13 @@ wordsOf xs = map (λ x. x .word) xs
 unfoldable pub reportWalk : (limit room n count : ℕ) → (words : List ℕ) → (axes : List Weighed) → Out Report
 reportWalk limit room n count words axes =
     bind (walk limit room n count words (wordsOf axes)) (λ a. fine (record { weights = largest axes (map size (a .shown)); work = a .work }))
+
+-- ---- expand_axes: the roots as rows, in the same walk
+
+pub record Axes : Type 0 where
+  pub rows : List Row
+  pub work : ℕ
+
+unfoldable pub axesWalk : (limit room n count : ℕ) → (words roots : List ℕ) → Out Axes
+axesWalk limit room n count words roots =
+    bind (walk limit room n count words roots) (λ a. fine (record { rows = map (dense n) (a .shown); work = a .work }))

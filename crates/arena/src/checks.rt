@@ -16,7 +16,7 @@ use pauli::Pauli;
 ghost use mathlib.Core.Path.{_≡_};
 ghost use Rattle.arena.specs.Store.{targetBit, targetOutside};
 ghost use Rattle.arena.specs.Builder.{nodesFor, newCheck, singleCheck, productCheck, rotateCheck, measureCheck, conditionalCheck};
-ghost use Rattle.arena.specs.Expansion.{expandCheck, hermitianCheck, reportCheck};
+ghost use Rattle.arena.specs.Expansion.{expandCheck, hermitianCheck, reportCheck, axesSize, axesCheck};
 
 // The nodes that a letter adds.
 pub(crate) fn nodes_for(pauli: Pauli) -> u32
@@ -208,4 +208,31 @@ pub(crate) fn check_report(
             PbcError::BadStore,
         )
         .refuse_if(scratch < 4 * (header.nodes as usize), PbcError::NoScratch)
+}
+
+// The bytes of the rows of all operations.
+pub(crate) fn axes_size(header: Header) -> usize
+    ensures { λ r. ⌜ r ≡ axesSize header ⌝ }
+{
+    (header.operations as usize) * (header.qubits as usize + 1)
+}
+
+pub(crate) fn check_axes(
+    header: Header,
+    nodes: &[u32],
+    operations: &[u32],
+    rows: usize,
+    scratch: usize,
+) -> Checked
+    ensures { λ r. ⌜ r ≡ axesCheck header (now (nodes .entry)) (now (operations .entry)) rows scratch ⌝ }
+{
+    Checked::Fine
+        .refuse_if(
+            bad_nodes(header, nodes) | bad_operations(header, operations),
+            PbcError::BadStore,
+        )
+        .refuse_if(
+            (scratch < 4 * (header.nodes as usize)) | (rows < axes_size(header)),
+            PbcError::NoScratch,
+        )
 }

@@ -21,3 +21,9 @@ pub enum MaxAxisWeights {
     Made(usize, usize, usize),
     Refused(PbcError),
 }
+
+/// What `expand_axes` answers: the work. The rows stand in the lent bytes.
+pub enum ExpandedAxes {
+    Made(usize),
+    Refused(PbcError),
+}

@@ -1,6 +1,7 @@
 //! The arena of a Pauli-based circuit: a header by value, and nodes, operations and frame words in slices that the caller lends.
 //! Every call answers an enum: what it made, or a refusal of document 01. A refusal leaves every slice as it was.
 
+mod axes;
 mod builder;
 mod checks;
 mod error;
@@ -29,6 +30,7 @@ pub use builder::start_frame;
 pub use error::Checked;
 pub use error::PbcError;
 pub use error::Refusal;
+pub use expansion::ExpandedAxes;
 pub use expansion::Expansion;
 pub use expansion::HermitianAxis;
 pub use expansion::MaxAxisWeights;

@@ -32,7 +32,7 @@ ghost use Rattle.arena.specs.Code.Roots.{Fit, weighedAt, axesOf, AxesNam
 ghost use Rattle.arena.specs.Limits.{capOf};
 
 // One use for the axis of each operation.
-fn count_axes(header: Header, operations: &[u32], s: &mut [u32])
+pub(crate) fn count_axes(header: Header, operations: &[u32], s: &mut [u32])
     requires { ⌜ Countable header (now operations) (now s) ⌝ }
     ensures { λ _. ⌜ AxesCounted header (now (operations .entry)) (now (s .exit)) ⌝ }
 {

@@ -1,20 +1,21 @@
 -- What is known of a conversion, or of a frame gate, that no check refused.
 use mathlib.Core.Path.{_≡_, refl, ap, sym}
 use mathlib.Core.Logic.{_≢_, Ne·symm}
-use mathlib.Core.Bool.{false, not, _||_, _&&_}
+use mathlib.Core.Bool.{Bool, true, false, not, _||_, _&&_}
 use mathlib.Core.List.{List, [], _∷_, _++_}
-use Prim.Native.Nat.{ℕ, suc, _*_, _/_, _%_, _≤_, _<_}
-use borrow.Author.Tests.{ltb-false, leb-false, eqb-false}
+use Prim.Native.Nat.{ℕ, zero, suc, _*_, _/_, _%_, _≤_, _<_}
+use native.Mathlib.Omega.{arith}
+use borrow.Author.Tests.{ltb-true, ltb-false, leb-false, eqb-false}
 use lib.Dec.{ltb, leb, eqb}
-use lib.ListN.{length, take}
+use lib.ListN.{length, getD, take}
 use Rattle.pauli.specs.Gates.{AllValid}
 use Rattle.arena.specs.Limits.{nodeWords, operationWords}
 use Rattle.arena.specs.Store.{breaksLimit, exceedsNodes}
 use Rattle.arena.proofs.Accepted.{passed-before, test-passed, left-false, right-false, sound, NodeRoom, node-room}
 use Rattle.convert.specs.Types.{Header, Checked, Fine}
-use Rattle.convert.specs.Records.{GateKind, KindH, KindX, KindZ, KindS, KindSdg, KindT, KindTdg, KindCnot, KindCz, KindCcx, KindCcz, KindMeasure, KindY, KindSx, KindSwap, KindCy, Unsupported, Record, records, kindOf, Elementary, lowerAs, lower, placedFrom, lowerFrom, lowerAll, bare, AllProper}
+use Rattle.convert.specs.Records.{GateKind, KindH, KindX, KindZ, KindS, KindSdg, KindT, KindTdg, KindCnot, KindCz, KindCcx, KindCcz, KindMeasure, KindY, KindSx, KindSwap, KindCy, Unsupported, Record, records, kinds, kindOf, Elementary, lowerAs, lower, placedFrom, lowerFrom, lowerAll, bare, AllProper}
 use Rattle.convert.specs.Frame.{qubitsOf, member, operandsChecked, gateNodes, total, frameGates, namesUnused, cliffordCheck}
-use Rattle.convert.specs.Conversion.{Limits, Input, isMeasure, recordChecked, recordsChecked, gatesIn, capTooSmall, wordEnd, gatesCheck, convertCheck, gatesChecked, roomChecked}
+use Rattle.convert.specs.Conversion.{Limits, Input, isUnsupported, isMeasure, recordChecked, recordsChecked, gatesIn, capTooSmall, wordEnd, gatesCheck, convertCheck, gatesChecked, roomChecked}
 use Rattle.convert.proofs.meaning.Words.{map-append}
 
 -- ---- operands
@@ -98,6 +99,31 @@ proper-records k n cbits i (r ∷ rs) e =
   where
     here : recordChecked k n cbits i r ≡ Fine
     here = passed-records _ n cbits (suc i) rs e
+
+-- the kinds are in the list
+abbrev pub AllKnown : List Record → Type 0
+AllKnown [] = Unit {0}
+AllKnown (r ∷ rs) = (r .kind < 21) × AllKnown rs
+
+past-end : {A : Type 0} (xs : List A) (j : ℕ) (d : A) → length xs ≤ j → getD xs j d ≡ d
+past-end [] j d h = refl
+past-end (x ∷ xs) zero d h = absurd (omega arith)
+past-end (x ∷ xs) (suc j) d h = past-end xs j d (omega arith)
+
+kind-known : (j : ℕ) (b : Bool) → ltb j 21 ≡ b → isUnsupported (kindOf j) ≡ false → j < 21
+unfolding kindOf
+kind-known j true h e = ltb-true j 21 h
+kind-known j false h e = absurd (differ (rw (past-end kinds j Unsupported (ltb-false j 21 h)) at e))
+  where
+    differ : true ≡ false → ⊥
+    differ e = let z : _≡_ {A = ℕ} 0 1 = cc in omega arith
+
+pub known-records : (k : Checked) (n cbits i : ℕ) (rs : List Record) → recordsChecked k n cbits i rs ≡ Fine → AllKnown rs
+unfolding recordsChecked recordChecked
+known-records k n cbits i [] e = tt
+known-records k n cbits i (r ∷ rs) e =
+    let here = passed-operands _ n i [] (qubitsOf (kindOf (r .kind)) (r .a) (r .b) (r .c)) (passed-before _ _ _ (passed-records _ n cbits (suc i) rs e)) in
+    (kind-known (r .kind) (ltb (r .kind) 21) refl (test-passed _ _ _ here), known-records _ n cbits (suc i) rs e)
 
 -- ---- an accepted conversion
 

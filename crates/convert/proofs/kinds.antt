@@ -1,4 +1,6 @@
--- Laws of the kinds of gates: matches over them, numbers outside the list, and the checks of their operands.
+-- Laws of the kinds of gates: matches over them, numbers outside the list, tables by number, the checks of their operands, and the bits of their forms.
 pub mod Arms
 pub mod Unlisted
+pub mod Entries
 pub mod Checks
+pub mod Forms

@@ -2,3 +2,4 @@
 pub mod RawPlanes
 pub mod Needs
 pub mod Raw
+pub mod Tables

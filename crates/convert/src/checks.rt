@@ -3,6 +3,8 @@
 use crate::cap::Cap;
 use crate::gate::GateKind;
 use crate::gate::Shape;
+use crate::gate::number_at;
+use crate::gate::operand_at;
 use arena::Checked;
 use arena::Header;
 use arena::MAX_CBITS;
@@ -26,6 +28,7 @@ ghost use Rattle.convert.specs.Frame.{qubitsOf, operandsChecked, namesUn
 ghost use Rattle.convert.specs.Conversion.{recordChecked, recordsChecked, anyDoubly, capTooSmall, planesTooFew, gatesChecked, roomChecked, limits};
 ghost use Rattle.convert.specs.Planes.{partWords};
 ghost use Rattle.convert.specs.Code.Raw.{recordOf};
+ghost use Rattle.convert.specs.Code.Tables.{tableOf, boundOf, othersOf, Passes, AllPass};
 
 /// The most words of a gate list.
 pub const MAX_GATE_WORDS: usize = 4 * (MAX_GATES as usize);
@@ -85,39 +88,113 @@ fn check_record(
     )
 }
 
-// Whether a record passes its checks: known at once, with no branch that a processor has to guess. The shape is a number here, read from a
-// table: told apart by `has_shape`, the compiler makes a jump of it.
-fn is_sound(n: u32, cbits: u32, number: u32, a: u32, b: u32, c: u32) -> bool
-    ensures { λ r. ⌜ (r ≡ true → ((checked : Checked) (i : ℕ) → recordChecked checked n cbits i (recordOf number a b c) ≡ checked)) ⌝ }
+// What the second operand of each kind stays below. Tables are lent, so that no read copies one.
+fn bounds(n: u64, cbits: u64) -> [u64; 21]
+    ensures { λ r. ⌜ r ≡ tableOf (boundOf n cbits) ⌝ }
 {
-    let shape = GateKind::of(number).shape().number();
-    let first = !(shape == 0) & (a < n);
-    let second = ((b < n) & !(b == a)) | !((shape == 2) | (shape == 3));
-    let third = ((c < n) & (!(c == a) & !(c == b))) | !(shape == 3);
-    let target = (b < cbits) | !(shape == 4);
-    (first & second) & (third & target)
+    let any: u64 = 4294967296;
+    [
+        any,
+        any,
+        any,
+        any,
+        any,
+        any,
+        any,
+        0,
+        n,
+        n,
+        n,
+        n,
+        cbits,
+        0,
+        0,
+        any,
+        any,
+        0,
+        0,
+        n,
+        n,
+    ]
+}
+
+// The qubits of each kind past the first.
+fn others() -> [u64; 21]
+    ensures { λ r. ⌜ r ≡ tableOf othersOf ⌝ }
+{
+    [
+        0,
+        0,
+        0,
+        0,
+        0,
+        0,
+        0,
+        0,
+        1,
+        1,
+        2,
+        2,
+        0,
+        0,
+        0,
+        0,
+        0,
+        0,
+        0,
+        1,
+        1,
+    ]
+}
+
+// Whether a record passes its checks, by its kind's entries: no jump by kind, which a processor would have to guess.
+fn is_sound(n: usize, bound: u64, more: u64, a: usize, b: usize, c: usize) -> bool
+    ensures { λ r. ⌜ (r ≡ true → Passes n bound more a b c) ⌝ }
+{
+    if n <= a {
+        return false;
+    }
+    if bound <= (b as u64) {
+        return false;
+    }
+    if (0 < more) & (b == a) {
+        return false;
+    }
+    if more < 2 {
+        return true;
+    }
+    (c < n) & (!(c == a) & !(c == b))
+}
+
+// Whether every gate passes its checks, by the tables.
+fn sound_by(n: usize, limits: &[u64; 21], more: &[u64; 21], gates: &[u32]) -> bool
+    ensures { λ r. ⌜ (r ≡ true → AllPass n (now (limits .entry)) (now (more .entry)) (now (gates .entry))) ⌝ }
+{
+    let count = gates.len() / 4;
+    let mut i: usize = 0;
+    while i < count {
+        let number = number_at(gates, i);
+        if 20 < number {
+            return false;
+        }
+        let a = operand_at(gates, i, 1);
+        let b = operand_at(gates, i, 2);
+        let c = operand_at(gates, i, 3);
+        if !is_sound(n, limits[number], more[number], a, b, c) {
+            return false;
+        }
+        i += 1;
+    }
+    true
 }
 
 // Whether every gate passes its checks.
 fn all_sound(n: u32, cbits: u32, gates: &[u32]) -> bool
     ensures { λ r. ⌜ (r ≡ true → ((checked : Checked) → recordsChecked checked n cbits 0 (records (now (gates .entry))) ≡ checked)) ⌝ }
 {
-    let count = gates.len() / 4;
-    let mut sound = true;
-    let mut i: usize = 0;
-    while i < count {
-        let here = is_sound(
-            n,
-            cbits,
-            gates[4 * i],
-            gates[4 * i + 1],
-            gates[4 * i + 2],
-            gates[4 * i + 3],
-        );
-        sound = sound & here;
-        i += 1;
-    }
-    sound
+    let limits = bounds(n as u64, cbits as u64);
+    let more = others();
+    sound_by(n as usize, &limits, &more, gates)
 }
 
 // Every gate of the list, the first faulty one deciding. Where none is faulty, that is seen faster.

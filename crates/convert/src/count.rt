@@ -3,20 +3,23 @@
 use crate::cap::Cap;
 use crate::gate::GateKind;
 use crate::gate::kind_at;
+use crate::gate::number_at;
 use crate::gate::operand_at;
 use crate::planes::heavy;
 use crate::planes::plane_record;
+use crate::planes::planes_by;
 use crate::planes::reset;
 ghost use mathlib.Core.Path.{_≡_};
 ghost use mathlib.Core.Bool.{true};
-ghost use Prim.Native.Nat.{_+_, _*_, _/_, _<_, _≤_};
-ghost use lib.ListN.{length};
+ghost use Prim.Native.Nat.{ℕ, _+_, _*_, _/_, _<_, _≤_};
+ghost use lib.ListN.{length, getD};
 ghost use Rattle.pauli.specs.Table.{start};
-ghost use Rattle.convert.specs.Records.{AtMost, lowerAs, AllProper, records};
+ghost use Rattle.convert.specs.Records.{GateKind, AtMost, lowerAs, AllProper, records};
 ghost use Rattle.arena.specs.Limits.{maxQubits};
 ghost use Rattle.convert.specs.Conversion.{maxGateWords};
 ghost use Rattle.convert.specs.Planes.{partWords};
-ghost use Rattle.convert.specs.Code.Raw.{needed, costOf, costs, isCapped, refreshed, summed, planesFor, Decided, Fits, countFor, plainLast, needsLast};
+ghost use Rattle.convert.specs.Code.Raw.{needed, costOf, costs, isCapped, refreshed, mayFlush, mostNeeded, planesFor, Decided, Fits, countFor, plainLast, needsLast};
+ghost use Rattle.convert.specs.Code.Tables.{tableOf, packedCost, sumOver, formOf};
 
 /// Nodes and operations; and those that a flush of the pending gates writes, its joint nodes and its rotations.
 pub struct Needed {
@@ -112,12 +115,39 @@ fn decide_under(
     flushed
 }
 
+// Under a cap, by the record's form: no jump.
+fn tested_by(
+    planes: &mut [u64],
+    n: usize,
+    l: usize,
+    most: u32,
+    form: u64,
+    kind: GateKind,
+    a: usize,
+    b: usize,
+    d: usize,
+) -> bool
+    requires { ⌜ AllProper n (b + 1) (lowerAs kind a b d) ⌝ }
+    requires { ⌜ (l ≡ partWords n) × ((n + n) * (l + l) ≤ length (now planes)) × (n ≤ maxQubits) ⌝ }
+    requires { ⌜ form ≡ formOf kind ⌝ }
+    ensures { λ r. ⌜ Decided n (AtMost most) kind a b d (now (planes .entry)) r (now (planes .exit)) ⌝ }
+{
+    if form & 7200 == 0 {
+        planes_by(planes, n, l, form, kind, a, b);
+        return false;
+    }
+    let flushed = heavy(planes, n, l, most, kind, a, b, d);
+    refresh(planes, n, l, flushed);
+    flushed
+}
+
 // The same with a cap or none.
-pub(crate) fn decide(
+pub(crate) fn decide_by(
     planes: &mut [u64],
     n: usize,
     l: usize,
     cap: Cap,
+    form: u64,
     kind: GateKind,
     a: usize,
     b: usize,
@@ -125,11 +155,12 @@ pub(crate) fn decide(
 ) -> bool
     requires { ⌜ AllProper n (b + 1) (lowerAs kind a b d) ⌝ }
     requires { ⌜ (l ≡ partWords n) × (isCapped cap ≡ true → (n + n) * (l + l) ≤ length (now planes)) × (n ≤ maxQubits) ⌝ }
+    requires { ⌜ form ≡ formOf kind ⌝ }
     ensures { λ r. ⌜ Decided n cap kind a b d (now (planes .entry)) r (now (planes .exit)) ⌝ }
 {
     match cap {
         Cap::None => false,
-        Cap::AtMost(most) => decide_under(planes, n, l, most, kind, a, b, d),
+        Cap::AtMost(most) => tested_by(planes, n, l, most, form, kind, a, b, d),
     }
 }
 
@@ -151,19 +182,96 @@ fn first(n: usize) -> Needed
     of(1 + 2 * (n as u32), 0, 0, 0)
 }
 
-// The most that the conversion can need: under a cap, as if all gates were pending at the end and then flushed. Without one it is what it needs.
-pub(crate) fn sum_records(n: usize, cap: Cap, gates: &[u32]) -> Needed
-    requires { ⌜ (n ≤ maxQubits) × (length (now gates) ≤ maxGateWords) ⌝ }
-    ensures { λ r. ⌜ r ≡ costs (isCapped cap) (summed (needed (1 + 2 * n) 0 0 0) (records (now (gates .entry)))) (needed 0 0 0 0) ⌝ }
+// What each kind needs, nodes in the low 32 bits and operations above; with what it adds to a flush, or without.
+fn packed_costs(flushed: bool) -> [u64; 21]
+    ensures { λ r. ⌜ r ≡ tableOf (packedCost flushed) ⌝ }
+{
+    if flushed {
+        return [
+            12884901888,
+            4294967296,
+            4294967296,
+            4294967297,
+            4294967297,
+            4294967296,
+            4294967296,
+            0,
+            12884901891,
+            12884901891,
+            30064771076,
+            30064771076,
+            4294967296,
+            0,
+            0,
+            8589934592,
+            30064771073,
+            0,
+            0,
+            38654705673,
+            21474836485,
+        ];
+    }
+    [
+        0,
+        0,
+        0,
+        1,
+        1,
+        4294967296,
+        4294967296,
+        0,
+        2,
+        2,
+        30064771076,
+        30064771076,
+        4294967296,
+        0,
+        0,
+        0,
+        1,
+        0,
+        0,
+        6,
+        4,
+    ]
+}
+
+// The sum of what the records need.
+fn sum_by(n: usize, costs: &[u64; 21], gates: &[u32]) -> u64
+    requires { ⌜ Fits n (now gates) ⌝ }
+    requires { ⌜ (n ≤ maxQubits) × (length (now gates) ≤ maxGateWords) × ((j : ℕ) → getD (now costs) j 0 ≤ 137438953472) ⌝ }
+    ensures { λ r. ⌜ ((f : GateKind → ℕ) → now (costs .entry) ≡ tableOf f → r ≡ 1 + 2 * n + sumOver f (records (now (gates .entry)))) ⌝ }
 {
     let count = gates.len() / 4;
-    let mut k = first(n);
+    let mut k: u64 = 1 + 2 * (n as u64);
     let mut i: usize = 0;
     while i < count {
-        k = add(false, k, cost_of(kind_at(gates, i)));
+        k += costs[number_at(gates, i)];
         i += 1;
     }
-    add(cap.is_capped(), k, of(0, 0, 0, 0))
+    k
+}
+
+// No row weighs more than n: a flush comes only under a smaller cap.
+fn may_flush(n: usize, cap: Cap) -> bool
+    ensures { λ r. ⌜ r ≡ mayFlush n cap ⌝ }
+{
+    match cap {
+        Cap::None => false,
+        Cap::AtMost(most) => (most as usize) < n,
+    }
+}
+
+// The most that the conversion can need: where a flush may come, as if all gates were pending at the end and then flushed. Where none can, it is
+// what it needs.
+pub(crate) fn sum_records(n: usize, cap: Cap, gates: &[u32]) -> Needed
+    requires { ⌜ Fits n (now gates) ⌝ }
+    requires { ⌜ (n ≤ maxQubits) × (length (now gates) ≤ maxGateWords) ⌝ }
+    ensures { λ r. ⌜ r ≡ mostNeeded n (mayFlush n cap) (now (gates .entry)) ⌝ }
+{
+    let costs = packed_costs(may_flush(n, cap));
+    let k = sum_by(n, &costs, gates);
+    of((k % 4294967296) as u32, (k / 4294967296) as u32, 0, 0)
 }
 
 // What the conversion needs under a cap. The planes afterwards are those of its end.

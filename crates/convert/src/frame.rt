@@ -1,6 +1,8 @@
 //! Frame gates on node words and frame words, from frame.rs and mod.rs. The count of nodes goes by value.
 
 use crate::checks::check_clifford;
+use crate::form::place_if;
+use crate::form::word_if;
 use crate::gate::GateKind;
 use arena::Checked;
 use arena::Header;
@@ -16,6 +18,7 @@ ghost use Rattle.arena.specs.Nodes.{productWord};
 ghost use Rattle.convert.specs.Types.{MinusOne};
 ghost use Rattle.convert.specs.Frame.{frameGates, cliffordStep};
 ghost use Rattle.convert.specs.Code.Raw.{maxWord, ProductPut, FrameReady, Ran, recordGates};
+ghost use Rattle.convert.specs.Code.Tables.{formOf, pairGate, phaseGate, moveGate};
 
 // Phases by number, as a reference's word has them.
 const ONE: u32 = 0;
@@ -246,4 +249,95 @@ pub(crate) fn frame_record(
         GateKind::Cy => gate_cy(count, nodes, frame, n, a, b),
         _ => count,
     }
+}
+
+// ---- by forms: one function for gates that differ in a place or a word
+
+// cz or cnot: with cz the z image of t stands for its x image, and back.
+fn gate_pair(
+    count: u32,
+    nodes: &mut [u32],
+    frame: &mut [u32],
+    n: usize,
+    cz: bool,
+    c: usize,
+    t: usize,
+) -> u32
+    requires { ⌜ FrameReady n (pairGate cz c t ∷ []) count (now nodes) (now frame) ⌝ }
+    ensures { λ r. ⌜ Ran n (pairGate cz c t ∷ []) count (now (nodes .entry)) (now (frame .entry)) r (now (nodes .exit)) (now (frame .exit)) ⌝ }
+{
+    let right = place_if(cz, n + t, t);
+    let other = place_if(cz, t, n + t);
+    let next = multiply(count, nodes, frame, c, c, right, ONE);
+    multiply(next, nodes, frame, other, n + c, other, ONE)
+}
+
+// sdg or s.
+fn gate_phase(
+    count: u32,
+    nodes: &mut [u32],
+    frame: &mut [u32],
+    n: usize,
+    dagger: bool,
+    q: usize,
+) -> u32
+    requires { ⌜ FrameReady n (phaseGate dagger q ∷ []) count (now nodes) (now frame) ⌝ }
+    ensures { λ r. ⌜ Ran n (phaseGate dagger q ∷ []) count (now (nodes .entry)) (now (frame .entry)) r (now (nodes .exit)) (now (frame .exit)) ⌝ }
+{
+    let phase = word_if(dagger, PLUS_I, MINUS_I);
+    multiply(count, nodes, frame, q, q, n + q, phase)
+}
+
+// h, x or z: the images change places, or one changes its sign.
+fn move_images(
+    count: u32,
+    nodes: &mut [u32],
+    frame: &mut [u32],
+    n: usize,
+    h: bool,
+    x: bool,
+    q: usize,
+) -> u32
+    requires { ⌜ FrameReady n (moveGate h x q ∷ []) count (now nodes) (now frame) ⌝ }
+    ensures { λ r. ⌜ Ran n (moveGate h x q ∷ []) count (now (nodes .entry)) (now (frame .entry)) r (now (nodes .exit)) (now (frame .exit)) ⌝ }
+{
+    let v = frame[q];
+    let w = frame[n + q];
+    let v1 = word_if(x, v, minus(v));
+    let w1 = word_if(x, minus(w), w);
+    let v2 = word_if(h, w, v1);
+    let w2 = word_if(h, v, w1);
+    frame[q] = v2;
+    frame[n + q] = w2;
+    count
+}
+
+// The frame gates of a record, by its form.
+pub(crate) fn frame_by(
+    count: u32,
+    nodes: &mut [u32],
+    frame: &mut [u32],
+    n: usize,
+    form: u64,
+    kind: GateKind,
+    a: usize,
+    b: usize,
+) -> u32
+    requires { ⌜ FrameReady n (recordGates kind a b) count (now nodes) (now frame) ⌝ }
+    requires { ⌜ form ≡ formOf kind ⌝ }
+    ensures { λ r. ⌜ Ran n (recordGates kind a b) count (now (nodes .entry)) (now (frame .entry)) r (now (nodes .exit)) (now (frame .exit)) ⌝ }
+{
+    if form & 7200 != 0 {
+        return count;
+    }
+    if form & 768 != 0 {
+        return gate_pair(count, nodes, frame, n, form & 512 != 0, a, b);
+    }
+    if form & 24 != 0 {
+        return gate_phase(count, nodes, frame, n, form & 16 != 0, a);
+    }
+    if form & 7 != 0 {
+        return move_images(count, nodes, frame, n, form & 1 != 0, form & 2 != 0, a);
+    }
+    frame_record(count, nodes, frame, n, kind, a, b)
 }

@@ -159,6 +159,14 @@ pub(crate) fn kind_at(gates: &[u32], i: usize) -> GateKind
     GateKind::of(gates[4 * i])
 }
 
+// The number of the kind of record i.
+pub(crate) fn number_at(gates: &[u32], i: usize) -> usize
+    requires { ⌜ i < length (now gates) / 4 ⌝ }
+    ensures { λ r. ⌜ r ≡ getD (now (gates .entry)) (4 * i) 0 ⌝ }
+{
+    wide(gates[4 * i])
+}
+
 // Operand j of record i, from 1 on.
 pub(crate) fn operand_at(gates: &[u32], i: usize, j: usize) -> usize
     requires { ⌜ (i < length (now gates) / 4) × (j < 4) ⌝ }

@@ -5,6 +5,7 @@ mod checks;
 mod convert;
 mod count;
 mod flush;
+mod form;
 mod frame;
 mod gate;
 mod later;

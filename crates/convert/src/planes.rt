@@ -12,6 +12,7 @@ ghost use Rattle.convert.specs.Records.{AtMost, lowerAs, AllProper};
 ghost use Rattle.arena.specs.Limits.{maxQubits};
 ghost use Rattle.convert.specs.Planes.{partWords, packed};
 ghost use Rattle.convert.specs.Code.Raw.{recordGates, anyExceeds};
+ghost use Rattle.convert.specs.Code.Tables.{formOf};
 ghost use Rattle.convert.specs.Code.RawPlanes.{Wide, planeRun, xorTo, swapTo, weightTo, picked, joined, planeStep, planeReset, clearTo, sevenAbove};
 
 fn xor_into(planes: &mut [u64], l: usize, i: usize, j: usize)
@@ -245,4 +246,41 @@ pub(crate) fn plane_record(
         }
         _ => {}
     }
+}
+
+// The same by its form: no jump.
+pub(crate) fn planes_by(
+    planes: &mut [u64],
+    n: usize,
+    l: usize,
+    form: u64,
+    kind: GateKind,
+    a: usize,
+    b: usize,
+)
+    requires { ⌜ AllValid n (recordGates kind a b) ⌝ }
+    requires { ⌜ ((n + n) * (l + l) ≤ length (now planes)) × (n ≤ maxQubits) ⌝ }
+    requires { ⌜ form ≡ formOf kind ⌝ }
+    ensures { λ _. ⌜ now (planes .exit) ≡ planeRun l (recordGates kind a b) (now (planes .entry)) ⌝ }
+{
+    if form & 256 != 0 {
+        plane_cnot(planes, n, l, a, b);
+        return;
+    }
+    if form & 512 != 0 {
+        plane_cz(planes, n, l, a, b);
+        return;
+    }
+    if form & 1 != 0 {
+        plane_h(planes, n, l, a);
+        return;
+    }
+    if form & 24 != 0 {
+        plane_s(planes, n, l, a);
+        return;
+    }
+    if form & 6 != 0 {
+        return;
+    }
+    plane_record(planes, n, l, kind, a, b);
 }

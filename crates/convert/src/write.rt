@@ -1,17 +1,21 @@
 //! The writing pass: what each record writes, once the needs are known to fit.
 
 use crate::cap::Cap;
-use crate::count::decide;
+use crate::count::decide_by;
 use crate::count::prepare;
 use crate::flush::Used;
 use crate::flush::flush_records;
 use crate::flush::made;
 use crate::flush::put_rotation;
-use crate::frame::frame_record;
+use crate::form::forms;
+use crate::form::place_if;
+use crate::form::word_if;
+use crate::frame::frame_by;
 use crate::frame::push;
 use crate::gate::GateKind;
 use crate::gate::Shape;
 use crate::gate::kind_at;
+use crate::gate::number_at;
 use crate::gate::operand_at;
 use arena::put_operation;
 use arena::start_frame;
@@ -20,11 +24,12 @@ ghost use mathlib.Core.Bool.{true, cond};
 ghost use mathlib.Core.List.{[]};
 ghost use Prim.Native.Nat.{_+_, _*_, _/_, _<_, _≤_};
 ghost use lib.ListN.{length};
-ghost use Rattle.convert.specs.Code.Raw.{maxWord, writing, rowAt, subsetOf, subsetWord, putRows, putFour, putSeven, firstWord, lastPlace, putRecord, RecordReady};
+ghost use Rattle.convert.specs.Code.Raw.{maxWord, writing, rowAt, subsetOf, subsetWord, putRows, putFour, putSeven, putRecord, RecordReady};
 ghost use Rattle.convert.specs.Code.Raw.{FlushReady, FlushedIf, gatesOver, planesFor, isCapped, measuresOf, Fits, Room, wordsLast, plainLast};
+ghost use Rattle.convert.specs.Code.Tables.{formOf};
 ghost use Rattle.arena.specs.Limits.{maxQubits, maxCbits, maxNodes, maxOperations, nodeWords, operationWords};
 ghost use Rattle.arena.specs.Builder.{overlay, startNodes, startFrame};
-ghost use Rattle.convert.specs.Conversion.{maxGateWords, isMeasure};
+ghost use Rattle.convert.specs.Conversion.{maxGateWords};
 ghost use Rattle.convert.specs.Words.{flat};
 ghost use Rattle.convert.specs.Planes.{partWords};
 
@@ -115,54 +120,28 @@ fn put_seven(
     made(count, next)
 }
 
-// ---- t, tdg and measure: one operation each, by its words and with no jump
+// ---- what a record writes, by the bits of its form: no jump
 
-// Kind and angle in one: 4 × the eighths, and 1 for measure.
-fn first_word(kind: GateKind) -> u32
-    ensures { λ r. ⌜ r ≡ firstWord kind ⌝ }
+// Kind and angle in one, as the form has it above 32 bits.
+fn first_in(form: u64) -> u32
+    ensures { λ r. ⌜ r ≡ form / 4294967296 ⌝ }
 {
-    match kind {
-        GateKind::T => 4,
-        GateKind::Tdg => 28,
-        GateKind::Measure => 1,
-        _ => 0,
-    }
-}
-
-// The measurement's number, and 0 for a rotation.
-fn given_word(kind: GateKind, given: u32) -> u32
-    ensures { λ r. ⌜ r ≡ cond (isMeasure kind) given 0 ⌝ }
-{
-    match kind {
-        GateKind::Measure => given,
-        _ => 0,
-    }
+    (form / 4294967296) as u32
 }
 
 // The classical bit and 1, and 0 for a rotation.
-fn bit_word(kind: GateKind, bit: usize) -> u32
-    requires { ⌜ (isMeasure kind ≡ true → bit < maxCbits) ⌝ }
-    ensures { λ r. ⌜ r ≡ cond (isMeasure kind) (bit + 1) 0 ⌝ }
+fn bit_if(measured: bool, bit: usize) -> u32
+    requires { ⌜ (measured ≡ true → bit < maxCbits) ⌝ }
+    ensures { λ r. ⌜ r ≡ cond measured (bit + 1) 0 ⌝ }
 {
-    match kind {
-        GateKind::Measure => (bit as u32) + 1,
-        _ => 0,
+    if !measured {
+        return 0;
     }
+    (bit as u32) + 1
 }
 
-// Where the frame has the third operand: ccz its z, ccx its x.
-fn last_place(kind: GateKind, n: usize, d: usize) -> usize
-    requires { ⌜ (d < n) × (n ≤ maxQubits) ⌝ }
-    ensures { λ r. ⌜ r ≡ lastPlace kind n d ⌝ }
-{
-    if kind.tests() == 3 {
-        return n + d;
-    }
-    d
-}
-
-// What a record, of this index, writes that is no frame gate.
-fn write_record(
+// What a record, of this index, writes that is no frame gate, by its form.
+fn write_by(
     w: Used,
     given: u32,
     nodes: &mut [u32],
@@ -170,39 +149,42 @@ fn write_record(
     frame: &[u32],
     gate: u32,
     n: usize,
+    form: u64,
     kind: GateKind,
     a: usize,
     b: usize,
     d: usize,
 ) -> Used
     requires { ⌜ RecordReady n given kind a b d (w .nodes) (now nodes) (w .operations) (now operations) (now frame) ⌝ }
+    requires { ⌜ form ≡ formOf kind ⌝ }
     ensures { λ r. ⌜ writing (r .nodes) (now (nodes .exit)) (r .operations) (now (operations .exit))
         ≡ putRecord n given gate kind a b d (now (frame .entry)) (writing (w .nodes) (now (nodes .entry)) (w .operations) (now (operations .entry))) ⌝ }
 {
-    match kind {
-        GateKind::T | GateKind::Tdg | GateKind::Measure => {
-            put_operation(
-                operations,
-                w.operations,
-                first_word(kind),
-                frame[n + a],
-                given_word(kind, given),
-                bit_word(kind, b),
-                gate,
-            );
-            made(w.nodes, w.operations + 1)
-        }
-        GateKind::Ccx | GateKind::Ccz => put_seven(
-            w,
-            nodes,
-            operations,
-            frame[n + a],
-            frame[n + b],
-            frame[last_place(kind, n, d)],
-            gate,
-        ),
-        _ => w,
+    if form & 7200 == 0 {
+        return w;
     }
+    if form & 4128 != 0 {
+        let measured = form & 4096 != 0;
+        put_operation(
+            operations,
+            w.operations,
+            first_in(form),
+            frame[n + a],
+            word_if(measured, given, 0),
+            bit_if(measured, b),
+            gate,
+        );
+        return made(w.nodes, w.operations + 1);
+    }
+    put_seven(
+        w,
+        nodes,
+        operations,
+        frame[n + a],
+        frame[n + b],
+        frame[place_if(form & 2048 != 0, n + d, d)],
+        gate,
+    )
 }
 
 // The pending gates, of so many records from one on, are written; then the frame starts again.
@@ -282,6 +264,7 @@ pub(crate) fn write_records(
         × (length (wordsLast n cap (now (gates .entry)) .arena .frame) ≡ n + n) ⌝ }
 {
     prepare(planes, n, l, cap);
+    let table = forms();
     let count = gates.len() / 4;
     let mut w = made(1 + 2 * (n as u32), 0);
     let mut given: u32 = 0;
@@ -292,7 +275,9 @@ pub(crate) fn write_records(
         let a = operand_at(gates, i, 1);
         let b = operand_at(gates, i, 2);
         let d = operand_at(gates, i, 3);
-        let flushed = decide(planes, n, l, cap, kind, a, b, d);
+        let number = number_at(gates, i);
+        let form = table[number];
+        let flushed = decide_by(planes, n, l, cap, form, kind, a, b, d);
         let w1 = flush_if(
             flushed,
             w,
@@ -304,10 +289,23 @@ pub(crate) fn write_records(
             place,
             i - place,
         );
-        let c = frame_record(w1.nodes, nodes, frame, n, kind, a, b);
+        let c = frame_by(w1.nodes, nodes, frame, n, form, kind, a, b);
         let w2 = made(c, w1.operations);
         let gate = i as u32;
-        w = write_record(w2, given, nodes, operations, frame, gate, n, kind, a, b, d);
+        w = write_by(
+            w2,
+            given,
+            nodes,
+            operations,
+            frame,
+            gate,
+            n,
+            form,
+            kind,
+            a,
+            b,
+            d,
+        );
         given = given + measures(kind);
         place = later(flushed, i, place);
         i += 1;

@@ -1,9 +1,10 @@
 //! Runs the readers on circuits C, D, F, I and L of document 01, and on operations of each origin (E2 of document 02), at each edge and one past it,
 //! and prints the answers.
-//! crates/walks/stdout holds what it must print. After each answer stand the letters, and how many words of scratch and pool are zero from the front on:
-//! all are filled with 7 first.
+//! crates/walks/stdout holds what it must print. After each answer stand the letters or the rows, and how many words of scratch and pool are zero
+//! from the front on: all are filled with 7 first.
 
 use arena::Created;
+use arena::ExpandedAxes;
 use arena::Expansion;
 use arena::Header;
 use arena::HermitianAxis;
@@ -146,6 +147,40 @@ fn weights(
     text(b"\n");
 }
 
+fn rows_of(rows: &[u8]) {
+    text(b" rows");
+    let mut i = 0;
+    while i < rows.len() {
+        letter(rows[i]);
+        i += 1;
+    }
+}
+
+fn axes(
+    label: &[u8],
+    h: Header,
+    nodes: &[u32],
+    operations: &[u32],
+    rows: &mut [u8],
+    limit: usize,
+    pool: &mut [u32],
+) {
+    let mut scratch = [7u32; 45];
+    fill(pool);
+    text(label);
+    match h.expand_axes(nodes, operations, rows, &mut scratch, pool, limit) {
+        ExpandedAxes::Made(work) => {
+            text(b" ok");
+            number(work as u64);
+        }
+        ExpandedAxes::Refused(e) => refused(e),
+    }
+    rows_of(rows);
+    left(&scratch);
+    left(pool);
+    text(b"\n");
+}
+
 // ---- circuits: a call that is refused leaves the header as it was, and says so
 
 fn start(qubits: u32, nodes: &mut [u32], frame: &mut [u32]) -> Header {
@@ -207,6 +242,24 @@ fn circuit_l(h: Header, nodes: &[u32]) {
     axis(b"L at 6", h, nodes, 12, 6, &mut three);
     axis(b"L at 5", h, nodes, 12, 5, &mut three);
     axis(b"L, 2 records", h, nodes, 12, 6, &mut two);
+}
+
+// C and L as the axes of two operations: the reader of rows asks of no axis that it be Hermitian.
+fn axes_c(h: Header, nodes: &[u32]) {
+    let mut operations = [7u32; 10];
+    let mut three = [7u32; 10];
+    let mut rows = [7u8; 5];
+    let one = rotate(h, &mut operations, 15, 1);
+    let two = rotate(one, &mut operations, 12, 1);
+    axes(
+        b"C and L, axes at 8",
+        two,
+        nodes,
+        &operations,
+        &mut rows,
+        8,
+        &mut three,
+    );
 }
 
 fn circuit_d(h: Header, nodes: &[u32]) {
@@ -286,6 +339,50 @@ fn circuit_f(h: Header, nodes: &[u32], operations: &[u32]) {
     );
 }
 
+fn axes_f(h: Header, nodes: &[u32], operations: &[u32]) {
+    let mut seven = [7u32; 22];
+    let mut six = [7u32; 20];
+    let mut rows = [7u8; 29];
+    let mut again = [7u8; 29];
+    let mut short = [7u8; 27];
+    axes(
+        b"F, axes at 34",
+        h,
+        nodes,
+        operations,
+        &mut rows,
+        34,
+        &mut seven,
+    );
+    axes(
+        b"F, axes at 33",
+        h,
+        nodes,
+        operations,
+        &mut rows,
+        33,
+        &mut seven,
+    );
+    axes(
+        b"F, axes, 6 records",
+        h,
+        nodes,
+        operations,
+        &mut again,
+        34,
+        &mut six,
+    );
+    axes(
+        b"F, axes, a byte too few",
+        h,
+        nodes,
+        operations,
+        &mut short,
+        34,
+        &mut seven,
+    );
+}
+
 fn report(label: &[u8], h: Header, nodes: &[u32], operations: &[u32]) {
     let mut seven = [7u32; 22];
     let mut scratch = [7u32; 45];
@@ -324,6 +421,7 @@ fn one_qubit() {
     let h = product(start(1, &mut nodes, &mut frame), &mut nodes, 4, 8);
     circuit_c(h, &nodes);
     circuit_l(h, &nodes);
+    axes_c(h, &nodes);
     sources(h, &nodes);
 }
 
@@ -374,6 +472,7 @@ fn three_qubits() {
     no_operations(empty, &nodes);
     let h = ccx_operations(empty, &mut operations);
     circuit_f(h, &nodes, &operations);
+    axes_f(h, &nodes, &operations);
     operations[0] = 8;
     report(b"F, one angle even", h, &nodes, &operations);
     operations[0] = 3;

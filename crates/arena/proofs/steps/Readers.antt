@@ -7,16 +7,16 @@ use Prim.Native.Nat.{ℕ, zero, suc, _+_, _*_, _-_, _%_, _≤_, _<_}
 use native.Mathlib.Nat.{not-suc-le-zero}
 use native.Mathlib.Omega.{arith}
 use borrow.Author.Tests.{le-leb, lt-leb, ltb-true, ltb-false}
-use lib.Dec.{leb, ltb, eqb}
+use lib.Dec.{leb, ltb}
 use lib.ListN.{length, take, drop, replicate, length-take, length-drop, length-append}
 use Rattle.pauli.specs.Letters.{power, phaseNumber, real}
 use Rattle.pauli.proofs.Numbers.{phaseNumber-small}
-use Rattle.arena.specs.Types.{I, Phase, One, PlusI, MinusOne, MinusI}
+use Rattle.arena.specs.Types.{Phase, One, PlusI, MinusOne, MinusI}
 use Rattle.arena.specs.Errors.{PbcError, ExpansionLimit, NonHermitianAxis, Fine}
 use Rattle.arena.specs.References.{PauliRef, nodeIn}
 use Rattle.arena.specs.Nodes.{PauliNode, Malformed, nodeAt}
 use Rattle.arena.specs.Store.{Header, breaksLimit, exceedsNodes}
-use Rattle.arena.specs.Sparse.{Factor, Sparse, spread, dense}
+use Rattle.arena.specs.Sparse.{Sparse, spread, dense}
 use Rattle.arena.specs.Walk.{Out, fine, refused, bind, Walked, walkNodes, answerOf, walk}
 use Rattle.arena.specs.Readers.{firstOf, Expanded, expandWalk, hermitianWalk}
 use Rattle.arena.specs.Code.Results.{Ledger, Value, Says}
@@ -24,6 +24,7 @@ use Rattle.arena.specs.Code.WalkWords.{RootReady, Showing, ShowReady, by
 use Rattle.arena.specs.Expansion.{expansionOf, ExpansionMade, isMalformed, anyMalformed, badNodes, lettersLeft, scratchLeft, expandCheck, hermitianCheck, cleared}
 use Rattle.arena.specs.Code.Roots.{Fit}
 use Rattle.arena.proofs.Accepted.{passed-before, test-passed, left-false, right-false, Sound, sound, own}
+use Rattle.arena.proofs.walk.Readers.{spread-length}
 use Rattle.arena.proofs.steps.Saying.{said-fine, said-refused}
 use Rattle.arena.specs.Limits.{capOf}
 
@@ -133,16 +134,6 @@ expandOf n b x = cond b (bind (bind x (λ r. fine (answerOf r))) (λ a. fine (re
 abbrev axisIn : Out Walked → Out ℕ
 axisIn x = bind (bind x (λ r. fine (answerOf r))) (λ a. cond (real (firstOf (a .shown) .phase)) (fine (a .work)) (refused NonHermitianAxis))
 
-length-spread : (k at : ℕ) (fs : List Factor) → length (spread k at fs) ≡ k
-length-spread zero at fs = refl
-length-spread (suc k) at [] = ap (λ (n : ℕ). suc n) (length-spread k (suc at) [])
-length-spread (suc k) at (f ∷ fs) = go (eqb (f .qubit) at) (length-spread k (suc at) fs) (length-spread k (suc at) (f ∷ fs))
-  where
-    go : (b : Bool) → length (spread k (suc at) fs) ≡ k → length (spread k (suc at) (f ∷ fs)) ≡ k
-        → length (cond b (f .pauli ∷ spread k (suc at) fs) (I ∷ spread k (suc at) (f ∷ fs))) ≡ suc k
-    go true a b = ap (λ (n : ℕ). suc n) a
-    go false a b = ap (λ (n : ℕ). suc n) b
-
 power-number : (p : Phase) → power (phaseNumber p) ≡ p
 unfolding power
 power-number One = refl
@@ -213,7 +204,7 @@ module _ (n count : ℕ) (words : List ℕ) (w room : ℕ) where
       pub expand-letters : (cells : ℕ) (was letters : List ℕ) → n ≤ cells → limit ≡ cells - n → letters ≡ lettersWritten n (x .factors) was → letters ≡ lettersLeft (expandWalk cells room n count words w) was
       unfolding dense
       expand-letters cells was letters le e l-is =
-          l-is ∙ ap (λ (k : ℕ). bytes (spread n 0 (x .factors)) ++ drop k was) (sym (length-spread n 0 (x .factors))) ∙ sym (ap (λ o. lettersLeft o was) (expand-made cells le e))
+          l-is ∙ ap (λ (k : ℕ). bytes (spread n 0 (x .factors)) ++ drop k was) (sym (spread-length n 0 (x .factors))) ∙ sym (ap (λ o. lettersLeft o was) (expand-made cells le e))
 
       axis-made : (b : Bool) → real (x .phase) ≡ b → hermitianWalk limit room n count words w ≡ cond b (fine (left .work)) (refused NonHermitianAxis)
       axis-made b e = axis-by limit ∙ ap axisIn (seen .1) ∙ ap₂ (λ (c : Bool) (k : ℕ). cond c (fine k) (refused NonHermitianAxis)) (ap (λ (u : Sparse). real (u .phase)) first-is ∙ e) (sym (seen .2 .work-is))

@@ -1,6 +1,6 @@
 -- The weight report in words: the axes counted, then each shown, weighed and released.
 use mathlib.Core.Path.{_≡_, refl, ap, ap₂, sym, _∙_, subst}
-use mathlib.Core.Bool.{Bool, true, false, cond, not}
+use mathlib.Core.Bool.{Bool, true, false, cond, not, _||_}
 use mathlib.Core.List.{List, [], _∷_, _++_, map}
 use Prim.Native.Nat.{ℕ, zero, suc, _+_, _*_, _-_, _≤_, _<_, max}
 use native.Mathlib.Nat.{not-suc-le-zero}
@@ -18,8 +18,9 @@ use Rattle.arena.specs.Sparse.{turned, size}
 use Rattle.arena.specs.Walk.{Out, fine, refused, bind, State, Walked, rootUses, release, showRoots, walkNodes, answerOf, walk}
 use Rattle.arena.specs.Readers.{Weighed, Weights, weigh, largest, wordsOf, Report, reportWalk}
 use Rattle.arena.specs.Code.Results.{Ledger, Value, Says}
-use Rattle.arena.specs.Code.WalkWords.{Inv, none, edge, usesAt, withUse, valueAt, Uses, Rooted}
-use Rattle.arena.specs.Expansion.{maxWeightsOf, WeightsMade, WeightsRefused, opAt, isBadOp, anyBadOp, badNodes, weighedOf, axesTo, reportCheck}
+use Rattle.arena.specs.Pool.{Who}
+use Rattle.arena.specs.Code.WalkWords.{Inv, none, edge, usesAt, withUse, valueAt, Uses, Rep, Rooted}
+use Rattle.arena.specs.Expansion.{maxWeightsOf, WeightsMade, WeightsRefused, opAt, isBadOp, anyBadOp, badNodes, badOperations, weighedOf, axesTo, reportCheck}
 use Rattle.arena.specs.Code.Roots.{Rootable, tallyOf, startOf, Begun, showRoot, RootShown, Releasable, Released, Fit, weighedAt, axesOf, AxesNamed, Countable, AxesCounted, RootWeight, weightOf, weighRoot, RootWeighed, weighRoots, weightsOf, Resting, Weighing}
 use Rattle.arena.proofs.Readable.{axis-named, each-good}
 use Rattle.arena.proofs.walk.Outcomes.{bind-assoc}
@@ -27,6 +28,7 @@ use Rattle.arena.proofs.DecodedNodes.{node-fits}
 use Rattle.arena.proofs.walk.Uses.{plus-edge}
 use Rattle.arena.proofs.walk.Bounds.{roots-few}
 use Rattle.arena.proofs.walk.Means.{root-used, release-inv}
+use Rattle.arena.proofs.walk.Axes.{axes-many}
 use Rattle.arena.proofs.steps.Scratch.{length-use, use-value}
 use Rattle.arena.proofs.steps.Counting.{uses-plus}
 use Rattle.arena.proofs.steps.Saying.{said-fine, said-refused, refuses-on, says-fine}
@@ -54,14 +56,6 @@ from-front op (suc k) =
     let e : k ≡ 0 + k = omega arith in
     ap₂ (λ (xs : List Weighed) (j : ℕ). xs ++ (weighedOf (op j) ∷ [])) (from-front op k) e ∙ sym (from-more op 0 k)
 
-words-more : (xs : List Weighed) (x : Weighed) → length (wordsOf (xs ++ (x ∷ []))) ≡ suc (length (wordsOf xs))
-words-more [] x = refl
-words-more (y ∷ xs) x = ap (λ (n : ℕ). suc n) (words-more xs x)
-
-pub axes-many : (op : ℕ → PbcOp) (k : ℕ) → length (wordsOf (axesTo op k)) ≡ k
-axes-many op zero = refl
-axes-many op (suc k) = words-more (axesTo op k) (weighedOf (op k)) ∙ ap (λ (n : ℕ). suc n) (axes-many op k)
-
 -- one axis more is one use more
 roots-more : (xs : List Weighed) (x : Weighed) (j : ℕ) → rootUses (wordsOf (xs ++ (x ∷ []))) j ≡ rootUses (wordsOf xs) j + edge (x .word) j
 roots-more [] x j = plus-edge (x .word) j (λ j. 0)
@@ -69,7 +63,7 @@ roots-more (y ∷ xs) x j = omega (arith, plus-edge (y .word) j (rootUses (words
 
 -- ---- weighing on the way is weighing at the end
 
-bind-same : {A B : Type 0} (x : Out A) (k h : A → Out B) → ((a : A) → k a ≡ h a) → bind x k ≡ bind x h
+pub bind-same : {A B : Type 0} (x : Out A) (k h : A → Out B) → ((a : A) → k a ≡ h a) → bind x k ≡ bind x h
 bind-same (fine a) k h e = e a
 bind-same (refused r) k h e = refl
 
@@ -162,6 +156,11 @@ module _ {h : Header} {ops was : List ℕ} (g : Countable h ops was) where
 abbrev pub restAxes : Header → List ℕ → ℕ → List Weighed
 restAxes h ops i = axesFrom (opAt h ops) i (h .operations - i)
 
+pub rest-all : (h : Header) (ops : List ℕ) → axesOf h ops ≡ restAxes h ops 0
+rest-all h ops =
+    let e : h .operations ≡ h .operations - 0 = omega arith in
+    from-front (opAt h ops) (h .operations) ∙ ap (λ (k : ℕ). axesFrom (opAt h ops) 0 k) e
+
 rest-more : (h : Header) (ops : List ℕ) (i : ℕ) → i < h .operations → restAxes h ops i ≡ weighedAt h ops i ∷ restAxes h ops (i + 1)
 rest-more h ops i lt =
     let e : h .operations - i ≡ suc (h .operations - (i + 1)) = omega arith in
@@ -203,6 +202,51 @@ module _ (w : ℕ) {words l p : List ℕ} {count limit : ℕ} {left : Ledger} (g
     })
 
 module _ {h : Header} {words ops was pool : List ℕ} {limit : ℕ} {left₀ : Ledger} (g : Weighing h words ops was pool limit left₀) where
+  -- the next axis, of a walk at rest before it
+
+  module _ {l p : List ℕ} {left : Ledger} {s : State} {i : ℕ} (a : Resting h words l p (restAxes h ops i) limit (g .room) s left)
+      {w : ℕ} (lt : i < h .operations) (w-is : w ≡ weighedAt h ops i .word) where
+    pub axes-are : wordsOf (restAxes h ops i) ≡ w ∷ wordsOf (restAxes h ops (i + 1))
+    axes-are = ap wordsOf (rest-more h ops i lt) ∙ ap (λ (v : ℕ). v ∷ wordsOf (restAxes h ops (i + 1))) (sym w-is)
+
+    pub axis-low : nodeIn w < h .nodes
+    axis-low = rw w-is (g .named i lt)
+
+    pub axis-inv : Inv limit (g .room) (h .qubits) (h .nodes) (nodeAt (h .qubits) words) (a .total) (rootUses (w ∷ wordsOf (restAxes h ops (i + 1)))) none 0 s
+    axis-inv = subst (λ (ws : List ℕ). Inv limit (g .room) (h .qubits) (h .nodes) (nodeAt (h .qubits) words) (a .total) (rootUses ws) none 0 s) axes-are (a .inv)
+
+    abbrev pub axis-rooted : Rooted words l p (h .nodes) limit (nodeIn w) left
+    axis-rooted = record {
+      at = record {
+        n = h .qubits;
+        room = g .room;
+        total = a .total;
+        rest = rootUses (w ∷ wordsOf (restAxes h ops (i + 1)));
+        who = a .who;
+        s = s;
+        rep = a .rep;
+        inv = axis-inv;
+        well = g .fit .well;
+        qubits-few = g .fit .qubits-few;
+        few = g .few;
+        nodes-few = g .fit .nodes-few;
+        nodes-long = g .fit .nodes-long;
+      };
+      low = axis-low;
+      used = root-used limit (g .room) (h .qubits) (h .nodes) (nodeAt (h .qubits) words) (node-fits (h .qubits) words) (a .total) w (wordsOf (restAxes h ops (i + 1))) s axis-inv;
+    }
+
+    -- the walk at rest after it was shown, at t, and released
+    pub axis-rested : {l₁ p₁ : List ℕ} {left₁ : Ledger} {who : Who} {t : State} → Rep (h .nodes) (g .room) l₁ p₁ left₁ who (release (nodeIn w) t)
+        → Inv limit (g .room) (h .qubits) (h .nodes) (nodeAt (h .qubits) words) (a .total) (rootUses (w ∷ wordsOf (restAxes h ops (i + 1)))) none 0 t → t .done (nodeIn w) ≡ true
+        → Resting h words l₁ p₁ (restAxes h ops (i + 1)) limit (g .room) (release (nodeIn w) t) left₁
+    axis-rested {who = who} {t = t} rep inv done-is = record {
+      total = a .total;
+      who = who;
+      rep = rep;
+      inv = release-inv limit (g .room) (h .qubits) (h .nodes) (nodeAt (h .qubits) words) (node-fits (h .qubits) words) (a .total) w (wordsOf (restAxes h ops (i + 1))) t axis-low done-is inv;
+    }
+
   abbrev pub weighs : List Weighed → Weights → State → Out Report
   weighs xs m s = weighRoots limit (g .room) (nodeAt (h .qubits) words) (h .nodes) xs m s
 
@@ -216,8 +260,7 @@ module _ {h : Header} {words ops was pool : List ℕ} {limit : ℕ} {left₀ : L
 
   pub weigh-begin : WeighAt was pool left₀ 0 0 0
   weigh-begin =
-      let e : h .operations ≡ h .operations - 0 = omega arith in
-      let q : axesOf h ops ≡ restAxes h ops 0 = from-front (opAt h ops) (h .operations) ∙ ap (λ (k : ℕ). axesFrom (opAt h ops) 0 k) e in
+      let q = rest-all h ops in
       record {
         s = g .s;
         upto = omega arith;
@@ -234,36 +277,6 @@ module _ {h : Header} {words ops was pool : List ℕ} {limit : ℕ} {left₀ : L
         ap (λ (k : ℕ). WeightsMade x y k) (a .rest .rep .work-is) ∙ sym (ap maxWeightsOf (a .same ∙ ap (λ (k : ℕ). weighs (axesFrom (opAt h ops) i k) (weightsOf x y) (a .s)) e))
 
     module _ {w : ℕ} (lt : i < h .operations) (w-is : w ≡ weighedAt h ops i .word) where
-      pub axes-are : wordsOf (restAxes h ops i) ≡ w ∷ wordsOf (restAxes h ops (i + 1))
-      axes-are = ap wordsOf (rest-more h ops i lt) ∙ ap (λ (v : ℕ). v ∷ wordsOf (restAxes h ops (i + 1))) (sym w-is)
-
-      pub axis-low : nodeIn w < h .nodes
-      axis-low = rw w-is (g .named i lt)
-
-      pub axis-inv : Inv limit (g .room) (h .qubits) (h .nodes) (nodeAt (h .qubits) words) (a .rest .total) (rootUses (w ∷ wordsOf (restAxes h ops (i + 1)))) none 0 (a .s)
-      axis-inv = subst (λ (ws : List ℕ). Inv limit (g .room) (h .qubits) (h .nodes) (nodeAt (h .qubits) words) (a .rest .total) (rootUses ws) none 0 (a .s)) axes-are (a .rest .inv)
-
-      abbrev pub axis-rooted : Rooted words l p (h .nodes) limit (nodeIn w) left
-      axis-rooted = record {
-        at = record {
-          n = h .qubits;
-          room = g .room;
-          total = a .rest .total;
-          rest = rootUses (w ∷ wordsOf (restAxes h ops (i + 1)));
-          who = a .rest .who;
-          s = a .s;
-          rep = a .rest .rep;
-          inv = axis-inv;
-          well = g .fit .well;
-          qubits-few = g .fit .qubits-few;
-          few = g .few;
-          nodes-few = g .fit .nodes-few;
-          nodes-long = g .fit .nodes-long;
-        };
-        low = axis-low;
-        used = root-used limit (g .room) (h .qubits) (h .nodes) (nodeAt (h .qubits) words) (node-fits (h .qubits) words) (a .rest .total) w (wordsOf (restAxes h ops (i + 1))) (a .s) axis-inv;
-      }
-
       abbrev weighed : RootWeight → Out Report
       weighed r = weighs (restAxes h ops (i + 1)) (weigh (weighedAt h ops i .clifford) (r .weight) (weightsOf x y)) (r .state)
 
@@ -272,7 +285,7 @@ module _ {h : Header} {words ops was pool : List ℕ} {limit : ℕ} {left₀ : L
           ∙ ap (λ (v : ℕ). bind (weighRoot limit (g .room) (nodeAt (h .qubits) words) (h .nodes) v (a .s)) weighed) (sym w-is)
 
       module _ {l₁ p₁ : List ℕ} {z : Out (ℕ × Ledger)}
-          (o : Says (weighRoot limit (g .room) (nodeAt (h .qubits) words) (h .nodes) w (a .s)) z (RootWeighed w axis-rooted l₁ p₁)) where
+          (o : Says (weighRoot limit (g .room) (nodeAt (h .qubits) words) (h .nodes) w (a .s)) z (RootWeighed w (axis-rooted (a .rest) lt w-is) l₁ p₁)) where
         pub weigh-refused : {e : PbcError} → z ≡ refused e → WeightsRefused e ≡ maxWeightsOf (weighs (axesOf h ops) (weightsOf 0 0) (g .s))
         weigh-refused q = sym (ap maxWeightsOf (next ∙ ap (λ r. bind r weighed) (said-refused o q)))
 
@@ -286,12 +299,7 @@ module _ {h : Header} {words ops was pool : List ℕ} {limit : ℕ} {left₀ : L
               upto = omega arith;
               long = long;
               pool-long = pool-long;
-              rest = record {
-                total = a .rest .total;
-                who = r .2 .who;
-                rep = r .2 .rep;
-                inv = release-inv limit (g .room) (h .qubits) (h .nodes) (nodeAt (h .qubits) words) (node-fits (h .qubits) words) (a .rest .total) w (wordsOf (restAxes h ops (i + 1))) t axis-low (r .2 .done-is) (r .2 .inv);
-              };
+              rest = axis-rested (a .rest) lt w-is (r .2 .rep) (r .2 .inv) (r .2 .done-is);
               same = next ∙ ap (λ q. bind q weighed) (r .1)
                   ∙ ap₂ (λ (c : Bool) (f : ℕ). weighs (restAxes h ops (i + 1)) (weigh c f (weightsOf x y)) (r .0 .state)) (sym b-is) (sym (r .2 .weight-is))
                   ∙ ap₂ (λ (m : Weights) (u : State). weighs (restAxes h ops (i + 1)) m u) (weights-raised b k x y x-is y-is) (r .2 .state-is);
@@ -364,11 +372,12 @@ module _ {h : Header} {words l : List ℕ} (ops : List ℕ) (f : Fit h words l) 
 all-named : (h : Header) (ops : List ℕ) (k : ℕ) → anyBadOp h ops k ≡ false → (i : ℕ) → i < k → nodeIn (weighedOf (opAt h ops i) .word) < h .nodes
 all-named h ops k e i l = axis-named h (opAt h ops i) (left-false (isBadOp h (opAt h ops i)) _ (each-good h ops k e i l))
 
+-- nodes and operations that can be read, and scratch enough for a walk
+pub readable : (h : Header) (words ops : List ℕ) (scratch : ℕ) → (badNodes h words || badOperations h ops) ≡ false → ltb scratch (4 * h .nodes) ≡ false → Walkable h words scratch × AxesNamed h ops
+readable h words ops scratch t s =
+    let o = right-false (badNodes h words) _ t in
+    (walkable h words scratch (left-false (badNodes h words) _ t) s, all-named h ops (h .operations) (right-false (exceedsOperations h (length ops)) _ o))
+
 pub fits-report : (h : Header) (words ops : List ℕ) (scratch : ℕ) → reportCheck h words ops scratch ≡ Fine → Walkable h words scratch × AxesNamed h ops
 unfolding reportCheck
-fits-report h words ops scratch e =
-    let t = test-passed _ _ _ (passed-before _ _ _ e) in
-    let o = right-false (badNodes h words) _ t in (
-      walkable h words scratch (left-false (badNodes h words) _ t) (test-passed _ _ _ e),
-      all-named h ops (h .operations) (right-false (exceedsOperations h (length ops)) _ o),
-    )
+fits-report h words ops scratch e = readable h words ops scratch (test-passed _ _ _ (passed-before _ _ _ e)) (test-passed _ _ _ e)

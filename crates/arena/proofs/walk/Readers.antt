@@ -1,4 +1,4 @@
--- What the answers of the three readers say, from their definitions alone: what a check left is read off the answer.
+-- What the answers of expand, hermitian_axis and the weight report say, from their definitions alone: what a check left is read off the answer.
 use mathlib.Core.Path.{_≡_, refl, ap, sym, _∙_}
 use mathlib.Core.Logic.{_≢_, inl}
 use mathlib.Core.Bool.{Bool, true, false, cond, _||_}
@@ -24,12 +24,12 @@ use Rattle.arena.proofs.Accepted.{passed-before, test-passed, left-fals
 use Rattle.arena.proofs.walk.Reports.{expand-means, hermitian-means, report-means}
 use Rattle.arena.proofs.walk.Errors.{Limited, limited-bind, limited-walk, limited-not, errors-differ, bad-limit, bad-pool, refused-before, test-error, test-failed}
 
-zero-is-one : _≡_ {A = ℕ} 0 1 → ⊥
+pub zero-is-one : _≡_ {A = ℕ} 0 1 → ⊥
 zero-is-one z = omega arith
 
 -- ---- expand
 
-spread-length : (k at : ℕ) (fs : List Factor) → length (spread k at fs) ≡ k
+pub spread-length : (k at : ℕ) (fs : List Factor) → length (spread k at fs) ≡ k
 spread-length zero at fs = refl
 spread-length (suc k) at [] = ap suc (spread-length k (suc at) [])
 spread-length (suc k) at (f ∷ fs) = go (eqb (f .qubit) at) (spread-length k (suc at) fs) (spread-length k (suc at) (f ∷ fs))
@@ -198,7 +198,7 @@ named-snoc : (count : ℕ) (xs : List Weighed) (x : Weighed) → Named count (wo
 named-snoc count [] x ns lt = (lt, tt)
 named-snoc count (y ∷ xs) x ns lt = (ns .0, named-snoc count xs x (ns .1) lt)
 
-axes-named : (h : Header) (ops : List ℕ) (k : ℕ) → anyBadOp h ops k ≡ false → Named (h .nodes) (wordsOf (axesTo (opAt h ops) k))
+pub axes-named : (h : Header) (ops : List ℕ) (k : ℕ) → anyBadOp h ops k ≡ false → Named (h .nodes) (wordsOf (axesTo (opAt h ops) k))
 axes-named h ops zero e = tt
 axes-named h ops (suc k) e =
     named-snoc (h .nodes) (axesTo (opAt h ops) k) (weighedOf (opAt h ops k)) (axes-named h ops k (left-false (anyBadOp h ops k) _ e))

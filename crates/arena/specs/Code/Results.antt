@@ -2,6 +2,7 @@
 use mathlib.Core.Path.{_≡_}
 use Prim.Native.Nat.{ℕ}
 use Rattle.arena.specs.Walk.{Out, fine, refused}
+use Rattle.arena.specs.Expansion.{ExpandedAxes, AxesMade, AxesRefused}
 pub use Rattle.arena.specs.declared.pool.Ledger.{Ledger}
 pub use Rattle.arena.specs.declared.pool.Value.{Value}
 pub use Rattle.arena.specs.declared.materialize.Took.the-variants.{the-data as Took, Value as TookValue, Refused as TookRefused}
@@ -25,6 +26,11 @@ steppedOut (SteppedRefused e) = refused e
 abbrev pub shownOut : Shown → Out (Value × Ledger)
 shownOut (ShownRoot v left) = fine (v, left)
 shownOut (ShownRefused e) = refused e
+
+-- the work
+abbrev pub expandedOut : ExpandedAxes → Out ℕ
+expandedOut (AxesMade work) = fine work
+expandedOut (AxesRefused e) = refused e
 
 abbrev pub axisWeightOut : AxisWeight → Out (ℕ × Ledger)
 axisWeightOut (AxisWeighed weight left) = fine (weight, left)

@@ -1,22 +1,23 @@
 -- The roots of a walk in words: uses counted, a root shown, a root released, the axes of operations weighed.
--- The functions of src/roots.rt, readers.rt and weights.rt that are not public ask and promise what is said here.
+-- The functions of src/roots.rt, readers.rt, weights.rt and axes.rt that are not public ask and promise what is said here.
 use mathlib.Core.Path.{_≡_}
 use mathlib.Core.Logic.{_≢_}
 use mathlib.Core.Bool.{Bool, true, false}
-use mathlib.Core.List.{List, [], _∷_}
+use mathlib.Core.List.{List, [], _∷_, _++_, map}
 use Prim.Native.Nat.{ℕ, _+_, _*_, _-_, _≤_, _<_}
-use lib.ListN.{length, getD}
+use lib.ListN.{length, getD, take, drop}
 use Rattle.arena.specs.References.{nodeIn, phaseIn}
 use Rattle.arena.specs.Nodes.{PauliNode, Malformed, nodeAt}
 use Rattle.arena.specs.Operations.{AxisKind, NoKind, Pi8, Clifford, Measurement}
 use Rattle.arena.specs.Store.{Header}
-use Rattle.arena.specs.Sparse.{turned, size}
-use Rattle.arena.specs.Walk.{Out, fine, bind, State, Counted, rootUses, scan, charge, walkBegin, eval, release}
+use Rattle.arena.specs.Builder.{overlay}
+use Rattle.arena.specs.Sparse.{Factor, turned, size, spread, dense}
+use Rattle.arena.specs.Walk.{Out, fine, bind, State, Counted, Walked, rootUses, scan, charge, walkBegin, eval, release}
 use Rattle.arena.specs.Pool.{Who, Chain}
 use Rattle.arena.specs.Code.Results.{Ledger, Value}
-use Rattle.arena.specs.Code.WalkWords.{Inv, none, valueAt, Uses, Rep, ValueIs, Rooted}
+use Rattle.arena.specs.Code.WalkWords.{Inv, none, valueAt, Uses, Rep, ValueIs, Rooted, bytes}
 use Rattle.arena.specs.Readers.{Weighed, Weights, weigh, wordsOf, Report}
-use Rattle.arena.specs.Expansion.{opAt, weighedOf, axesTo}
+use Rattle.arena.specs.Expansion.{opAt, weighedOf, axesTo, rowBytes, axesBytes}
 
 -- whether the report counts an axis of that kind as Clifford
 abbrev pub countsClifford : AxisKind → Bool
@@ -172,3 +173,27 @@ pub record Weighing (h : Header) (words ops l p : List ℕ) (limit : ℕ) (left 
   pub fit : Fit h words l
   pub named : AxesNamed h ops
   pub rest : Resting h words l p (axesOf h ops) limit room s left
+
+-- ---- the axes of operations written
+
+-- the bytes of a value: its letters, then its phase
+abbrev pub cells : ℕ → List Factor → ℕ → List ℕ
+cells n fs phase = bytes (spread n 0 fs) ++ (phase ∷ [])
+
+-- new bytes from k on; those before, and those past them, are as they were
+abbrev pub laidAt : ℕ → List ℕ → List ℕ → List ℕ
+laidAt k us was = take k was ++ overlay us (drop k was)
+
+-- the words stand for the walk after the root w, whose row is laid at k
+pub record RootWritten (n k w : ℕ) {words l p : List ℕ} {count limit : ℕ} {left : Ledger} (g : Rooted words l p count limit (nodeIn w) left)
+    (was rows l′ p′ : List ℕ) (t : State) (left′ : Ledger) : Type 0 where
+  pub who : Who
+  pub rep : Rep count (g .at .room) l′ p′ left′ who (release (nodeIn w) t)
+  pub inv : Inv limit (g .at .room) (g .at .n) count (nodeAt (g .at .n) words) (g .at .total) (g .at .rest) none 0 t
+  pub done-is : t .done (nodeIn w) ≡ true
+  pub rows-are : rows ≡ laidAt k (rowBytes (dense n (turned (phaseIn w) (t .value (nodeIn w))))) was
+
+-- what was shown is what stands in the rows
+pub record RowsShown (n : ℕ) (rows : List ℕ) (r : Walked) (work : ℕ) : Type 0 where
+  pub work-is : work ≡ r .state .work
+  pub rows-are : rows ≡ axesBytes (map (dense n) (r .shown))

@@ -1,5 +1,5 @@
 -- What the walk keeps true from step to step, and its state in words: four scratch words a node, and chains in the pool.
--- The functions of src/scratch.rt, materialize.rt, roots.rt, readers.rt and weights.rt that are not public ask and promise what is said here.
+-- The functions of src/scratch.rt, materialize.rt, roots.rt, readers.rt, weights.rt and axes.rt that are not public ask and promise what is said here.
 use mathlib.Core.Path.{_≡_}
 use mathlib.Core.Logic.{_≢_}
 use mathlib.Core.Bool.{Bool, true, false, cond}

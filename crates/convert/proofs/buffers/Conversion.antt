@@ -18,7 +18,7 @@ use Rattle.arena.specs.declared.builder.Created.the-variants.{the-data as Creat
 use Rattle.arena.proofs.Overlay.{length-qubitNodes}
 use Rattle.arena.proofs.Accepted.{passed-before, test-passed, left-false, right-false}
 use Rattle.convert.specs.Types.{PbcError, Header, TooManyQubits, BrokenGateList, CapTooSmall, NoPlanes, NoFrame, NoNodes, NoOperations, Checked, Fine, Wrong}
-use Rattle.convert.specs.Records.{GateKind, KindH, KindX, KindZ, KindS, KindSdg, KindT, KindTdg, KindCnot, KindCz, KindCcx, KindCcz, KindMeasure, KindY, KindSx, KindSwap, KindCy, Unsupported, Cap, NoCap, AtMost, Elementary, Placed, placedFrom, bare, records, kindOf, lowerAs, lowerAll, AllProper}
+use Rattle.convert.specs.Records.{GateKind, KindH, KindX, KindZ, KindS, KindSdg, KindT, KindTdg, KindCnot, KindCz, KindCcx, KindCcz, KindMeasure, KindY, KindSx, KindSwap, KindCy, Unsupported, Cap, NoCap, AtMost, Elementary, Placed, placedFrom, bare, Record, records, kindOf, lowerAs, lowerAll, AllProper}
 use Rattle.convert.specs.Plain.{flushFrom, plainBegin, plainRun, tableRun}
 use Rattle.convert.specs.Frame.{startArena}
 use Rattle.convert.specs.Words.{flat, startWords}
@@ -26,9 +26,9 @@ use Rattle.convert.specs.Code.Needs.{Needs}
 use Rattle.convert.specs.Planes.{partWords, packed}
 use Rattle.convert.specs.Conversion.{Input, recordsChecked, capTooSmall, planesTooFew, maxGateWords, limits, gatesCheck, convertCheck, gatesIn, plainEnd, tableEnd, wordEnd, planesAs, planesAfter, convertWithin, convertStep, convertOf, ConvertedMade, ConvertedRefused, inputOf, gatesChecked, roomChecked}
 use Rattle.convert.specs.Code.Raw.{isCapped, planesFor, Fits, Room, plainLast, wordsLast, needsLast, needsOf}
-use Rattle.convert.proofs.Accepted.{bare-placed, proper-records, passed-records}
+use Rattle.convert.proofs.Accepted.{bare-placed, proper-records, passed-records, AllKnown, known-records}
 use Rattle.convert.proofs.counts.Needs.{needed}
-use Rattle.convert.proofs.counts.Rest.{rest-more, restOf}
+use Rattle.convert.proofs.counts.Rest.{drop-record, rest-more, restOf}
 use Rattle.convert.proofs.meaning.Papers.{table-run}
 use Rattle.convert.proofs.buffers.State.{length-start}
 use Rattle.convert.proofs.buffers.Writing.{need-grows}
@@ -59,6 +59,14 @@ module _ (n m : ℕ) (gs : List ℕ) where
 
   proper-at : AllProper n m (bare (restOf gs 0)) → (i : ℕ) → i < length gs / 4 → AllProper n m (these i)
   proper-at w i h = halves i h (proper-rest w i (omega arith)) .0
+
+known-drop : (rs : List Record) (i : ℕ) → AllKnown rs → AllKnown (drop i rs)
+known-drop rs zero w = w
+known-drop [] (suc i) w = tt
+known-drop (r ∷ rs) (suc i) w = known-drop rs i (w .1)
+
+known-at : (gs : List ℕ) → AllKnown (records gs) → (i : ℕ) → i < length gs / 4 → getD gs (4 * i) 0 < 21
+known-at gs w i h = (rw (drop-record gs i h) at (known-drop (records gs) i w)) .0
 
 proper-b : (n m : ℕ) (k : GateKind) (a b d : ℕ) → AllProper n m (lowerAs k a b d) → AllProper n (b + 1) (lowerAs k a b d)
 unfolding lowerAs
@@ -140,6 +148,7 @@ gates-fit n cbits cap gs m e₁₂ =
       cbits-fit = c;
       size = ltb-false _ _ (right-false (not (eqb (length gs % 4) 0)) _ (test-passed _ _ _ e₂));
       fits = record {
+        known = known-at gs (known-records _ n cbits 0 (records gs) e₉);
         each = λ i h. proper-b n cbits (kindOf (getD gs (4 * i) 0)) (getD gs (4 * i + 1) 0) (getD gs (4 * i + 2) 0) (getD gs (4 * i + 3) 0) (proper-at n cbits gs w i h);
         bits = λ i h. proper-max n cbits (kindOf (getD gs (4 * i) 0)) (getD gs (4 * i + 1) 0) (getD gs (4 * i + 2) 0) (getD gs (4 * i + 3) 0) c (proper-at n cbits gs w i h);
       };

@@ -1,15 +1,19 @@
 -- Frame gates in the buffers.
 use mathlib.Core.Path.{_≡_, refl, sym, ap, _∙_}
 use mathlib.Core.Logic.{_⊎_, inl, inr, ⊎-elim}
+use mathlib.Core.Bool.{Bool, true, false, cond}
 use mathlib.Core.List.{List, [], _∷_}
-use Prim.Native.Nat.{ℕ, zero, suc, _+_, _*_, _<_}
+use Prim.Native.Nat.{ℕ, zero, suc, _+_, _*_, _<_, _≤_}
 use native.Mathlib.Omega.{arith}
 use Rattle.arena.specs.References.{scaledWord}
 use Rattle.convert.specs.Types.{MinusOne}
 use lib.ListN.{length, getD, set}
-use Rattle.pauli.specs.Gates.{Gate, gateH, gateX, gateZ, gateS, gateSdg, gateCnot, gateCz}
+use lib.Seq.{set-getD, getD-set-other}
+use Rattle.arena.specs.Limits.{maxNodes, nodeWords}
+use Rattle.pauli.specs.Gates.{Gate, gateH, gateX, gateZ, gateS, gateSdg, gateCnot, gateCz, Valid}
 use Rattle.convert.specs.Frame.{Arena, gateNodes}
 use Rattle.convert.specs.Code.Raw.{arena, putMultiplied, putStep, putRun, ProductPut, Small, FrameReady, Ran}
+use Rattle.convert.specs.Code.Tables.{pairGate, phaseGate, moveGate}
 
 getD-set-any : (t : List ℕ) (i j P d : ℕ) → (getD (set t i P) j d ≡ getD t j d) ⊎ (getD (set t i P) j d ≡ P)
 getD-set-any [] i j P d = inl refl
@@ -103,6 +107,59 @@ cnot-step n c t s = refl
 pub cz-step : (n c t : ℕ) (s : Arena) → putStep n (gateCz c t) s ≡ putMultiplied t (n + c) t 0 (putMultiplied c c (n + t) 0 s)
 unfolding putStep
 cz-step n c t s = refl
+
+-- ---- gates that one function does
+
+pub pair-step : (n : ℕ) (cz : Bool) (c t : ℕ) (s : Arena)
+    → putStep n (pairGate cz c t) s ≡ putMultiplied (cond cz t (n + t)) (n + c) (cond cz t (n + t)) 0 (putMultiplied c c (cond cz (n + t) t) 0 s)
+unfolding putStep
+pair-step n true c t s = refl
+pair-step n false c t s = refl
+
+pub pair-nodes : (cz : Bool) (c t : ℕ) → gateNodes (pairGate cz c t) ≡ 2
+pair-nodes true c t = refl
+pair-nodes false c t = refl
+
+-- what cnot and cz ask
+pub record PairReady (n c t m : ℕ) (ns : List ℕ) : Type 0 where
+  pub control : c < n
+  pub target : t < n
+  pub few : m + 2 ≤ maxNodes
+  pub room : nodeWords * (m + 2) ≤ length ns
+
+pub pair-ready : (cz : Bool) {n c t m : ℕ} {ns fs : List ℕ} → FrameReady n (pairGate cz c t ∷ []) m ns fs → PairReady n c t m ns
+pair-ready true r = record { control = r .valid .0 .0; target = r .valid .0 .1; few = omega arith; room = omega arith }
+pair-ready false r = record { control = r .valid .0 .0; target = r .valid .0 .1; few = omega arith; room = omega arith }
+
+pub chosen-below : (test : Bool) (x y m : ℕ) → x < m → y < m → cond test x y < m
+chosen-below true x y m h k = h
+chosen-below false x y m h k = k
+
+-- what s, sdg, h, x and z ask
+pub phase-ready : (d : Bool) {n q m : ℕ} {ns fs : List ℕ} → FrameReady n (phaseGate d q ∷ []) m ns fs → (q < n) × (m < maxNodes) × (nodeWords * m + nodeWords ≤ length ns)
+phase-ready true r = (r .valid .0, omega arith, omega arith)
+phase-ready false r = (r .valid .0, omega arith, omega arith)
+
+pub phase-ran : (d : Bool) (p : ℕ) {n q c : ℕ} {ns fs : List ℕ} {c′ : ℕ} {ns′ fs′ : List ℕ} → p ≡ cond d 1 3 → FrameReady n (phaseGate d q ∷ []) c ns fs
+    → ProductPut q q (n + q) p c ns fs c′ ns′ fs′ → Ran n (phaseGate d q ∷ []) c ns fs c′ ns′ fs′
+phase-ran true p ep r e = sdg-ran r (rw ep at e)
+phase-ran false p ep r e = s-ran r (rw ep at e)
+
+pub move-valid : (h x : Bool) (n q : ℕ) → Valid n (moveGate h x q) → q < n
+move-valid true x n q v = v
+move-valid false true n q v = v
+move-valid false false n q v = v
+
+pub move-ran : (h x : Bool) (n q : ℕ) {c : ℕ} {ns fs : List ℕ} (v w v₁ w₁ v₂ w₂ v₃ w₃ : ℕ) → FrameReady n (moveGate h x q ∷ []) c ns fs
+    → v ≡ getD fs q 0 → w ≡ getD fs (n + q) 0 → v₁ ≡ scaledWord MinusOne v → w₁ ≡ scaledWord MinusOne w
+    → v₂ ≡ cond x v v₁ → w₂ ≡ cond x w₁ w → v₃ ≡ cond h w v₂ → w₃ ≡ cond h v w₂
+    → Ran n (moveGate h x q ∷ []) c ns fs c ns (set (set fs q v₃) (n + q) w₃)
+move-ran true x n q {c} {ns} {fs} v w v₁ w₁ v₂ w₂ v₃ w₃ r ev ew ev₁ ew₁ ev₂ ew₂ ev₃ ew₃ = rw (ev₃, ew₃, ev, ew) (h-ran r)
+move-ran false true n q {c} {ns} {fs} v w v₁ w₁ v₂ w₂ v₃ w₃ r ev ew ev₁ ew₁ ev₂ ew₂ ev₃ ew₃ = rw (ev₃, ev₂, ev, set-getD fs q 0) (x-ran r w₃ (ew₃ ∙ ew₂ ∙ ew₁ ∙ ap (scaledWord MinusOne) ew))
+move-ran false false n q {c} {ns} {fs} v w v₁ w₁ v₂ w₂ v₃ w₃ r ev ew ev₁ ew₁ ev₂ ew₂ ev₃ ew₃ =
+    let z = z-ran r v₃ (ev₃ ∙ ev₂ ∙ ev₁ ∙ ap (scaledWord MinusOne) ev) in
+    let same : w₃ ≡ getD (set fs q v₃) (n + q) 0 = ew₃ ∙ ew₂ ∙ ew ∙ sym (getD-set-other fs q (n + q) v₃ 0 (λ e. omega (arith, move-valid false false n q (r .valid .0)))) in
+    rw (same, set-getD (set fs q v₃) (n + q) 0) z
 
 -- ---- several gates
 

@@ -11,7 +11,6 @@ use denote.Enum.Declared.{tagOf}
 use Rattle.convert.proofs.gate.GateKind.{the-type}
 use Rattle.convert.specs.Records.{GateKind, KindH, KindX, KindZ, KindS, KindSdg, KindT, KindTdg, KindCnot, KindCz, KindCcx, KindCcz, KindMeasure, KindY, KindSx, KindSwap, KindCy, Unsupported, TwoQubits, hasShape, lowerAs}
 use Rattle.convert.specs.Frame.{frameGates}
-use Rattle.convert.specs.Conversion.{isMeasure}
 use Rattle.convert.specs.Code.RawPlanes.{planeStep, planeRun}
 use Rattle.convert.specs.Code.Raw.{recordGates, testsOf, Writing, putOp, putSeven, firstWord, loneWords, lastPlace, putRecord}
 
@@ -93,9 +92,6 @@ no-planes l k a b p o = arm (λ (k : GateKind). planeRun l (recordGates k a b) p
 pub no-record : (n given i : ℕ) (k : GateKind) (a b d : ℕ) (fs : List ℕ) (s : Writing) → OneOf (0 ∷ 1 ∷ 2 ∷ 3 ∷ 4 ∷ 7 ∷ 8 ∷ 12 ∷ 13 ∷ 14 ∷ 15 ∷ 16 ∷ []) (tagOf the-type k) → s ≡ putRecord n given i k a b d fs s
 unfolding putRecord
 no-record n given i k a b d fs s o = arm (λ (k : GateKind). putRecord n given i k a b d fs s) s (0 ∷ 1 ∷ 2 ∷ 3 ∷ 4 ∷ 7 ∷ 8 ∷ 12 ∷ 13 ∷ 14 ∷ 15 ∷ 16 ∷ []) refl k o
-
-pub no-measure : (k : GateKind) → OneOf (0 ∷ 1 ∷ 2 ∷ 3 ∷ 4 ∷ 5 ∷ 6 ∷ 7 ∷ 8 ∷ 9 ∷ 10 ∷ 12 ∷ 13 ∷ 14 ∷ 15 ∷ 16 ∷ []) (tagOf the-type k) → isMeasure k ≡ false
-no-measure k o = sym (arm isMeasure false (0 ∷ 1 ∷ 2 ∷ 3 ∷ 4 ∷ 5 ∷ 6 ∷ 7 ∷ 8 ∷ 9 ∷ 10 ∷ 12 ∷ 13 ∷ 14 ∷ 15 ∷ 16 ∷ []) refl k o)
 
 -- ---- the kinds that write alone, and ccx and ccz
 

@@ -18,6 +18,8 @@ use Rattle.convert.specs.Records.{GateKind, KindH, KindX, KindZ, KindS, 
 use Rattle.convert.specs.Frame.{qubitsBy, qubitsOf, operandsChecked, namesUnused, frameGates, gateNodes, total, cliffordCheck}
 use Rattle.convert.specs.Conversion.{isDoubly, recordChecked, recordsChecked, anyDoubly}
 use Rattle.convert.specs.Code.Raw.{isFrame, frameNodes, measuresOf, recordOf}
+use Rattle.convert.specs.Code.Tables.{tableOf, boundBy, boundOf, othersBy, othersOf, Passes}
+use Rattle.convert.proofs.kinds.Entries.{table-at}
 
 no-test : (k : Checked) (e : PbcError) → (k ⟫ false ⇒ e) ≡ k
 unfolding _⟫_⇒_
@@ -197,55 +199,39 @@ and-both : (a b : Bool) → (a && b) ≡ true → (a ≡ true) × (b ≡ true)
 and-both true b e = (refl, e)
 and-both false b e = (e, (let z : _≡_ {A = ℕ} 0 1 = cc in absurd (omega arith)))
 
-below : (a n : ℕ) → ltb a n ≡ true → leb n a ≡ false
-below a n e = lt-leb n a (ltb-true a n e)
-
-sound-by : (s : Checked) (n cbits i number : ℕ) (t : Shape) (a b c : ℕ) → (not (eqb (shapeNumber t) 0) && ltb a n) ≡ true
-    → ((ltb b n && not (eqb b a)) || not (eqb (shapeNumber t) 2 || eqb (shapeNumber t) 3)) ≡ true
-    → ((ltb c n && (not (eqb c a) && not (eqb c b))) || not (eqb (shapeNumber t) 3)) ≡ true → (ltb b cbits || not (eqb (shapeNumber t) 4)) ≡ true
+sound-by : (s : Checked) (n cbits i number : ℕ) (t : Shape) (a b c : ℕ) → a < n → b < boundBy n cbits t → (ltb 0 (othersBy t) && eqb b a) ≡ false
+    → (1 < othersBy t → (ltb c n && (not (eqb c a) && not (eqb c b))) ≡ true)
     → (operandsChecked (s ⟫ eqb (shapeNumber t) 0 ⇒ UnsupportedGate i number) n i [] (qubitsBy t a b c) ⟫ eqb (shapeNumber t) 4 && leb cbits b ⇒ ClassicalBitOutOfRange i b) ≡ s
 unfolding operandsChecked _⟫_⇒_
-sound-by s n cbits i number NoShape a b c h₁ h₂ h₃ h₄ = let z : _≡_ {A = ℕ} 0 1 = cc in absurd (omega arith)
-sound-by (Wrong e) n cbits i number OneQubit a b c h₁ h₂ h₃ h₄ = refl
-sound-by (Wrong e) n cbits i number TwoQubits a b c h₁ h₂ h₃ h₄ = refl
-sound-by (Wrong e) n cbits i number ThreeQubits a b c h₁ h₂ h₃ h₄ = refl
-sound-by (Wrong e) n cbits i number Measured a b c h₁ h₂ h₃ h₄ = refl
-sound-by Fine n cbits i number OneQubit a b c h₁ h₂ h₃ h₄ = rw (below a n h₁)
-sound-by Fine n cbits i number TwoQubits a b c h₁ h₂ h₃ h₄ =
-    let p = and-both (ltb b n) (not (eqb b a)) (sym (or-false (ltb b n && not (eqb b a))) ∙ h₂) in
-    rw (below a n h₁, below b n (p .0), not-true (eqb b a) (p .1))
-sound-by Fine n cbits i number ThreeQubits a b c h₁ h₂ h₃ h₄ =
-    let p = and-both (ltb b n) (not (eqb b a)) (sym (or-false (ltb b n && not (eqb b a))) ∙ h₂) in
-    let r = and-both (ltb c n) (not (eqb c a) && not (eqb c b)) (sym (or-false (ltb c n && (not (eqb c a) && not (eqb c b)))) ∙ h₃) in
+sound-by s n cbits i number NoShape a b c ha hb hd hc = absurd (omega arith)
+sound-by (Wrong e) n cbits i number OneQubit a b c ha hb hd hc = refl
+sound-by (Wrong e) n cbits i number TwoQubits a b c ha hb hd hc = refl
+sound-by (Wrong e) n cbits i number ThreeQubits a b c ha hb hd hc = refl
+sound-by (Wrong e) n cbits i number Measured a b c ha hb hd hc = refl
+sound-by Fine n cbits i number OneQubit a b c ha hb hd hc = rw (lt-leb n a ha)
+sound-by Fine n cbits i number TwoQubits a b c ha hb hd hc = rw (lt-leb n a ha, lt-leb n b hb, hd)
+sound-by Fine n cbits i number ThreeQubits a b c ha hb hd hc =
+    let r = and-both (ltb c n) (not (eqb c a) && not (eqb c b)) (hc (omega arith)) in
     let t = and-both (not (eqb c a)) (not (eqb c b)) (r .1) in
-    rw (below a n h₁, below b n (p .0), not-true (eqb b a) (p .1), below c n (r .0), not-true (eqb c a) (t .0), not-true (eqb c b) (t .1))
-sound-by Fine n cbits i number Measured a b c h₁ h₂ h₃ h₄ = rw (below a n h₁, below b cbits (sym (or-false (ltb b cbits)) ∙ h₄))
+    rw (lt-leb n a ha, lt-leb n b hb, hd, lt-leb n c (ltb-true c n (r .0)), not-true (eqb c a) (t .0), not-true (eqb c b) (t .1))
+sound-by Fine n cbits i number Measured a b c ha hb hd hc = rw (lt-leb n a ha, lt-leb cbits b hb)
 
--- whether each shape is the kind's: none, two, three, measured
-pub sound-record : (s : Checked) (n cbits i number a b c : ℕ) (k : GateKind) (none two three measured : Bool)
-    → k ≡ kindOf number → none ≡ hasShape k NoShape → two ≡ hasShape k TwoQubits → three ≡ hasShape k ThreeQubits → measured ≡ hasShape k Measured
-    → (((not none && ltb a n) && ((ltb b n && not (eqb b a)) || not (two || three))) && (((ltb c n && (not (eqb c a) && not (eqb c b))) || not three) && (ltb b cbits || not measured))) ≡ true
-    → recordChecked s n cbits i (recordOf number a b c) ≡ s
+pub refuted : {A : Type 0} → false ≡ true → A
+refuted e = let z : _≡_ {A = ℕ} 0 1 = cc in absurd (omega arith)
+
+pub passes : (n bound others a b c : ℕ) → a < n → b < bound → (ltb 0 others && eqb b a) ≡ false → (1 < others → (ltb c n && (not (eqb c a) && not (eqb c b))) ≡ true) → Passes n bound others a b c
 unfolding recordChecked qubitsOf
-sound-record s n cbits i number a b c k none two three measured ek e₀ e₂ e₃ e₄ e =
-    let first = not none && ltb a n in
-    let second = (ltb b n && not (eqb b a)) || not (two || three) in
-    let third = (ltb c n && (not (eqb c a) && not (eqb c b))) || not three in
-    let target = ltb b cbits || not measured in
-    let p = and-both (first && second) (third && target) e in
-    let p₁ = and-both first second (p .0) in
-    let p₂ = and-both third target (p .1) in
-    rw (← ek)
-    (sound-by s n cbits i number (shapeOf k) a b c (rw (← e₀) (p₁ .0)) (rw (← e₂, ← e₃) (p₁ .1)) (rw (← e₃) (p₂ .0)) (rw (← e₄) (p₂ .1)))
+passes n bound others a b c ha hb hd hc cbits number eb eo s i =
+    sound-by s n cbits i number (shapeOf (kindOf number)) a b c ha (rw (← eb) hb) (rw (← eo) hd) (λ h. hc (rw eo h))
 
--- the list so far is sound, as is this record
-pub sound-more : (f g : Bool) (n cbits : ℕ) (gs : List ℕ) (i : ℕ) → i < length gs / 4
-    → (f ≡ true → (s : Checked) → recordsChecked s n cbits 0 (records gs) ≡ recordsChecked s n cbits i (drop i (records gs)))
-    → (g ≡ true → (s : Checked) (j : ℕ) → recordChecked s n cbits j (recordOf (getD gs (4 * i) 0) (getD gs (4 * i + 1) 0) (getD gs (4 * i + 2) 0) (getD gs (4 * i + 3) 0)) ≡ s)
-    → (f && g) ≡ true → (s : Checked) → recordsChecked s n cbits 0 (records gs) ≡ recordsChecked s n cbits (i + 1) (drop (i + 1) (records gs))
-sound-more f g n cbits gs i h hf hg e s =
-    let p = and-both f g e in
-    hf (p .0) s ∙ checks-more s n cbits gs i h ∙ ap (λ (t : Checked). recordsChecked t n cbits (i + 1) (drop (i + 1) (records gs))) (hg (p .1) s i)
+-- the list so far passes, as does this record
+pub pass-more : (n : ℕ) (bounds others gs : List ℕ) (i number : ℕ) → i < length gs / 4 → number ≡ getD gs (4 * i) 0 → number < 21
+    → Passes n (getD bounds number 0) (getD others number 0) (getD gs (4 * i + 1) 0) (getD gs (4 * i + 2) 0) (getD gs (4 * i + 3) 0)
+    → (cbits : ℕ) → bounds ≡ tableOf (boundOf n cbits) → others ≡ tableOf othersOf → (s : Checked)
+    → recordsChecked s n cbits i (drop i (records gs)) ≡ recordsChecked s n cbits (i + 1) (drop (i + 1) (records gs))
+pass-more n bounds others gs i number h en hn p cbits eb eo s =
+    let here = p cbits number (ap (λ t. getD t number 0) eb ∙ table-at (boundOf n cbits) number hn) (ap (λ t. getD t number 0) eo ∙ table-at othersOf number hn) s i in
+    checks-more s n cbits gs i h ∙ ap (λ (t : Checked). recordsChecked t n cbits (i + 1) (drop (i + 1) (records gs))) (rw (← en) here)
 
 -- a cap above 2 is never too small
 pub cap-above : (most : ℕ) (d : Bool) → 2 < most → false ≡ (eqb most 0 || (leb most 2 && d))

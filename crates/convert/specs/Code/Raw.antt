@@ -3,7 +3,7 @@ use mathlib.Core.Path.{_≡_}
 use mathlib.Core.Bool.{Bool, true, false, not, cond, _||_}
 use mathlib.Core.List.{List, [], _∷_, _++_, map}
 use Prim.Native.Nat.{ℕ, zero, suc, _+_, _*_, _/_, _<_, _≤_}
-use lib.Dec.{eqb}
+use lib.Dec.{eqb, ltb}
 use lib.Seq.{sets}
 use lib.ListN.{length, getD, set}
 use Rattle.pauli.specs.Gates.{Gate, gateH, gateX, gateZ, gateS, gateSdg, gateCnot, gateCz, AllValid}
@@ -122,8 +122,9 @@ pub record Ran (n : ℕ) (gs : List Gate) (c : ℕ) (ns fs : List ℕ) (c′ : �
 abbrev pub recordOf : ℕ → ℕ → ℕ → ℕ → Record
 recordOf k a b c = record { kind = k; a = a; b = b; c = c }
 
--- every record passed the checks: its operands are among the n qubits, and differ
+-- every record passed the checks: its kind is in the list, its operands are among the n qubits, and differ
 pub record Fits (n : ℕ) (gs : List ℕ) : Type 0 where
+  pub known : (i : ℕ) → i < length gs / 4 → getD gs (4 * i) 0 < 21
   pub each : (i : ℕ) → i < length gs / 4
       → AllProper n (getD gs (4 * i + 2) 0 + 1) (lowerAs (kindOf (getD gs (4 * i) 0)) (getD gs (4 * i + 1) 0) (getD gs (4 * i + 2) 0) (getD gs (4 * i + 3) 0))
   pub bits : (i : ℕ) → i < length gs / 4
@@ -177,6 +178,20 @@ costs false k c = needed (k .nodes + c .nodes) (k .operations + c .operations) (
 unfoldable pub summed : Needed → List Record → Needed
 summed k [] = k
 summed k (r ∷ rs) = summed (costs false k (costOf (kindOf (r .kind)))) rs
+
+-- what is counted, with a flush at the end or without
+abbrev pub closed : Bool → Needed → Needed
+closed true k = needed (k .nodes + k .joints) (k .operations + k .rotations) 0 0
+closed false k = needed (k .nodes) (k .operations) 0 0
+
+-- some row may weigh more than the cap
+abbrev pub mayFlush : ℕ → Cap → Bool
+mayFlush n NoCap = false
+mayFlush n (AtMost most) = ltb most n
+
+-- the most that a list can need
+abbrev pub mostNeeded : ℕ → Bool → List ℕ → Needed
+mostNeeded n f gs = closed f (summed (needed (1 + 2 * n) 0 0 0) (records gs))
 
 -- the count that stands beside a plain state
 abbrev pub countFor : Plain → Needs → Needed

@@ -30,7 +30,7 @@ weigh-root-requires c κs =
     let loop-test = c .before .before .before .loop-test in
     let the-loop = c .before .before .before .before .loop in
     let pre = c .before .before .before .before .before .before .before .before .before .before .pre in
-    axis-rooted pre (the-loop .inv pre) (loop-test .taken) (axis-at .ensures .0)
+    axis-rooted pre (the-loop .inv pre .rest) (loop-test .taken) (axis-at .ensures .0)
 
 enum-known-e : tie.Need-enum-known-e Inv-loop μ-loop
 enum-known-e c = search needs
@@ -58,7 +58,7 @@ returns c =
     let axis-at = c .before .before .before .before .before .before .before .before .before .before .axis-at in
     let loop-test = c .before .before .before .before .before .before .before .before .before .before .before .loop-test in
     let the-loop = c .before .before .before .before .before .before .before .before .before .before .before .before .loop in
-    λ g. weigh-refused g (the-loop .inv g) (loop-test .taken) (axis-at .ensures .0) (weigh-root .ensures (axis-rooted g (the-loop .inv g)
+    λ g. weigh-refused g (the-loop .inv g) (loop-test .taken) (axis-at .ensures .0) (weigh-root .ensures (axis-rooted g (the-loop .inv g .rest)
     (loop-test .taken) (axis-at .ensures .0))) (ap axisWeightOut (e .given .1))
 
 enum-known-k : tie.Need-enum-known-k Inv-loop μ-loop
@@ -89,7 +89,7 @@ loop-again c =
     let loop-test = c .before .before .before .before .before .before .before .before .before .before .before .before .before .before .loop-test in
     let back12 = c .before .before .before .before .before .before .before .before .before .before .before .before in
     let the-loop = back12 .before .before .before .loop in
-    λ g. weigh-turn g (the-loop .inv g) (loop-test .taken) (axis-at .ensures .0) (weigh-root .ensures (axis-rooted g (the-loop .inv g)
+    λ g. weigh-turn g (the-loop .inv g) (loop-test .taken) (axis-at .ensures .0) (weigh-root .ensures (axis-rooted g (the-loop .inv g .rest)
     (loop-test .taken) (axis-at .ensures .0))) (ap axisWeightOut (k .given .1)) (axis-at .ensures .1) (weigh-root .kept .1 .0 ∙ the-loop .inv g .long)
     (weigh-root .kept .1 .1 .0 ∙ the-loop .inv g .pool-long) (raised .ensures) (c .raised2 .ensures)
 

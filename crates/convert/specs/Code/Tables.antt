@@ -1,0 +1,107 @@
+-- Tables that are made once a conversion: an entry for each kind from number 0 to 20.
+use mathlib.Core.Path.{_≡_}
+use mathlib.Core.Bool.{Bool, true, false}
+use mathlib.Core.List.{List, [], _∷_, map}
+use Prim.Native.Nat.{ℕ, _+_, _*_}
+use Rattle.pauli.specs.Gates.{Gate, gateH, gateX, gateZ, gateS, gateSdg, gateCnot, gateCz}
+use Rattle.convert.specs.Types.{Checked}
+use Rattle.convert.specs.Records.{GateKind, Shape, NoShape, OneQubit, TwoQubits, ThreeQubits, Measured, shapeOf, kinds, kindOf, Record, records, Elementary, clifford, elT, elTdg, elCcx, elCcz, elMeasure, lowerAs}
+use Rattle.convert.specs.Conversion.{recordChecked, recordsChecked}
+use Rattle.convert.specs.Code.Raw.{recordOf, costOf, closed, firstWordOf}
+use Rattle.convert.specs.declared.count.Needed.{Needed}
+
+abbrev pub tableOf : (GateKind → ℕ) → List ℕ
+tableOf f = map f kinds
+
+-- ---- soundness
+
+-- what the second operand stays below: for one qubit every word passes, for what is not supported none
+abbrev pub boundBy : ℕ → ℕ → Shape → ℕ
+boundBy n cbits NoShape = 0
+boundBy n cbits OneQubit = 4294967296
+boundBy n cbits TwoQubits = n
+boundBy n cbits ThreeQubits = n
+boundBy n cbits Measured = cbits
+
+abbrev pub boundOf : ℕ → ℕ → GateKind → ℕ
+boundOf n cbits kind = boundBy n cbits (shapeOf kind)
+
+-- the qubits past the first
+abbrev pub othersBy : Shape → ℕ
+othersBy NoShape = 0
+othersBy OneQubit = 0
+othersBy TwoQubits = 1
+othersBy ThreeQubits = 2
+othersBy Measured = 0
+
+abbrev pub othersOf : GateKind → ℕ
+othersOf kind = othersBy (shapeOf kind)
+
+-- a record with these operands passes its checks, whatever came before, if this is its kind's entry
+abbrev pub Passes : ℕ → ℕ → ℕ → ℕ → ℕ → ℕ → Type 0
+Passes n bound others a b c =
+    (cbits number : ℕ) → bound ≡ boundOf n cbits (kindOf number) → others ≡ othersOf (kindOf number) → (checked : Checked) (i : ℕ) → recordChecked checked n cbits i (recordOf number a b c) ≡ checked
+
+-- as do all records
+abbrev pub AllPass : ℕ → List ℕ → List ℕ → List ℕ → Type 0
+AllPass n bounds others gs =
+    (cbits : ℕ) → bounds ≡ tableOf (boundOf n cbits) → others ≡ tableOf othersOf → (checked : Checked) → recordsChecked checked n cbits 0 (records gs) ≡ checked
+
+-- ---- sums
+
+-- nodes in the low 32 bits, operations above
+abbrev pub together : Needed → ℕ
+together k = k .nodes + 4294967296 * k .operations
+
+unfoldable pub packedCost : Bool → GateKind → ℕ
+packedCost f kind = together (closed f (costOf kind))
+
+-- the sum of f over the kinds of records
+unfoldable pub sumOver : (GateKind → ℕ) → List Record → ℕ
+sumOver f [] = 0
+sumOver f (r ∷ rs) = f (kindOf (r .kind)) + sumOver f rs
+
+-- ---- forms
+
+-- the bit by which an elementary gate is known
+abbrev pub bitOf : Elementary → ℕ
+bitOf (clifford (gateH q)) = 1
+bitOf (clifford (gateX q)) = 2
+bitOf (clifford (gateZ q)) = 4
+bitOf (clifford (gateS q)) = 8
+bitOf (clifford (gateSdg q)) = 16
+bitOf (clifford (gateCnot c t)) = 256
+bitOf (clifford (gateCz c t)) = 512
+bitOf (elT q) = 32
+bitOf (elTdg q) = 32
+bitOf (elCcx a b d) = 1024
+bitOf (elCcz a b d) = 2048
+bitOf (elMeasure q k) = 4096
+
+-- one gate has its bit, and above 32 bits the first word that it writes alone; several, or none, have a bit of their own
+abbrev pub formBy : List Elementary → ℕ
+formBy [] = 32768
+formBy (e ∷ []) = bitOf e + 4294967296 * firstWordOf e
+formBy (e ∷ f ∷ es) = 32768
+
+-- the form of a kind follows from its lowering
+unfoldable pub formOf : GateKind → ℕ
+formOf kind = formBy (lowerAs kind 0 0 0)
+
+-- ---- gates that one function does
+
+-- cz or cnot
+abbrev pub pairGate : Bool → ℕ → ℕ → Gate
+pairGate true c t = gateCz c t
+pairGate false c t = gateCnot c t
+
+-- sdg or s
+abbrev pub phaseGate : Bool → ℕ → Gate
+phaseGate true q = gateSdg q
+phaseGate false q = gateS q
+
+-- h; x or z
+abbrev pub moveGate : Bool → Bool → ℕ → Gate
+moveGate true x q = gateH q
+moveGate false true q = gateX q
+moveGate false false q = gateZ q
