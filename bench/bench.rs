@@ -1,9 +1,10 @@
-//! The library and the Rust in one process, on the same inputs, both optimised. Prints for each workload both times, their ratio, and the time per
-//! gate as the work doubles; at the end, for each kind of workload, how many meet the ratio that it is to have, and the worst. The library's
-//! buffers are made before timing and not cleared between runs; the Rust makes its own at each call, and dropping them is not timed.
-//! The Rust is timed twice: with the C library's allocator as it is, which gives pages back and asks for them again, and at the end of all with
-//! one that keeps them (`warm`). `crate` is the time of `to_pbc` of bindings/rust, which owns its buffers, as the Rust does; `copies` says
-//! how many times as long as one copy of the words written a conversion takes.
+//! The library and the Rust in one process, on the same inputs, both optimised. Prints for each workload both times, their ratio, the time per gate,
+//! how both grow as the work doubles, and how many times as long as writing its words once (one copy of them) a conversion takes; at the end, for
+//! each kind of workload, how many meet the ratio that it is to have, the median and those that miss it.
+//! A random workload is run twice: on one list again and again, and on sixteen lists in turn, so that none is learnt by heart; its time is then
+//! the mean over the lists. Times are the least of several rounds. The library's buffers are made before timing and not cleared between runs; the
+//! Rust makes its own at each call, with an allocator that keeps its pages, and dropping them is not timed.
+//! `crate` is the time of `to_pbc` of bindings/rust, which owns its buffers, as the Rust does.
 //! A report or expansion clears the scratch and the pool that it is lent. It is lent what a caller who keeps buffers would have after growing
 //! them as they are needed: four words of scratch a used node, and the least power of two of records, from 1,024 on, with which all calls are accepted.
 //! usage: bench FOLDER [WORD]   (the adders' folder; only workloads are run whose names, as printed, contain the word)
@@ -40,6 +41,11 @@ unsafe extern "C" {
         scratch: *mut u32, scratch_len: usize, pool: *mut u32, pool_len: usize, owner: u64, word: u32, max_cells: u64,
         answer: *mut u64, answer_len: usize,
     ) -> u32;
+    fn pbc_expand_axes(
+        header: *mut u64, header_len: usize, nodes: *const u32, nodes_len: usize, operations: *const u32, operations_len: usize,
+        rows: *mut u8, rows_len: usize, scratch: *mut u32, scratch_len: usize, pool: *mut u32, pool_len: usize, limit: u64,
+        answer: *mut u64, answer_len: usize,
+    ) -> u32;
     fn pbc_max_axis_weights(
         header: *mut u64, header_len: usize, nodes: *const u32, nodes_len: usize, operations: *const u32, operations_len: usize,
         scratch: *mut u32, scratch_len: usize, pool: *mut u32, pool_len: usize, limit: u64, answer: *mut u64, answer_len: usize,
@@ -51,7 +57,7 @@ unsafe extern "C" {
     fn mallopt(what: i32, value: i32) -> i32;
 }
 
-/// From here on the allocator keeps what it was given.
+/// From here on the allocator keeps what it was given, so that no time goes into pages given back and asked for again.
 fn keep_pages() {
     const TRIM_THRESHOLD: i32 = -1;
     const TOP_PAD: i32 = -2;
@@ -72,6 +78,7 @@ struct Buffers {
     scratch: Vec<u32>,
     pool: Vec<u32>,
     letters: Vec<u8>,
+    rows: Vec<u8>,
     header: [u64; 6],
     answer: [u64; 4],
 }
@@ -86,16 +93,18 @@ impl Buffers {
             scratch: Vec::new(),
             pool: Vec::new(),
             letters: vec![0; 256],
+            rows: Vec::new(),
             header: [0; 6],
             answer: [0; 4],
         }
     }
 
-    fn convert(&mut self, w: &Workload) -> u32 {
+    fn convert(&mut self, w: &Workload, list: usize) -> u32 {
         let cap = w.cap.map_or(u64::MAX, |c| c as u64);
+        let words = &w.lists[list];
         unsafe {
             pbc_convert(
-                w.qubits, w.cbits, 1, cap, w.words.as_ptr(), w.words.len(), self.nodes.as_mut_ptr(), self.nodes.len(),
+                w.qubits, w.cbits, 1, cap, words.as_ptr(), words.len(), self.nodes.as_mut_ptr(), self.nodes.len(),
                 self.operations.as_mut_ptr(), self.operations.len(), self.frame.as_mut_ptr(), self.frame.len(),
                 self.planes.as_mut_ptr(), self.planes.len(), self.header.as_mut_ptr(), 6, self.answer.as_mut_ptr(), 4,
             )
@@ -129,9 +138,21 @@ impl Buffers {
         refused
     }
 
-    /// Scratch and pool for the readers of the circuit at hand; the pool's records.
+    /// All axes in one walk.
+    fn axes(&mut self) -> u32 {
+        unsafe {
+            pbc_expand_axes(
+                self.header.as_mut_ptr(), 6, self.nodes.as_ptr(), self.nodes.len(), self.operations.as_ptr(), self.operations.len(),
+                self.rows.as_mut_ptr(), self.rows.len(), self.scratch.as_mut_ptr(), self.scratch.len(), self.pool.as_mut_ptr(),
+                self.pool.len(), u64::MAX >> 1, self.answer.as_mut_ptr(), 4,
+            )
+        }
+    }
+
+    /// Rows, scratch and pool for the readers of the circuit at hand; the pool's records.
     fn fit(&mut self, expand: bool) -> usize {
         self.scratch = vec![0; 4 * self.header[3] as usize];
+        self.rows = vec![0; (self.header[0] as usize + 1) * self.header[4] as usize];
         let mut records = 1024;
         loop {
             self.pool = vec![0; 3 * records];
@@ -152,17 +173,19 @@ struct Workload {
     qubits: u32,
     cbits: u32,
     cap: Option<u32>,
-    words: Vec<u32>,
+    /// Run in turn.
+    lists: Vec<Vec<u32>>,
 }
 
 impl Workload {
     fn gates(&self) -> usize {
-        self.words.len() / 4
+        self.lists[0].len() / 4
     }
 
     fn named(&self, what: What) -> String {
         let cap = self.cap.map_or("none".into(), |c| c.to_string());
-        format!("{} {} cap {cap}", what.name(), self.name)
+        let lists = if self.lists.len() == 1 { String::new() } else { format!(", {} lists,", self.lists.len()) };
+        format!("{} {}{lists} cap {cap}", what.name(), self.name)
     }
 }
 
@@ -176,13 +199,12 @@ fn line(form: &str, size: u32, text: &str, cap: Option<u32>) -> Workload {
         qubits: numbers[0] as u32,
         cbits: numbers[1] as u32,
         cap,
-        words: numbers[3..].iter().map(|&w| w as u32).collect(),
+        lists: vec![numbers[3..].iter().map(|&w| w as u32).collect()],
     }
 }
 
 /// Clifford+T: of a hundred gates fifty t and tdg, ten h, ten s and sdg, ten x and z, fifteen cnot and cz, five measurements.
-fn random(qubits: u32, gates: usize, cap: Option<u32>) -> Workload {
-    let mut r = Random(0x9e37_79b9_7f4a_7c15 ^ gates as u64 ^ (qubits as u64) << 32);
+fn random_list(r: &mut Random, qubits: u32, gates: usize) -> Vec<u32> {
     let mut words = Vec::new();
     for _ in 0..gates {
         let a = r.below(qubits);
@@ -200,19 +222,30 @@ fn random(qubits: u32, gates: usize, cap: Option<u32>) -> Workload {
             _ => [12, a, 0, 0],
         });
     }
-    let form = format!("random {qubits} qubits");
-    Workload { family: "random circuits", name: format!("{form} {gates} gates"), form, qubits, cbits: 1, cap, words }
+    words
 }
 
-/// The least of the times of some runs, after one that is not counted.
-fn best(mut run: impl FnMut() -> Duration) -> f64 {
-    run();
-    let (mut least, begun, mut runs) = (f64::MAX, Instant::now(), 0);
-    while runs < 5 || begun.elapsed() < Duration::from_millis(300) && runs < 2000 {
-        least = least.min(run().as_secs_f64());
-        runs += 1;
+fn random(qubits: u32, gates: usize, lists: usize, cap: Option<u32>) -> Workload {
+    let mut r = Random(0x9e37_79b9_7f4a_7c15 ^ gates as u64 ^ (qubits as u64) << 32);
+    let lists = (0..lists).map(|_| random_list(&mut r, qubits, gates)).collect();
+    let form = format!("random {qubits} qubits");
+    Workload { family: "random circuits", name: format!("{form} {gates} gates"), form, qubits, cbits: 1, cap, lists }
+}
+
+/// The least of the times of some rounds, after one that is not counted.
+fn best(mut round: impl FnMut() -> Duration) -> f64 {
+    round();
+    let (mut least, begun, mut rounds) = (f64::MAX, Instant::now(), 0);
+    while rounds < 5 || begun.elapsed() < Duration::from_millis(300) && rounds < 2000 {
+        least = least.min(round().as_secs_f64());
+        rounds += 1;
     }
     least
+}
+
+/// The same over things taken in turn; the mean of a round.
+fn best_of<T>(things: &[T], mut run: impl FnMut(&T) -> Duration) -> f64 {
+    best(|| things.iter().map(&mut run).sum()) / things.len() as f64
 }
 
 fn timed<T>(f: impl FnOnce() -> T) -> (Duration, T) {
@@ -225,6 +258,7 @@ fn timed<T>(f: impl FnOnce() -> T) -> (Duration, T) {
 enum What {
     Convert,
     Report,
+    Axes,
     Expand,
 }
 
@@ -233,15 +267,16 @@ impl What {
         match self {
             What::Convert => "convert",
             What::Report => "report",
+            What::Axes => "axes",
             What::Expand => "expand",
         }
     }
 }
 
-/// A workload to be run; a reader's pool is one with which every axis can be expanded too, where `axes` says so.
+/// A workload to be run; a reader's pool is one with which every axis can be expanded too, where `each` says so.
 struct Job {
     what: What,
-    axes: bool,
+    each: bool,
     workload: Workload,
 }
 
@@ -249,32 +284,33 @@ struct Job {
 struct Row {
     ours: f64,
     rust: f64,
-    warm: f64,
     bound: Option<f64>,
     copy: Option<f64>,
     note: String,
 }
 
-fn rust_circuit(w: &Workload) -> (Circuit, Option<NonZeroUsize>) {
-    let (c, stop) = driver::circuit(w.qubits as usize, w.cbits as usize, &w.words);
+fn rust_circuit(w: &Workload, list: usize) -> (Circuit, Option<NonZeroUsize>) {
+    let (c, stop) = driver::circuit(w.qubits as usize, w.cbits as usize, &w.lists[list]);
     assert!(stop.is_none());
     (c, w.cap.and_then(|c| NonZeroUsize::new(c as usize)))
 }
 
-/// Both convert to the same words.
+/// Both convert each list to the same words; no for a refusal.
 fn agree(b: &mut Buffers, w: &Workload) -> bool {
-    let number = b.convert(w);
-    if number != 0 {
-        println!("{:46} skipped: refused with {number}", w.named(What::Convert));
-        return false;
-    }
-    let (c, cap) = rust_circuit(w);
-    let rust = to_pbc(&c, cap).unwrap();
-    let [nodes, operations, frame] = used(b);
-    let four: Vec<u32> = operations.chunks(OPERATION_WORDS).flat_map(|words| &words[..4]).copied().collect();
-    let same = driver::words(&rust) == [nodes.to_vec(), four, frame.to_vec()] && rust.measurement_count() as u64 == b.header[5];
-    assert!(same, "{} cap {:?}: the words differ", w.name, w.cap);
-    true
+    (0..w.lists.len()).rev().all(|list| {
+        let number = b.convert(w, list);
+        if number != 0 {
+            println!("{:56} skipped: refused with {number}", w.named(What::Convert));
+            return false;
+        }
+        let (c, cap) = rust_circuit(w, list);
+        let rust = to_pbc(&c, cap).unwrap();
+        let [nodes, operations, frame] = used(b);
+        let four: Vec<u32> = operations.chunks(OPERATION_WORDS).flat_map(|words| &words[..4]).copied().collect();
+        let same = driver::words(&rust) == [nodes.to_vec(), four, frame.to_vec()] && rust.measurement_count() as u64 == b.header[5];
+        assert!(same, "{} cap {:?}: the words differ", w.name, w.cap);
+        true
+    })
 }
 
 /// The words in use of nodes, operations and frame.
@@ -290,9 +326,9 @@ fn copied(b: &Buffers) -> f64 {
     best(|| timed(|| black_box(&mut to).copy_from_slice(black_box(&words))).0)
 }
 
-fn bound_gates(w: &Workload) -> Vec<bound::Gate> {
+fn bound_gates(words: &[u32]) -> Vec<bound::Gate> {
     use bound::Gate::*;
-    w.words
+    words
         .chunks(4)
         .map(|g| match g[0] {
             0 => H(g[1]),
@@ -315,23 +351,25 @@ impl Job {
         self.workload.named(self.what)
     }
 
-    /// Its kind, and the ratio that it is to meet; none for expansions.
+    /// Its kind, and the ratio that it is to meet; none for expansions one by one.
     fn bar(&self) -> (String, Option<f64>) {
-        match (self.what, self.workload.cap) {
-            (What::Convert, None) => (format!("conversion without a cap, {}", self.workload.family), Some(0.5)),
-            (What::Convert, Some(_)) => (format!("conversion with a cap, {}", self.workload.family), Some(0.7)),
-            (What::Report, _) => ("report".into(), Some(0.5)),
+        let w = &self.workload;
+        let lists = if w.lists.len() == 1 { "" } else { ", lists in turn" };
+        match (self.what, w.cap) {
+            (What::Convert, None) => (format!("conversion without a cap, {}{lists}", w.family), Some(0.5)),
+            (What::Convert, Some(_)) => (format!("conversion with a cap, {}{lists}", w.family), Some(0.7)),
+            (What::Report, _) => (format!("report, {}", w.family), Some(0.5)),
+            (What::Axes, _) => (format!("all axes in one walk, {}", w.family), Some(0.5)),
             (What::Expand, _) => ("all axes, one by one".into(), None),
         }
     }
 
-    /// The Rust's time, with the allocator as it is now.
     fn rust(&self) -> f64 {
-        let (c, cap) = rust_circuit(&self.workload);
+        let circuits: Vec<_> = (0..self.workload.lists.len()).map(|list| rust_circuit(&self.workload, list)).collect();
         if self.what == What::Convert {
-            return best(|| timed(|| black_box(to_pbc(black_box(&c), cap).unwrap())).0);
+            return best_of(&circuits, |(c, cap)| timed(|| black_box(to_pbc(black_box(c), *cap).unwrap())).0);
         }
-        let circuit = to_pbc(&c, cap).unwrap();
+        let circuit = to_pbc(&circuits[0].0, circuits[0].1).unwrap();
         if self.what == What::Report {
             return best(|| timed(|| black_box(circuit.max_axis_weights(usize::MAX).unwrap())).0);
         }
@@ -341,64 +379,70 @@ impl Job {
 
     /// The crate's conversion, which owns what it makes.
     fn bound(&self) -> f64 {
-        let (w, gates) = (&self.workload, bound_gates(&self.workload));
+        let w = &self.workload;
+        let lists: Vec<_> = w.lists.iter().map(|list| bound_gates(list)).collect();
         let cap = w.cap.and_then(NonZeroU32::new);
-        best(|| timed(|| black_box(bound::to_pbc(w.qubits, w.cbits, black_box(&gates), cap).unwrap())).0)
+        best_of(&lists, |gates| timed(|| black_box(bound::to_pbc(w.qubits, w.cbits, black_box(gates), cap).unwrap())).0)
     }
 
-    /// All but the warm time; nothing where the conversion is refused.
+    /// Nothing where the conversion is refused.
     fn run(&self, b: &mut Buffers) -> Option<Row> {
         let w = &self.workload;
         if !agree(b, w) {
             return None;
         }
-        let mut row = Row { ours: 0.0, rust: 0.0, warm: 0.0, bound: None, copy: None, note: String::new() };
+        let mut row = Row { ours: 0.0, rust: 0.0, bound: None, copy: None, note: String::new() };
         if self.what == What::Convert {
-            row.ours = best(|| timed(|| black_box(b.convert(black_box(w)))).0);
-            row.bound = Some(self.bound());
+            let lists: Vec<usize> = (0..w.lists.len()).collect();
             row.copy = Some(copied(b));
+            row.ours = best_of(&lists, |&list| timed(|| black_box(b.convert(black_box(w), list))).0);
+            row.bound = Some(self.bound());
         } else {
-            row.note = format!("pool {} records", b.fit(self.axes));
+            row.note = format!("pool {} records", b.fit(self.each));
             self.reads_alike(b);
-            row.ours = if self.what == What::Report {
-                best(|| timed(|| black_box(b.report())).0)
-            } else {
-                best(|| timed(|| black_box(b.expand_all())).0)
+            row.ours = match self.what {
+                What::Report => best(|| timed(|| black_box(b.report())).0),
+                What::Axes => best(|| timed(|| black_box(b.axes())).0),
+                _ => best(|| timed(|| black_box(b.expand_all())).0),
             };
         }
         row.rust = self.rust();
         Some(row)
     }
 
+    /// Both readers of all axes say what the Rust says.
     fn reads_alike(&self, b: &mut Buffers) {
-        let (c, cap) = rust_circuit(&self.workload);
-        let m = to_pbc(&c, cap).unwrap().max_axis_weights(usize::MAX).unwrap();
+        let (c, cap) = rust_circuit(&self.workload, 0);
+        let rust = to_pbc(&c, cap).unwrap();
+        let m = rust.max_axis_weights(usize::MAX).unwrap();
         assert!(b.report() == 0 && b.answer[0] == m.non_clifford as u64 && b.answer[1] == m.clifford as u64);
+        assert!(b.axes() == 0);
+        let n = self.workload.qubits as usize;
+        for (row, axis) in b.rows.chunks(n + 1).zip(rust.axes()) {
+            let weight = row[..n].iter().filter(|&&letter| letter != 0).count();
+            assert!(weight == rust.expand(axis, usize::MAX).unwrap().factors.len());
+        }
     }
 }
 
-/// The jobs of one kind that were run: how many, how many met the bar with the allocator as it is and warm, and the worst of both.
+/// The jobs of one kind that were run: how many, their ratios, and those above the bar.
 struct Kind {
     name: String,
     bar: Option<f64>,
-    run: usize,
-    met: [usize; 2],
-    worst: [(f64, String); 2],
+    ratios: Vec<f64>,
+    missed: Vec<(f64, String)>,
 }
 
 fn count(kinds: &mut Vec<Kind>, job: &Job, row: &Row) {
     let (name, bar) = job.bar();
     let place = kinds.iter().position(|k| k.name == name).unwrap_or_else(|| {
-        kinds.push(Kind { name, bar, run: 0, met: [0, 0], worst: Default::default() });
+        kinds.push(Kind { name, bar, ratios: Vec::new(), missed: Vec::new() });
         kinds.len() - 1
     });
-    let kind = &mut kinds[place];
-    kind.run += 1;
-    for (k, ratio) in [row.ours / row.rust, row.ours / row.warm].into_iter().enumerate() {
-        kind.met[k] += usize::from(bar.is_none_or(|bar| ratio <= bar));
-        if ratio > kind.worst[k].0 {
-            kind.worst[k] = (ratio, job.name());
-        }
+    let (kind, ratio) = (&mut kinds[place], row.ours / row.rust);
+    kind.ratios.push(ratio);
+    if bar.is_some_and(|bar| ratio > bar) {
+        kind.missed.push((ratio, job.name()));
     }
 }
 
@@ -407,19 +451,21 @@ fn print(job: &Job, row: &Row, growth: &str) {
     let bound = row.bound.map_or(String::new(), |t| format!("  crate {:8.1} us {:6.3}", t * 1e6, t / row.rust));
     let copies = row.copy.map_or(String::new(), |t| format!("  copies {:5.1}", row.ours / t));
     println!(
-        "{:46} ours {:10.1} us  rust {:10.1} us {:6.3}  warm {:10.1} us {:6.3}{bound}{copies}  {:7.1} ns a gate  {growth}{}",
-        job.name(), row.ours * 1e6, row.rust * 1e6, row.ours / row.rust, row.warm * 1e6, row.ours / row.warm, row.ours * 1e9 / gates, row.note
+        "{:56} ours {:10.1} us  rust {:10.1} us {:6.3}{bound}{copies}  {:7.1} ns a gate  {growth}{}",
+        job.name(), row.ours * 1e6, row.rust * 1e6, row.ours / row.rust, row.ours * 1e9 / gates, row.note
     );
 }
 
-fn summary(kinds: &[Kind]) {
+fn summary(kinds: &mut [Kind]) {
     println!();
-    for Kind { name, bar, run, met: [cold, warm], worst: [(cold_ratio, cold_of), (warm_ratio, warm_of)] } in kinds {
-        match bar {
-            Some(bar) => println!("{name}: {cold} of {run} have a ratio of at most {bar}, and {warm} with the allocator kept warm"),
-            None => println!("{name}: {run}, with no bar"),
+    for Kind { name, bar, ratios, missed } in kinds {
+        ratios.sort_by(f64::total_cmp);
+        let (least, median, most) = (ratios[0], ratios[ratios.len() / 2], ratios[ratios.len() - 1]);
+        let met = bar.map_or("no bar".into(), |bar| format!("{} of {} within {bar}", ratios.len() - missed.len(), ratios.len()));
+        println!("{name}: {met}; least {least:.3}, median {median:.3}, most {most:.3}");
+        for (ratio, job) in missed {
+            println!("    {ratio:.3} {job}");
         }
-        println!("    the worst {cold_ratio:.3} ({cold_of}), warm {warm_ratio:.3} ({warm_of})");
     }
 }
 
@@ -431,35 +477,45 @@ fn jobs(folder: &str) -> Vec<Job> {
         line(form, n, &text, cap)
     };
     let mut jobs = Vec::new();
-    let mut convert = |workload| jobs.push(Job { what: What::Convert, axes: false, workload });
+    let mut convert = |workload| jobs.push(Job { what: What::Convert, each: false, workload });
     for (form, cap) in ["cuccaro", "ladder"].into_iter().flat_map(|form| CAPS.map(|cap| (form, cap))) {
         [4, 8, 16, 32, 64, 120].map(|n| convert(adder(form, n, cap)));
     }
     for (qubits, cap) in [16, 64, 256].into_iter().flat_map(|qubits| CAPS.map(|cap| (qubits, cap))) {
-        [1000, 2000, 4000, 8000, 16000, 32000, 65536].map(|g| convert(random(qubits, g, cap)));
+        for lists in [1, 16] {
+            [1000, 2000, 4000, 8000, 16000, 32000, 65536].map(|g| convert(random(qubits, g, lists, cap)));
+        }
     }
-    let mut read = |axes: bool, w: &dyn Fn() -> Workload| {
-        jobs.push(Job { what: What::Report, axes, workload: w() });
-        if axes {
-            jobs.push(Job { what: What::Expand, axes, workload: w() });
+    let mut read = |each: bool, w: &dyn Fn() -> Workload| {
+        let mut job = |what| jobs.push(Job { what, each, workload: w() });
+        job(What::Report);
+        job(What::Axes);
+        if each {
+            job(What::Expand);
         }
     };
     for (form, n) in ["cuccaro", "ladder"].into_iter().flat_map(|form| [8, 32, 120].map(|n| (form, n))) {
-        read(true, &|| adder(form, n, None));
-        read(true, &|| adder(form, n, Some(8)));
+        [None, Some(3), Some(8)].map(|cap| read(true, &|| adder(form, n, cap)));
     }
     for (qubits, cap) in [16, 64, 256].into_iter().flat_map(|qubits| CAPS.map(|cap| (qubits, cap))) {
-        read(false, &|| random(qubits, 4000, cap));
+        read(false, &|| random(qubits, 4000, 1, cap));
     }
-    read(true, &|| random(16, 1000, None));
+    read(true, &|| random(16, 1000, 1, None));
+    read(false, &|| random(64, 32000, 1, Some(8)));
     jobs
 }
 
-/// How much longer than the conversion before it takes, for twice the gates, where that is the same but for its size.
+/// How much longer than the conversion before it takes, ours and the Rust's, for twice the gates, where that is the same but for its size.
 fn growth(last: Option<(&Job, &Row)>, job: &Job, row: &Row) -> String {
-    let alike = |j: &Job| j.what == What::Convert && job.what == What::Convert && j.workload.form == job.workload.form && j.workload.cap == job.workload.cap;
+    let doubled = |j: &Job| {
+        let (a, b) = (&j.workload, &job.workload);
+        j.what == What::Convert && job.what == What::Convert && a.form == b.form && a.cap == b.cap && a.lists.len() == b.lists.len() && a.gates() < b.gates()
+    };
     match last {
-        Some((j, r)) if alike(j) => format!("growth {:.2}", row.ours / r.ours * (2 * j.workload.gates()) as f64 / job.workload.gates() as f64),
+        Some((j, r)) if doubled(j) => {
+            let half = (2 * j.workload.gates()) as f64 / job.workload.gates() as f64;
+            format!("growth {:.2} rust {:.2}", row.ours / r.ours * half, row.rust / r.rust * half)
+        }
         _ => String::new(),
     }
 }
@@ -475,15 +531,14 @@ fn main() {
         std::process::exit(2);
     }
     println!("a report or expansion is lent the least pool that serves, a power of two of records from 1,024 on, and four words of scratch a used node");
-    let mut buffers = Buffers::new();
-    let mut rows: Vec<(&Job, Row)> = jobs.iter().filter_map(|job| Some((job, job.run(&mut buffers)?))).collect();
     keep_pages();
+    let mut buffers = Buffers::new();
     let (mut kinds, mut last) = (Vec::new(), None);
-    for (job, row) in &mut rows {
-        row.warm = job.rust();
-        print(job, row, &growth(last, job, row));
-        count(&mut kinds, job, row);
-        last = Some((*job, &*row));
+    for job in &jobs {
+        let Some(row) = job.run(&mut buffers) else { continue };
+        print(job, &row, &growth(last.as_ref().map(|(j, r)| (*j, r)), job, &row));
+        count(&mut kinds, job, &row);
+        last = Some((job, row));
     }
-    summary(&kinds);
+    summary(&mut kinds);
 }

@@ -2,4 +2,5 @@
 pub mod Words
 pub mod Tables
 pub mod Tests
+pub mod Within
 pub mod Deciding

@@ -6,6 +6,7 @@ use crate::gate::kind_at;
 use crate::gate::number_at;
 use crate::gate::operand_at;
 use crate::planes::heavy;
+use crate::planes::heavy_by;
 use crate::planes::plane_record;
 use crate::planes::planes_by;
 use crate::planes::reset;
@@ -136,7 +137,7 @@ fn tested_by(
         planes_by(planes, n, l, form, kind, a, b);
         return false;
     }
-    let flushed = heavy(planes, n, l, most, kind, a, b, d);
+    let flushed = heavy_by(planes, n, l, most, form, kind, a, b, d);
     refresh(planes, n, l, flushed);
     flushed
 }

@@ -1,19 +1,21 @@
 //! Planes (document 01): for each image l words of x bits and l of z bits. Image 2q is the x image of qubit q, image 2q + 1 its z image.
 //! What the words stand for: specs/Planes.antt; what each loop does to them: specs/Code/RawPlanes.antt.
 
+use crate::form::place_if;
 use crate::gate::GateKind;
 ghost use mathlib.Core.Path.{_≡_};
 ghost use mathlib.Core.List.{List, _++_};
 ghost use Prim.Native.Nat.{ℕ, suc, _+_, _*_, _/_, _%_, _<_, _≤_, _^_};
-ghost use lib.ListN.{length, set};
-ghost use Rattle.pauli.specs.Gates.{AllValid, gateH, gateS, gateCnot, gateCz};
+ghost use lib.Bits.{bitOr};
+ghost use lib.ListN.{length, getD, set};
+ghost use Rattle.pauli.specs.Gates.{AllValid, gateH, gateS};
 ghost use Rattle.pauli.specs.Rows.{Row};
 ghost use Rattle.convert.specs.Records.{AtMost, lowerAs, AllProper};
 ghost use Rattle.arena.specs.Limits.{maxQubits};
 ghost use Rattle.convert.specs.Planes.{partWords, packed};
-ghost use Rattle.convert.specs.Code.Raw.{recordGates, anyExceeds};
-ghost use Rattle.convert.specs.Code.Tables.{formOf};
-ghost use Rattle.convert.specs.Code.RawPlanes.{Wide, planeRun, xorTo, swapTo, weightTo, picked, joined, planeStep, planeReset, clearTo, sevenAbove};
+ghost use Rattle.convert.specs.Code.Raw.{recordGates, testsOf, anyExceeds};
+ghost use Rattle.convert.specs.Code.Tables.{formOf, pairGate};
+ghost use Rattle.convert.specs.Code.RawPlanes.{Wide, planeRun, xorTo, swapTo, weightTo, anyOf, unionTo, picked, joined, planeStep, planeReset, clearTo, sevenAbove};
 
 fn xor_into(planes: &mut [u64], l: usize, i: usize, j: usize)
     requires { ⌜ (i * (l + l) + (l + l) ≤ length (now planes)) × (j * (l + l) + (l + l) ≤ length (now planes)) ⌝ }
@@ -82,6 +84,57 @@ fn weigh(planes: &[u64], l: usize, ua: u32, ub: u32, ud: u32, a: usize, b: usize
     sum
 }
 
+// The or of the words at k of an image's two parts.
+fn letters_at(planes: &[u64], l: usize, at: usize, k: usize) -> u64
+    requires { ⌜ (at + k < length (now planes)) × (at + (l + k) < length (now planes)) ⌝ }
+    ensures { λ r. ⌜ r ≡ bitOr (getD (now (planes .entry)) (at + k) 0) (getD (now (planes .entry)) (at + (l + k)) 0) ⌝ }
+{
+    planes[at + k] | planes[at + (l + k)]
+}
+
+// The weight of one image.
+fn weigh_one(planes: &[u64], l: usize, image: usize) -> u32
+    requires { ⌜ (image * (l + l) + (l + l) ≤ length (now planes)) × (l ≤ 4096) ⌝ }
+    ensures { λ r. ⌜ r ≡ weightTo (now (planes .entry)) l 1 0 0 (image * (l + l)) (image * (l + l)) (image * (l + l)) l ⌝ }
+{
+    let at = image * (l + l);
+    let mut sum: u32 = 0;
+    let mut k: usize = 0;
+    while k < l {
+        sum += u64::count_ones(letters_at(planes, l, at, k));
+        k += 1;
+    }
+    sum
+}
+
+// The or of the words at k of three images.
+fn any_of(planes: &[u64], a: usize, b: usize, d: usize, k: usize) -> u64
+    requires { ⌜ (a + k < length (now planes)) × (b + k < length (now planes)) × (d + k < length (now planes)) ⌝ }
+    ensures { λ r. ⌜ r ≡ anyOf (now (planes .entry)) a b d k ⌝ }
+{
+    planes[a + k] | planes[b + k] | planes[d + k]
+}
+
+// The qubits on which one of three images has a letter: no product of them weighs more.
+fn weigh_union(planes: &[u64], l: usize, a: usize, b: usize, d: usize) -> u32
+    requires { ⌜ (a * (l + l) + (l + l) ≤ length (now planes)) × (b * (l + l) + (l + l) ≤ length (now planes)) × (d * (l + l) + (l + l) ≤ length (now planes)) × (l ≤ 4096) ⌝ }
+    ensures { λ r. ⌜ r ≡ unionTo (now (planes .entry)) l (a * (l + l)) (b * (l + l)) (d * (l + l)) l ⌝ }
+{
+    let stride = l + l;
+    let one = a * stride;
+    let two = b * stride;
+    let three = d * stride;
+    let mut sum: u32 = 0;
+    let mut k: usize = 0;
+    while k < l {
+        let x = any_of(planes, one, two, three, k);
+        let z = any_of(planes, one, two, three, l + k);
+        sum += u64::count_ones(x | z);
+        k += 1;
+    }
+    sum
+}
+
 fn plane_h(planes: &mut [u64], n: usize, l: usize, q: usize)
     requires { ⌜ (q < n) × ((n + n) * (l + l) ≤ length (now planes)) × (n ≤ maxQubits) ⌝ }
     ensures { λ _. ⌜ now (planes .exit) ≡ planeStep l (gateH q) (now (planes .entry)) ⌝ }
@@ -97,20 +150,13 @@ fn plane_s(planes: &mut [u64], n: usize, l: usize, q: usize)
     xor_into(planes, l, q + q, q + q + 1);
 }
 
-fn plane_cnot(planes: &mut [u64], n: usize, l: usize, c: usize, t: usize)
+// cnot or cz: with cz the z image of t stands for the x image, and back.
+fn plane_pair(planes: &mut [u64], n: usize, l: usize, cz: bool, c: usize, t: usize)
     requires { ⌜ (c < n) × (t < n) × ((n + n) * (l + l) ≤ length (now planes)) × (n ≤ maxQubits) ⌝ }
-    ensures { λ _. ⌜ now (planes .exit) ≡ planeStep l (gateCnot c t) (now (planes .entry)) ⌝ }
+    ensures { λ _. ⌜ now (planes .exit) ≡ planeStep l (pairGate cz c t) (now (planes .entry)) ⌝ }
 {
-    xor_into(planes, l, c + c, t + t);
-    xor_into(planes, l, t + t + 1, c + c + 1);
-}
-
-fn plane_cz(planes: &mut [u64], n: usize, l: usize, c: usize, t: usize)
-    requires { ⌜ (c < n) × (t < n) × ((n + n) * (l + l) ≤ length (now planes)) × (n ≤ maxQubits) ⌝ }
-    ensures { λ _. ⌜ now (planes .exit) ≡ planeStep l (gateCz c t) (now (planes .entry)) ⌝ }
-{
-    xor_into(planes, l, c + c, t + t + 1);
-    xor_into(planes, l, t + t, c + c + 1);
+    xor_into(planes, l, c + c, place_if(cz, t + t + 1, t + t));
+    xor_into(planes, l, place_if(cz, t + t, t + t + 1), c + c + 1);
 }
 
 fn clear(planes: &mut [u64], count: usize)
@@ -160,6 +206,9 @@ fn seven(planes: &[u64], l: usize, cap: u32, a: usize, b: usize, d: usize) -> bo
     requires { ⌜ (a * (l + l) + (l + l) ≤ length (now planes)) × (b * (l + l) + (l + l) ≤ length (now planes)) × (d * (l + l) + (l + l) ≤ length (now planes)) × (l ≤ 4096) ⌝ }
     ensures { λ r. ⌜ r ≡ sevenAbove (now (planes .entry)) l cap (a * (l + l)) (b * (l + l)) (d * (l + l)) ⌝ }
 {
+    if weigh_union(planes, l, a, b, d) <= cap {
+        return false;
+    }
     let w1 = weigh(planes, l, 1, 0, 0, a, b, d);
     let w2 = weigh(planes, l, 0, 1, 0, a, b, d);
     let w3 = weigh(planes, l, 0, 0, 1, a, b, d);
@@ -200,6 +249,30 @@ pub(crate) fn heavy(
     seven(planes, l, cap, a + a + 1, b + b + 1, d + d + 1)
 }
 
+// The same by the record's form, where something is tested: no jump.
+pub(crate) fn heavy_by(
+    planes: &[u64],
+    n: usize,
+    l: usize,
+    cap: u32,
+    form: u64,
+    kind: GateKind,
+    a: usize,
+    b: usize,
+    d: usize,
+) -> bool
+    requires { ⌜ AllProper n (b + 1) (lowerAs kind a b d) ⌝ }
+    requires { ⌜ (l ≡ partWords n) × ((n + n) * (l + l) ≤ length (now planes)) × (n ≤ maxQubits) ⌝ }
+    requires { ⌜ (form ≡ formOf kind) × (testsOf kind ≡ 0 → ⊥) ⌝ }
+    ensures { λ r. ⌜ ((t : List Row) (rest : List ℕ) → Wide n t → now (planes .entry) ≡ packed n t ++ rest → r ≡ anyExceeds n (AtMost cap) t (lowerAs kind a b d)) ⌝ }
+{
+    if form & 4128 != 0 {
+        return cap < weigh_one(planes, l, a + a + 1);
+    }
+    let third = place_if(form & 2048 != 0, d + d + 1, d + d);
+    seven(planes, l, cap, a + a + 1, b + b + 1, third)
+}
+
 // The frame gates of a record.
 pub(crate) fn plane_record(
     planes: &mut [u64],
@@ -224,10 +297,10 @@ pub(crate) fn plane_record(
             plane_s(planes, n, l, a);
         }
         GateKind::Cnot => {
-            plane_cnot(planes, n, l, a, b);
+            plane_pair(planes, n, l, false, a, b);
         }
         GateKind::Cz => {
-            plane_cz(planes, n, l, a, b);
+            plane_pair(planes, n, l, true, a, b);
         }
         GateKind::Sx => {
             plane_h(planes, n, l, a);
@@ -235,13 +308,13 @@ pub(crate) fn plane_record(
             plane_h(planes, n, l, a);
         }
         GateKind::Swap => {
-            plane_cnot(planes, n, l, a, b);
-            plane_cnot(planes, n, l, b, a);
-            plane_cnot(planes, n, l, a, b);
+            plane_pair(planes, n, l, false, a, b);
+            plane_pair(planes, n, l, false, b, a);
+            plane_pair(planes, n, l, false, a, b);
         }
         GateKind::Cy => {
             plane_s(planes, n, l, b);
-            plane_cnot(planes, n, l, a, b);
+            plane_pair(planes, n, l, false, a, b);
             plane_s(planes, n, l, b);
         }
         _ => {}
@@ -263,12 +336,8 @@ pub(crate) fn planes_by(
     requires { ⌜ form ≡ formOf kind ⌝ }
     ensures { λ _. ⌜ now (planes .exit) ≡ planeRun l (recordGates kind a b) (now (planes .entry)) ⌝ }
 {
-    if form & 256 != 0 {
-        plane_cnot(planes, n, l, a, b);
-        return;
-    }
-    if form & 512 != 0 {
-        plane_cz(planes, n, l, a, b);
+    if form & 768 != 0 {
+        plane_pair(planes, n, l, form & 512 != 0, a, b);
         return;
     }
     if form & 1 != 0 {

@@ -13,7 +13,6 @@ use crate::form::word_if;
 use crate::frame::frame_by;
 use crate::frame::push;
 use crate::gate::GateKind;
-use crate::gate::Shape;
 use crate::gate::kind_at;
 use crate::gate::number_at;
 use crate::gate::operand_at;
@@ -22,7 +21,7 @@ use arena::start_frame;
 ghost use mathlib.Core.Path.{_≡_};
 ghost use mathlib.Core.Bool.{true, cond};
 ghost use mathlib.Core.List.{[]};
-ghost use Prim.Native.Nat.{_+_, _*_, _/_, _<_, _≤_};
+ghost use Prim.Native.Nat.{_+_, _*_, _/_, _%_, _<_, _≤_};
 ghost use lib.ListN.{length};
 ghost use Rattle.convert.specs.Code.Raw.{maxWord, writing, rowAt, subsetOf, subsetWord, putRows, putFour, putSeven, putRecord, RecordReady};
 ghost use Rattle.convert.specs.Code.Raw.{FlushReady, FlushedIf, gatesOver, planesFor, isCapped, measuresOf, Fits, Room, wordsLast, plainLast};
@@ -228,14 +227,11 @@ fn later(flushed: bool, i: usize, place: usize) -> usize
     place
 }
 
-// The measurements that a record gives.
-fn measures(kind: GateKind) -> u32
-    ensures { λ r. ⌜ r ≡ measuresOf kind ⌝ }
+// The measurements that a record gives, by its form.
+fn measures(form: u64) -> u32
+    ensures { λ r. ⌜ r ≡ form / 4096 % 2 ⌝ }
 {
-    if kind.has_shape(Shape::Measured) {
-        return 1;
-    }
-    0
+    (form / 4096 % 2) as u32
 }
 
 // The whole list, where the nodes and the frame are those of the start and the needs fit.
@@ -306,7 +302,7 @@ pub(crate) fn write_records(
             b,
             d,
         );
-        given = given + measures(kind);
+        given = given + measures(form);
         place = later(flushed, i, place);
         i += 1;
     }

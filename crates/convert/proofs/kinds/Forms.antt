@@ -1,10 +1,11 @@
 -- What a test of a form's bits says of its kind.
 use mathlib.Core.Path.{_≡_, refl, sym, ap, _∙_}
-use mathlib.Core.Bool.{Bool, true, false, not, _||_}
+use mathlib.Core.Bool.{Bool, true, false, not, _||_, cond}
 use mathlib.Core.Logic.{inl, inr}
 use mathlib.Core.List.{List, [], _∷_, map}
-use Prim.Native.Nat.{ℕ, _/_, _<_}
-use Rattle.pauli.specs.Gates.{gateH, gateS, gateCnot, gateCz, AllValid}
+use Prim.Native.Nat.{ℕ, _+_, _*_, _/_, _%_, _<_}
+use native.Mathlib.Numerals.{add-one}
+use Rattle.pauli.specs.Gates.{gateH, gateS, AllValid}
 use lib.Bits.{bitAnd}
 use lib.Dec.{eqb}
 use lib.ListN.{getD}
@@ -15,8 +16,8 @@ use Rattle.convert.proofs.gate.GateKind.{the-type}
 use Rattle.convert.specs.Records.{GateKind, KindH, KindX, KindZ, KindS, KindSdg, KindT, KindTdg, KindCnot, KindCz, KindCcx, KindCcz, KindMeasure, KindY, KindSx, KindSwap, KindCy, Unsupported, lowerAs}
 use Rattle.convert.specs.Frame.{member}
 use Rattle.convert.specs.Conversion.{isMeasure}
-use Rattle.convert.specs.Code.Raw.{recordGates, testsOf, firstWord}
-use Rattle.convert.specs.Code.RawPlanes.{planeStep, planeRun}
+use Rattle.convert.specs.Code.Raw.{recordGates, testsOf, firstWord, measuresOf}
+use Rattle.convert.specs.Code.RawPlanes.{planeStep, planeRun, xorTo}
 use Rattle.convert.specs.Code.Tables.{formOf, pairGate, phaseGate, moveGate}
 use Rattle.convert.proofs.kinds.Arms.{arm, each}
 use Rattle.convert.proofs.kinds.Checks.{refuted}
@@ -93,23 +94,26 @@ bits-move k form a b e h =
 
 -- ---- planes
 
-pub bits-cnot : (k : GateKind) (form a b : ℕ) → form ≡ formOf k → (bitAnd form 256 ≡ 0 → ⊥) → recordGates k a b ≡ gateCnot a b ∷ []
-unfolding formOf recordGates lowerAs
-bits-cnot k form a b e h = sym (arm (λ (k : GateKind). recordGates k a b) (gateCnot a b ∷ []) (7 ∷ []) refl k (has-bit 256 (7 ∷ []) refl k form e h))
-
-pub bits-cz : (k : GateKind) (form a b : ℕ) → form ≡ formOf k → (bitAnd form 512 ≡ 0 → ⊥) → recordGates k a b ≡ gateCz a b ∷ []
-unfolding formOf recordGates lowerAs
-bits-cz k form a b e h = sym (arm (λ (k : GateKind). recordGates k a b) (gateCz a b ∷ []) (8 ∷ []) refl k (has-bit 512 (8 ∷ []) refl k form e h))
-
 pub bits-h : (k : GateKind) (form a b : ℕ) → form ≡ formOf k → (bitAnd form 1 ≡ 0 → ⊥) → recordGates k a b ≡ gateH a ∷ []
 unfolding formOf recordGates lowerAs
 bits-h k form a b e h = sym (arm (λ (k : GateKind). recordGates k a b) (gateH a ∷ []) (0 ∷ []) refl k (has-bit 1 (0 ∷ []) refl k form e h))
+
+-- cnot and cz: with cz the z image of t stands for the x image, and back
+pub pair-step : (z : Bool) (l c t : ℕ) (p : List ℕ) → planeStep l (pairGate z c t) p
+    ≡ xorTo (xorTo p ((c + c) * (l + l)) (cond z (t + t + 1) (t + t) * (l + l)) (l + l)) (cond z (t + t) (t + t + 1) * (l + l)) ((c + c + 1) * (l + l)) (l + l)
+unfolding planeStep
+pair-step true l c t p = rw (add-one (t + t), add-one (c + c))
+pair-step false l c t p = rw (add-one (t + t), add-one (c + c))
 
 -- the phase of s and sdg leaves the planes alone
 pub plane-phase : (d : Bool) (l q : ℕ) (p : List ℕ) → planeRun l (phaseGate d q ∷ []) p ≡ planeStep l (gateS q) p
 unfolding planeRun planeStep
 plane-phase true l q p = refl
 plane-phase false l q p = refl
+
+pub pair-valid : (z : Bool) (n c t : ℕ) → AllValid n (pairGate z c t ∷ []) → (c < n) × (t < n)
+pair-valid true n c t v = (v .0 .0, v .0 .1)
+pair-valid false n c t v = (v .0 .0, v .0 .1)
 
 pub phase-valid : (d : Bool) (n q : ℕ) → AllValid n (phaseGate d q ∷ []) → q < n
 phase-valid true n q v = v .0
@@ -157,6 +161,23 @@ bits-seven k form e h g =
 pub bits-first : (k : GateKind) (form : ℕ) → form ≡ formOf k → form / 4294967296 ≡ firstWord k
 unfolding formOf firstWord lowerAs
 bits-first k form e = rw e (same-at (λ (k : GateKind). formOf k / 4294967296) firstWord refl k)
+
+-- the lone axis is tested
+pub bits-one : (k : GateKind) (form : ℕ) → form ≡ formOf k → (bitAnd form 4128 ≡ 0 → ⊥) → testsOf k ≡ 1
+unfolding testsOf lowerAs
+bits-one k form e h = each (λ (k : GateKind). testsOf k ≡ 1) (5 ∷ 6 ∷ 11 ∷ []) (refl, (refl, (refl, tt))) k (bits-lone k form e h)
+
+-- or the seven of ccz, or of ccx
+pub bits-three : (k : GateKind) (form : ℕ) → form ≡ formOf k → (testsOf k ≡ 0 → ⊥) → bitAnd form 4128 ≡ 0 → testsOf k ≡ cond (not (eqb (bitAnd form 2048) 0)) 3 2
+unfolding formOf testsOf lowerAs
+bits-three k form e h g =
+    rw e
+    (each (λ (k : GateKind). testsOf k ≡ cond (not (empty 2048 k)) 3 2) (9 ∷ 10 ∷ []) (refl, (refl, tt)) k
+    (bits-seven k form e (λ u. h (bits-untested k form e u)) g))
+
+pub bits-measures : (k : GateKind) (form : ℕ) → form ≡ formOf k → form / 4096 % 2 ≡ measuresOf k
+unfolding formOf lowerAs
+bits-measures k form e = rw e (same-at (λ (k : GateKind). formOf k / 4096 % 2) measuresOf refl k)
 
 pub bits-measured : (k : GateKind) (form : ℕ) → form ≡ formOf k → not (eqb (bitAnd form 4096) 0) ≡ isMeasure k
 unfolding formOf lowerAs

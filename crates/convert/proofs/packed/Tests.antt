@@ -1,6 +1,6 @@
 -- What is tested before a gate, by weights of packed rows.
 use mathlib.Core.Path.{_≡_, refl, sym, _∙_}
-use mathlib.Core.Bool.{Bool, true, false, _||_}
+use mathlib.Core.Bool.{Bool, true, false, _||_, cond}
 use mathlib.Core.List.{List, [], _∷_, _++_}
 use Prim.Native.Nat.{ℕ, zero, suc, _+_, _*_, _<_, _≤_}
 use native.Mathlib.Omega.{arith}
@@ -201,3 +201,14 @@ ccz-heavy n l cap K a b d ps t rest el e v w ep =
     rw (el, ep, add-one (a + a), add-one (b + b), add-one (d + d))
     (seven-heavy n cap t rest w (suc (a + a)) (suc (b + b)) (suc (d + d)) (zRow n t a) (zRow n t b) (zRow n t d) (omega arith) (omega arith) (omega arith)
     (Words.first-z n t a (z .0)) (Words.first-z n t b (z .1)) (Words.first-z n t d (z .2)) (w .widths (n + a)) (w .widths (n + b)) (w .widths (n + d)) ∙ z .3)
+
+-- ccz or ccx
+pub three-of : (last : Bool) (n : ℕ) (K : GateKind) (a b d : ℕ) → testsOf K ≡ cond last 3 2 → AllProper n (b + 1) (lowerAs K a b d) → (a < n) × (b < n) × (d < n)
+three-of true = three-qubits-z
+three-of false = three-qubits
+
+pub three-heavy : (last : Bool) (n l cap : ℕ) (K : GateKind) (a b d : ℕ) (ps : List ℕ) (t : List Row) (rest : List ℕ) → l ≡ partWords n → testsOf K ≡ cond last 3 2
+    → AllProper n (b + 1) (lowerAs K a b d) → Wide n t → ps ≡ packed n t ++ rest
+    → sevenAbove ps l cap ((a + a + 1) * (l + l)) ((b + b + 1) * (l + l)) (cond last (d + d + 1) (d + d) * (l + l)) ≡ anyExceeds n (AtMost cap) t (lowerAs K a b d)
+three-heavy true = ccz-heavy
+three-heavy false = ccx-heavy

@@ -1,6 +1,6 @@
 -- Packed planes: what exclusive-or, exchange and counting do to them.
 use mathlib.Core.Path.{_≡_, refl, sym, ap, _∙_}
-use mathlib.Core.Bool.{Bool, true, false}
+use mathlib.Core.Bool.{Bool, true, false, cond}
 use mathlib.Core.Logic.{_≢_, _⊎_, inl, inr, ⊎-elim}
 use mathlib.Core.List.{List, [], _∷_, _++_}
 use Prim.Native.Nat.{ℕ, zero, suc, _+_, _*_, _-_, _/_, _%_, _^_, _<_, _≤_, max}
@@ -627,6 +627,12 @@ pub weight-more : (p : List ℕ) (l ua ub ud a b d k : ℕ)
 unfolding weightTo
 weight-more p l ua ub ud a b d k = rw add-one
 
+-- of one image
+pub one-more : (p : List ℕ) (l a k : ℕ) → weightTo p l 1 0 0 a a a (k + 1) ≡ weightTo p l 1 0 0 a a a k + ones (bitOr (getD p (a + k) 0) (getD p (a + (l + k)) 0))
+one-more p l a k =
+    weight-more p l 1 0 0 a a a k
+    ∙ rw (xor-zero-r (bitXor (getD p (a + k) 0) 0), xor-zero-r (getD p (a + k) 0), xor-zero-r (bitXor (getD p (a + (l + k)) 0) 0), xor-zero-r (getD p (a + (l + k)) 0))
+
 -- ---- room
 
 pub room-x : (n l q m : ℕ) → q < n → (n + n) * (l + l) ≤ m → (q + q) * (l + l) + (l + l) ≤ m
@@ -634,6 +640,15 @@ room-x n l q m h r = let e = row-ends (l + l) (q + q) (n + n) (omega arith) in o
 
 pub room-z : (n l q m : ℕ) → q < n → (n + n) * (l + l) ≤ m → (q + q + 1) * (l + l) + (l + l) ≤ m
 room-z n l q m h r = let e = row-ends (l + l) (q + q + 1) (n + n) (omega arith) in omega arith
+
+-- of the z image or the x image, as z says
+pub room-zx : (z : Bool) (n l q m : ℕ) → q < n → (n + n) * (l + l) ≤ m → cond z (q + q + 1) (q + q) * (l + l) + (l + l) ≤ m
+room-zx true = room-z
+room-zx false = room-x
+
+pub room-xz : (z : Bool) (n l q m : ℕ) → q < n → (n + n) * (l + l) ≤ m → cond z (q + q) (q + q + 1) * (l + l) + (l + l) ≤ m
+room-xz true = room-x
+room-xz false = room-z
 
 pub clear-length : (p : List ℕ) (k : ℕ) → length (clearTo p k) ≡ length p
 unfolding clearTo

@@ -44,6 +44,15 @@ unfoldable pub weightTo : List ℕ → ℕ → ℕ → ℕ → ℕ → ℕ → �
 weightTo p l ua ub ud a b d zero = 0
 weightTo p l ua ub ud a b d (suc k) = weightTo p l ua ub ud a b d k + ones (bitOr (joined p ua ub ud a b d k) (joined p ua ub ud a b d (l + k)))
 
+-- the or of the words at k of three images
+abbrev pub anyOf : List ℕ → ℕ → ℕ → ℕ → ℕ → ℕ
+anyOf p a b d k = bitOr (bitOr (getD p (a + k) 0) (getD p (b + k) 0)) (getD p (d + k) 0)
+
+-- the ones of (x or z) of any of three images, over the first k words of the parts
+unfoldable pub unionTo : List ℕ → ℕ → ℕ → ℕ → ℕ → ℕ → ℕ
+unionTo p l a b d zero = 0
+unionTo p l a b d (suc k) = unionTo p l a b d k + ones (bitOr (anyOf p a b d k) (anyOf p a b d (l + k)))
+
 -- what a frame gate does to the planes, word by word
 unfoldable pub planeStep : ℕ → Gate → List ℕ → List ℕ
 planeStep l (gateH q) p = swapTo p ((q + q) * (l + l)) (suc (q + q) * (l + l)) (l + l)

@@ -25,8 +25,11 @@ returns c =
     decided-untested (a .n) (a .l) (a .most) (a .kind) (a .a) (a .b) (a .d) (a .planes .now) _ (p .1 .0 .0) (p .0) (bits-untested (a .kind) (a .form)
     (p .1 .1) (if1 .taken)) (planes-by .ensures)
 
-heavy-requires : tie.Need-heavy-requires
-heavy-requires c κs = search needs
+heavy-by-requires : tie.Need-heavy-by-requires
+heavy-by-requires c κs =
+    let a = c .before .before .before .args in
+    let p = c .before .before .before .pre in
+    (p .0, (p .1 .0, (p .1 .1, bits-tested (a .kind) (a .form) (p .1 .1) (c .before .if1 .left))))
 
 refresh-requires : tie.Need-refresh-requires
 refresh-requires c κs = search needs
@@ -37,14 +40,14 @@ same-length-2 c = search needs
 returns-2 : tie.Need-returns-2
 returns-2 c =
     let refresh = c .before .before .refresh in
-    let heavy = c .before .before .before .before .heavy in
+    let heavy-by = c .before .before .before .before .heavy-by in
     let if1 = c .before .before .before .before .before .before .if1 in
     let args = c .before .before .before .before .before .before .before .before .args in
     let pre = c .before .before .before .before .before .before .before .before .pre in
     let a = args in
     let p = pre in
-    decided-tested (a .n) (a .l) (a .most) (a .kind) (a .a) (a .b) (a .d) (a .planes .now) (heavy .result) _ (p .1 .0 .0) (p .0) (bits-tested (a .kind)
-    (a .form) (p .1 .1) (if1 .left)) (heavy .ensures) (refresh .ensures)
+    decided-tested (a .n) (a .l) (a .most) (a .kind) (a .a) (a .b) (a .d) (a .planes .now) (heavy-by .result) _ (p .1 .0 .0) (p .0) (bits-tested (a .kind)
+    (a .form) (p .1 .1) (if1 .left)) (heavy-by .ensures) (refresh .ensures)
 
 pub tested-by-spec : {M : Type 1} → statement M
 tested-by-spec =
@@ -53,7 +56,7 @@ tested-by-spec =
     planes-by-requires
     same-length
     returns
-    heavy-requires
+    heavy-by-requires
     refresh-requires
     same-length-2
     returns-2)

@@ -9,8 +9,7 @@ use Rattle.convert.proofs.planes.plane_record.Statement.{statement}
 use Rattle.convert.proofs.planes.plane_record.Tie as tie
 use Rattle.convert.proofs.planes.plane_record.Reads as reads
 use Rattle.convert.proofs.planes.plane_record.Lts as lts
-use Rattle.convert.proofs.planes.plane_cnot.Reads as plane-cnot-reads
-use Rattle.convert.proofs.planes.plane_cz.Reads as plane-cz-reads
+use Rattle.convert.proofs.planes.plane_pair.Reads as plane-pair-reads
 use Rattle.convert.proofs.planes.plane_h.Reads as plane-h-reads
 use Rattle.convert.proofs.planes.plane_s.Reads as plane-s-reads
 
@@ -47,9 +46,9 @@ plane-s-requires-2 c κs =
 enum-told-4 : tie.Need-enum-told-4
 enum-told-4 c = search needs
 
-plane-cnot-requires : tie.Need-plane-cnot-requires
+plane-pair-requires : tie.Need-plane-pair-requires
 unfolding recordGates lowerAs
-plane-cnot-requires c κs =
+plane-pair-requires c κs =
     let v = rw (c .before .enum-told4 .given .1) at (c .before .before .before .before .pre .0) in
     let p = c .before .before .before .before .pre .1 in
     (v .0 .0, v .0 .1, omega (arith, p), omega (arith, p))
@@ -57,9 +56,9 @@ plane-cnot-requires c κs =
 enum-told-5 : tie.Need-enum-told-5
 enum-told-5 c = search needs
 
-plane-cz-requires : tie.Need-plane-cz-requires
+plane-pair-requires-2 : tie.Need-plane-pair-requires-2
 unfolding recordGates lowerAs
-plane-cz-requires c κs =
+plane-pair-requires-2 c κs =
     let v = rw (c .before .enum-told5 .given .1) at (c .before .before .before .before .pre .0) in
     let p = c .before .before .before .before .pre .1 in
     (v .0 .0, v .0 .1, omega (arith, p), omega (arith, p))
@@ -91,26 +90,26 @@ plane-h-requires-3 c κs =
 enum-told-7 : tie.Need-enum-told-7
 enum-told-7 c = search needs
 
-plane-cnot-requires-2 : tie.Need-plane-cnot-requires-2
+plane-pair-requires-3 : tie.Need-plane-pair-requires-3
 unfolding recordGates lowerAs
-plane-cnot-requires-2 c κs =
+plane-pair-requires-3 c κs =
     let v = rw (c .before .enum-told7 .given .1) at (c .before .before .before .before .pre .0) in
     let p = c .before .before .before .before .pre .1 in
     (v .0 .0, v .0 .1, omega (arith, p), omega (arith, p))
 
-plane-cnot-requires-3 : tie.Need-plane-cnot-requires-3
+plane-pair-requires-4 : tie.Need-plane-pair-requires-4
 unfolding recordGates lowerAs
-plane-cnot-requires-3 c κs =
+plane-pair-requires-4 c κs =
     let v = rw (c .before .before .before .before .before .enum-told7 .given .1) at (c .before .before .before .before .before .before .before .before .pre .0) in
     let p = c .before .before .before .before .before .before .before .before .pre .1 in
-    (v .1 .0 .0, v .1 .0 .1, omega (arith, c .before .before .before .plane-cnot2 .kept, p), omega (arith, c .before .before .before .plane-cnot2 .kept, p))
+    (v .1 .0 .0, v .1 .0 .1, omega (arith, c .before .before .before .plane-pair3 .kept, p), omega (arith, c .before .before .before .plane-pair3 .kept, p))
 
-plane-cnot-requires-4 : tie.Need-plane-cnot-requires-4
+plane-pair-requires-5 : tie.Need-plane-pair-requires-5
 unfolding recordGates lowerAs
-plane-cnot-requires-4 c κs =
+plane-pair-requires-5 c κs =
     let v = rw (c .before .before .before .before .before .before .before .before .before .enum-told7 .given .1) at (c .before .before .before .before .before .before .before .before .before .before .before .before .pre .0) in
     let p = c .before .before .before .before .before .before .before .before .before .before .before .before .pre .1 in
-    (v .1 .1 .0 .0, v .1 .1 .0 .1, omega (arith, c .before .before .before .before .before .before .before .plane-cnot2 .kept, c .before .before .before .plane-cnot3 .kept, p), omega (arith, c .before .before .before .before .before .before .before .plane-cnot2 .kept, c .before .before .before .plane-cnot3 .kept, p))
+    (v .1 .1 .0 .0, v .1 .1 .0 .1, omega (arith, c .before .before .before .before .before .before .before .plane-pair3 .kept, c .before .before .before .plane-pair4 .kept, p), omega (arith, c .before .before .before .before .before .before .before .plane-pair3 .kept, c .before .before .before .plane-pair4 .kept, p))
 
 enum-told-8 : tie.Need-enum-told-8
 enum-told-8 c = search needs
@@ -122,9 +121,9 @@ plane-s-requires-4 c κs =
     let p = c .before .before .before .before .pre .1 in
     (v .0, omega (arith, p), omega (arith, p))
 
-plane-cnot-requires-5 : tie.Need-plane-cnot-requires-5
+plane-pair-requires-6 : tie.Need-plane-pair-requires-6
 unfolding recordGates lowerAs
-plane-cnot-requires-5 c κs =
+plane-pair-requires-6 c κs =
     let v = rw (c .before .before .before .before .before .enum-told8 .given .1) at (c .before .before .before .before .before .before .before .before .pre .0) in
     let p = c .before .before .before .before .before .before .before .before .pre .1 in
     (v .1 .0 .0, v .1 .0 .1, omega (arith, c .before .before .before .plane-s4 .kept, p), omega (arith, c .before .before .before .plane-s4 .kept, p))
@@ -134,7 +133,7 @@ unfolding recordGates lowerAs
 plane-s-requires-5 c κs =
     let v = rw (c .before .before .before .before .before .before .before .before .before .enum-told8 .given .1) at (c .before .before .before .before .before .before .before .before .before .before .before .before .pre .0) in
     let p = c .before .before .before .before .before .before .before .before .before .before .before .before .pre .1 in
-    (v .1 .1 .0, omega (arith, c .before .before .before .before .before .before .before .plane-s4 .kept, c .before .before .before .plane-cnot5 .kept, p), omega (arith, c .before .before .before .before .before .before .before .plane-s4 .kept, c .before .before .before .plane-cnot5 .kept, p))
+    (v .1 .1 .0, omega (arith, c .before .before .before .before .before .before .before .plane-s4 .kept, c .before .before .before .plane-pair6 .kept, p), omega (arith, c .before .before .before .before .before .before .before .plane-s4 .kept, c .before .before .before .plane-pair6 .kept, p))
 
 same-length : tie.Need-same-length
 same-length c = search needs
@@ -162,14 +161,14 @@ same-length-4 c = search needs
 
 returns-4 : tie.Need-returns-4
 unfolding recordGates planeRun planeStep lowerAs
-returns-4 c = rw (c .before .before .before .before .enum-told4 .given .1) (c .before .before .plane-cnot .ensures)
+returns-4 c = rw (c .before .before .before .before .enum-told4 .given .1) (c .before .before .plane-pair .ensures)
 
 same-length-5 : tie.Need-same-length-5
 same-length-5 c = search needs
 
 returns-5 : tie.Need-returns-5
 unfolding recordGates planeRun planeStep lowerAs
-returns-5 c = rw (c .before .before .before .before .enum-told5 .given .1) (c .before .before .plane-cz .ensures)
+returns-5 c = rw (c .before .before .before .before .enum-told5 .given .1) (c .before .before .plane-pair2 .ensures)
 
 same-length-6 : tie.Need-same-length-6
 same-length-6 c = search needs
@@ -183,14 +182,14 @@ same-length-7 c = search needs
 
 returns-7 : tie.Need-returns-7
 unfolding recordGates planeRun planeStep lowerAs
-returns-7 c = rw (c .before .before .before .before .before .before .before .before .before .before .before .before .enum-told7 .given .1) (c .before .before .plane-cnot4 .ensures ∙ rw (c .before .before .before .before .before .before .plane-cnot3 .ensures, c .before .before .before .before .before .before .before .before .before .before .plane-cnot2 .ensures))
+returns-7 c = rw (c .before .before .before .before .before .before .before .before .before .before .before .before .enum-told7 .given .1) (c .before .before .plane-pair5 .ensures ∙ rw (c .before .before .before .before .before .before .plane-pair4 .ensures, c .before .before .before .before .before .before .before .before .before .before .plane-pair3 .ensures))
 
 same-length-8 : tie.Need-same-length-8
 same-length-8 c = search needs
 
 returns-8 : tie.Need-returns-8
 unfolding recordGates planeRun planeStep lowerAs
-returns-8 c = rw (c .before .before .before .before .before .before .before .before .before .before .before .before .enum-told8 .given .1) (c .before .before .plane-s5 .ensures ∙ rw (c .before .before .before .before .before .before .plane-cnot5 .ensures, c .before .before .before .before .before .before .before .before .before .before .plane-s4 .ensures))
+returns-8 c = rw (c .before .before .before .before .before .before .before .before .before .before .before .before .enum-told8 .given .1) (c .before .before .plane-s5 .ensures ∙ rw (c .before .before .before .before .before .before .plane-pair6 .ensures, c .before .before .before .before .before .before .before .before .before .before .plane-s4 .ensures))
 
 returns-9 : tie.Need-returns-9
 returns-9 c = no-planes _ _ _ _ _ (c .match .keys9)
@@ -206,20 +205,20 @@ plane-record-spec =
     enum-told-3
     plane-s-requires-2
     enum-told-4
-    plane-cnot-requires
+    plane-pair-requires
     enum-told-5
-    plane-cz-requires
+    plane-pair-requires-2
     enum-told-6
     plane-h-requires-2
     plane-s-requires-3
     plane-h-requires-3
     enum-told-7
-    plane-cnot-requires-2
-    plane-cnot-requires-3
-    plane-cnot-requires-4
+    plane-pair-requires-3
+    plane-pair-requires-4
+    plane-pair-requires-5
     enum-told-8
     plane-s-requires-4
-    plane-cnot-requires-5
+    plane-pair-requires-6
     plane-s-requires-5
     same-length
     returns

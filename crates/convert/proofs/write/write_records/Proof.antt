@@ -5,6 +5,7 @@ use lib.ListN.{length}
 use Rattle.pauli.specs.Table.{start}
 use Rattle.convert.specs.Code.Tables.{formOf}
 use Rattle.convert.proofs.kinds.Entries.{form-at}
+use Rattle.convert.proofs.kinds.Forms.{bits-measures}
 use Rattle.convert.proofs.packed.Deciding.{planes-over}
 use Rattle.convert.proofs.buffers.Writing.{WriteAt, write-start, write-planes, write-flush, write-frames, write-ready, write-more, write-end, measures-few}
 use borrow.Author.Needs.{needs}
@@ -308,7 +309,7 @@ add-given c =
     let loop-test = the-loop-test in
     let the-loop = the-loop′ in
     let pre = the-pre in
-    omega (arith, the-loop .inv .5 .few, loop-test .taken, pre .1 .1 .0 .3, measures-few (kind-at .result), c .measures .ensures)
+    omega (arith, the-loop .inv .5 .few, loop-test .taken, pre .1 .1 .0 .3, c .measures .ensures)
 
 later-requires : tie.Need-later-requires Inv-loop μ-loop
 later-requires c κs = search needs
@@ -364,6 +365,8 @@ loop-again c =
     let the-loop = the-loop′ in
     let args = the-args in
     let pre = the-pre in
+    let number-at = back24 .before .before .before .before .before .before .before .before .number-at in
+    let forms = back36 .before .before .before .before .forms in
     let a = args in
     let at = the-loop .inv .5 in
     let h = loop-test .taken in
@@ -374,6 +377,8 @@ loop-again c =
       operand-at2 .ensures,
       operand-at3 .ensures,
     ) at (decide-by .ensures)) in
+    let the-form = form-at formOf _ (a .gates .now) (the-loop .i) (number-at .result) (kind-at .result) (forms .ensures) (number-at .ensures)
+    (pre .0 .known (the-loop .i) h) (kind-at .ensures) in
     let d₂ = rw (kind-at .ensures, operand-at .ensures, operand-at2 .ensures) at (frame-by .ensures) in
     let e₃ = rw (
       kind-at .ensures,
@@ -405,7 +410,7 @@ loop-again c =
           arith,
           frame-by .kept,
         ),
-      ) _ _ _ _ _ _ _ e₃ (pl .1) (rw (measures .ensures, kind-at .ensures)) (c .later .ensures),
+      ) _ _ _ _ _ _ _ e₃ (pl .1) (rw (measures .ensures ∙ bits-measures (kind-at .result) _ the-form, kind-at .ensures)) (c .later .ensures),
     )
 
 same-length : tie.Need-same-length Inv-loop μ-loop
