@@ -106,10 +106,12 @@ class PbcCircuit:
                 self._seen_operations = resized(self._operations, OPERATION_WORDS * header[4])
             return header, self._seen_nodes, self._seen_operations
 
-    def _walk(self, attempt):
-        """A call that reads the circuit as it is now, with scratch and pool of its own; others may add to it meanwhile."""
+    def _walk(self, attempt, long=False):
+        """A call that reads the circuit as it is now, with scratch and pool of its own; others may add to it meanwhile. The pool grows; that
+        of a long walk has all that can be of use, so that it is not begun again with more."""
         header, nodes, operations = self._seen()
-        scratch, pool = words(_SCRATCH_WORDS * header[3]), words(_FIRST_POOL_WORDS)
+        first = min(POOL_WORDS, 3 * (1 + header[0] * header[3])) if long else _FIRST_POOL_WORDS
+        scratch, pool = words(_SCRATCH_WORDS * header[3]), words(first)
 
         def grow(refusal):
             nonlocal pool
@@ -310,7 +312,7 @@ class PbcCircuit:
             rows = words(header[4] * (header[0] + 1), ctypes.c_uint8)
             return call("pbc_expand_axes", header, nodes, operations, rows, scratch, pool, limit, answer)
 
-        self._walk(attempt)
+        self._walk(attempt, long=True)
         # A row is a letter a qubit, then the phase.
         read, width = bytes(rows), self.num_qubits + 1
         return [ExpandedPauli(read[end], list(read[end - width + 1:end]), None) for end in range(width - 1, len(read), width)]

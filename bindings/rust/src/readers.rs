@@ -52,10 +52,10 @@ pub struct MaxAxisWeights {
 }
 
 impl PbcCircuit {
-    /// Calls with scratch of four words a node, and with a pool that grows.
-    fn walk(&self, mut call: impl FnMut(&mut [u32], &mut [u32]) -> Answer) -> Answer {
+    /// Calls with scratch of four words a node, and with a pool that begins with so many words, and grows.
+    fn walk(&self, words: usize, mut call: impl FnMut(&mut [u32], &mut [u32]) -> Answer) -> Answer {
         let mut scratch = vec![0; 4 * self.header[3] as usize];
-        growing(&mut Vec::new(), POOL_WORDS, PbcError::NoPool, |pool| call(&mut scratch, pool))
+        growing(&mut vec![0; words], POOL_WORDS, PbcError::NoPool, |pool| call(&mut scratch, pool))
     }
 
     /// The letters of one expression. The budget charges one cell a qubit plus the work of the expansion.
@@ -76,8 +76,9 @@ impl PbcCircuit {
     pub fn expand(&self, reference: PauliRef, max_cells: usize) -> Result<ExpandedPauli, PbcError> {
         let PauliRef { owner, word } = reference;
         let mut letters = vec![0; self.num_qubits()];
-        let answer = self
-            .walk(|scratch, pool| ffi::pbc_expand(&self.header, &self.nodes, &mut letters, scratch, pool, owner, word, max_cells as u64))?;
+        let answer = self.walk(0, |scratch, pool| {
+            ffi::pbc_expand(&self.header, &self.nodes, &mut letters, scratch, pool, owner, word, max_cells as u64)
+        })?;
         Ok(ExpandedPauli::of(answer[0] as u32, &letters))
     }
 
@@ -98,7 +99,7 @@ impl PbcCircuit {
     /// `ForeignPauli`, `ExpansionLimit`, `NoPool`, `NonHermitianAxis`.
     pub fn hermitian_axis(&self, reference: PauliRef, max_cells: usize) -> Result<PauliAxis, PbcError> {
         let PauliRef { owner, word } = reference;
-        self.walk(|scratch, pool| ffi::pbc_hermitian_axis(&self.header, &self.nodes, scratch, pool, owner, word, max_cells as u64))?;
+        self.walk(0, |scratch, pool| ffi::pbc_hermitian_axis(&self.header, &self.nodes, scratch, pool, owner, word, max_cells as u64))?;
         Ok(PauliAxis(reference))
     }
 
@@ -116,8 +117,9 @@ impl PbcCircuit {
     ///
     /// `ExpansionLimit`, `NoPool`.
     pub fn max_axis_weights(&self, max_work: usize) -> Result<MaxAxisWeights, PbcError> {
-        let answer = self
-            .walk(|scratch, pool| ffi::pbc_max_axis_weights(&self.header, &self.nodes, &self.operations, scratch, pool, max_work as u64))?;
+        let answer = self.walk(0, |scratch, pool| {
+            ffi::pbc_max_axis_weights(&self.header, &self.nodes, &self.operations, scratch, pool, max_work as u64)
+        })?;
         Ok(MaxAxisWeights { non_clifford: answer[0] as usize, clifford: answer[1] as usize })
     }
 
@@ -139,7 +141,9 @@ impl PbcCircuit {
     pub fn axes(&self, max_work: usize) -> Result<Vec<ExpandedPauli>, PbcError> {
         let qubits = self.num_qubits();
         let mut rows = vec![0; self.header[4] as usize * (qubits + 1)];
-        self.walk(|scratch, pool| {
+        // All that can be of use, so that a long walk is not begun again with more.
+        let records = 1 + qubits * self.header[3] as usize;
+        self.walk(POOL_WORDS.min(3 * records), |scratch, pool| {
             ffi::pbc_expand_axes(&self.header, &self.nodes, &self.operations, &mut rows, scratch, pool, max_work as u64)
         })?;
         // A row is a letter a qubit, then the phase.

@@ -45,10 +45,11 @@ returns-2 c =
     let write-answer = c .before .before .write-answer in
     let axes = c .before .before .before .before .axes in
     let expand-axes = c .before .before .before .before .before .before .before .before .before .before .before .expand-axes in
-    let read-header = c .before .before .before .before .before .before .before .before .before .before .before .before .before .before .before .read-header in
-    let if1 = c .before .before .before .before .before .before .before .before .before .before .before .before .before .before .before .before .if1 in
-    let too-short = c .before .before .before .before .before .before .before .before .before .before .before .before .before .before .before .before .before .too-short in
-    let args = c .before .before .before .before .before .before .before .before .before .before .before .before .before .before .before .before .before .before .before .before .before .before .before .before .before .args in
+    let back12 = c .before .before .before .before .before .before .before .before .before .before .before .before in
+    let read-header = back12 .before .before .before .read-header in
+    let if1 = back12 .before .before .before .before .if1 in
+    let too-short = back12 .before .before .before .before .before .too-short in
+    let args = back12 .before .before .before .before .before .before .before .before .before .before .before .before .before .args in
     rw (sym (too-short .ensures) ∙ if1 .left, ← read-header .ensures)
     (replied-is (args .answer .now) (axes .ensures ∙ ap (axesReply (read-header .result)) (expand-axes .ensures .0)) (write-answer .ensures .0) (write-answer .ensures .1)
     (same-axes (expand-axes .ensures .1 .0) (expand-axes .ensures .1 .1 .0) (expand-axes .ensures .1 .1 .1)))
