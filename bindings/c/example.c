@@ -20,6 +20,7 @@ enum { NODES = PBC_NODES_FOR(QUBITS, GATES) + 2, OPERATIONS = PBC_OPERATIONS_FOR
 static uint32_t nodes[PBC_NODES_WORDS(NODES)], operations[PBC_OPERATIONS_WORDS(OPERATIONS)], frame[PBC_FRAME_WORDS(QUBITS)];
 static uint32_t scratch[PBC_SCRATCH_WORDS(NODES)], pool[PBC_POOL_WORDS(RECORDS)];
 static uint64_t header[PBC_HEADER_WORDS], answer[PBC_ANSWER_WORDS];
+static uint8_t rows[PBC_ROWS_BYTES(QUBITS, OPERATIONS)];
 
 static void expect(const char *what, uint32_t number, uint32_t wanted)
 {
@@ -42,18 +43,24 @@ static uint32_t expand(uint32_t word, uint8_t *letters, uint64_t max_cells)
                       PBC_POOL_WORDS(RECORDS), OWNER, word, max_cells, answer, PBC_ANSWER_WORDS);
 }
 
-static void print_operation(const uint32_t *op)
+static uint32_t expand_axes(uint64_t limit)
+{
+    return pbc_expand_axes(header, PBC_HEADER_WORDS, nodes, PBC_NODES_WORDS(NODES), operations, PBC_OPERATIONS_WORDS(OPERATIONS), rows, sizeof rows,
+                           scratch, PBC_SCRATCH_WORDS(NODES), pool, PBC_POOL_WORDS(RECORDS), limit, answer, PBC_ANSWER_WORDS);
+}
+
+static void print_operation(uint64_t i)
 {
     static const char *const kinds[] = {"rotate", "measure", "conditional"}, *const phases[] = {"+", "+i", "-", "-i"};
-    uint8_t letters[QUBITS];
-    expect("expand", expand(op[1], letters, LIMIT), 0);
+    const uint32_t *op = operations + PBC_OPERATION_WORDS * i;
+    const uint8_t *row = rows + PBC_ROW_BYTES(QUBITS) * i;
     if (op[4] == PBC_HAND)
         printf("by hand: ");
     else
         printf("gate %u: ", op[4]);
-    printf("%s %u %s", kinds[op[0] % 4], op[0] / 4, phases[answer[0]]);
+    printf("%s %u %s", kinds[op[0] % 4], op[0] / 4, phases[row[QUBITS]]);
     for (int q = 0; q < QUBITS; q++)
-        putchar("IXYZ"[letters[q]]);
+        putchar("IXYZ"[row[q]]);
     if (op[3])
         printf(" into %u", op[3] - 1);
     putchar('\n');
@@ -68,9 +75,11 @@ int main(void)
     expect("convert", convert(PBC_NODES_WORDS(NODES), PBC_OPERATIONS_WORDS(OPERATIONS), PBC_HEADER_WORDS), 0);
     printf("%llu nodes, %llu operations, %llu measurements\n", (unsigned long long)header[PBC_NODES], (unsigned long long)header[PBC_OPERATIONS],
            (unsigned long long)header[PBC_MEASUREMENTS]);
+    expect("axes", expand_axes(LIMIT), 0);
     for (uint64_t i = 0; i < header[PBC_OPERATIONS]; i++)
-        print_operation(operations + PBC_OPERATION_WORDS * i);
+        print_operation(i);
 
+    expect("small limit", expand_axes(answer[0] - 1), PBC_EXPANSION_LIMIT);
     expect("small budget", expand(operations[1], letters, QUBITS), PBC_EXPANSION_LIMIT);
     expect("weights",
            pbc_max_axis_weights(header, PBC_HEADER_WORDS, nodes, PBC_NODES_WORDS(NODES), operations, PBC_OPERATIONS_WORDS(OPERATIONS), scratch,
@@ -89,7 +98,8 @@ int main(void)
                phase ? 0 : PBC_NON_HERMITIAN_AXIS);
     expect("rotate", pbc_rotate(header, PBC_HEADER_WORDS, operations, PBC_OPERATIONS_WORDS(OPERATIONS), OWNER, y + 1, -3, answer, PBC_ANSWER_WORDS),
            0);
-    print_operation(operations + PBC_OPERATION_WORDS * (header[PBC_OPERATIONS] - 1));
+    expect("axes", expand_axes(LIMIT), 0);
+    print_operation(header[PBC_OPERATIONS] - 1);
     expect("frame gate",
            pbc_push_output_clifford(header, PBC_HEADER_WORDS, nodes, PBC_NODES_WORDS(NODES), frame, PBC_FRAME_WORDS(QUBITS), PBC_GATE_S, 0, 0,
                                     answer, PBC_ANSWER_WORDS),

@@ -6,8 +6,8 @@
  * read or written through is tested (test.c), not proved.
  *
  * Threads: the functions are re-entrant. They have no state of their own, take nothing from C but what sets and copies memory, and touch
- * what a call lends them and nothing else. Threads may call at once on different circuits, and the readers on one circuit, with letters,
- * scratch, pool and answer of their own; a call that adds to a circuit wants it alone.
+ * what a call lends them and nothing else. Threads may call at once on different circuits, and the readers on one circuit, with letters or
+ * rows, scratch, pool and answer of their own; a call that adds to a circuit wants it alone.
  *
  * Conventions
  *   Result   0, or the number of a refusal (enum pbc_refusal), or PBC_TOO_SHORT: then nothing is done at all.
@@ -19,7 +19,8 @@
  *   handle   owner and word; a word is 4 * node + phase (enum pbc_phase).
  *   letter   enum pbc_pauli; a larger number counts modulo 4.
  *   angle    k stands for exp(-i k pi/8 P); any number, which counts modulo 8.
- *   Words past the fourth of the answer and past the sixth of the header are left alone. A refusal leaves nodes, operations, frame and letters.
+ *   Words past the fourth of the answer and past the sixth of the header are left alone. A refusal leaves nodes, operations, frame and letters;
+ *   rows are zero after 17 and 18.
  */
 #ifndef PBC_H
 #define PBC_H
@@ -64,6 +65,9 @@ extern "C" {
 #define PBC_FRAME_WORDS(qubits) (2 * (size_t)(qubits))
 #define PBC_PLANE_WORDS(qubits) (4 * (size_t)(qubits) * ((qubits) > 64 ? ((size_t)(qubits) + 63) / 64 : 1))
 #define PBC_SCRATCH_WORDS(nodes) (4 * (size_t)(nodes))
+/* Bytes of an axis's row: a letter a qubit, then the phase; and of the rows of so many operations. */
+#define PBC_ROW_BYTES(qubits) ((size_t)(qubits) + 1)
+#define PBC_ROWS_BYTES(qubits, operations) (PBC_ROW_BYTES(qubits) * (size_t)(operations))
 
 /* No cap, for pbc_convert; no bit, for pbc_measure. */
 #define PBC_NO_CAP UINT64_MAX
@@ -121,7 +125,7 @@ enum pbc_refusal {
     PBC_NO_FRAME = 13,                  /* fewer than two frame words a qubit */
     PBC_NO_NODES = 14,                  /* more nodes needed than lent or allowed */
     PBC_NO_OPERATIONS = 15,             /* the same of operations */
-    PBC_NO_SCRATCH = 16,                /* fewer than 4 scratch words a used node, or fewer letters than qubits */
+    PBC_NO_SCRATCH = 16,                /* too few scratch words (4 a used node), letters (1 a qubit) or rows (PBC_ROWS_BYTES) */
     PBC_EXPANSION_LIMIT = 17,           /* the work is above the limit */
     PBC_NO_POOL = 18,                   /* more factors at once than the pool has records besides record 0 */
     PBC_NON_HERMITIAN_AXIS = 19,        /* the phase is i or -i */
@@ -211,6 +215,12 @@ uint32_t pbc_hermitian_axis(const uint64_t *header, size_t header_len, const uin
 uint32_t pbc_max_axis_weights(const uint64_t *header, size_t header_len, const uint32_t *nodes, size_t nodes_len, const uint32_t *operations,
                               size_t operations_len, uint32_t *scratch, size_t scratch_len, uint32_t *pool, size_t pool_len, uint64_t limit,
                               uint64_t *answer, size_t answer_len);
+
+/* The axis of every operation, in order, in one walk: PBC_ROW_BYTES each, a letter a qubit and then the phase. Value: work, that of the weights
+ * above. Needs PBC_ROWS_BYTES of the used operations. Refuses with 3 (as the weights), 16, 17, 18; rows past the used ones are left alone. */
+uint32_t pbc_expand_axes(const uint64_t *header, size_t header_len, const uint32_t *nodes, size_t nodes_len, const uint32_t *operations,
+                         size_t operations_len, uint8_t *rows, size_t rows_len, uint32_t *scratch, size_t scratch_len, uint32_t *pool,
+                         size_t pool_len, uint64_t limit, uint64_t *answer, size_t answer_len);
 
 /* ---- conversion */
 

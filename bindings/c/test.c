@@ -1,5 +1,5 @@
 /* Tests of what pbc.h says beside the calls' own answers: sizes that suffice, names, null pointers, targets past 32 bits, caps, the gates of
- * operations, threads.
+ * operations, rows, threads.
  * Exits with 1 at the first call that answers something else than expected. */
 #include "pbc.h"
 
@@ -14,6 +14,7 @@ static uint32_t gates[PBC_GATE_WORDS * GATES], frame[PBC_FRAME_WORDS(QUBITS)];
 static uint32_t nodes[PBC_NODES_WORDS(MOST)], operations[PBC_OPERATIONS_WORDS(PBC_OPERATIONS_FOR(GATES))];
 static uint32_t scratch[PBC_SCRATCH_WORDS(MOST)], pool[PBC_POOL_WORDS(PBC_RECORDS_FOR(QUBITS, MOST))];
 static uint64_t planes[PBC_PLANE_WORDS(QUBITS)], header[PBC_HEADER_WORDS], answer[PBC_ANSWER_WORDS];
+static uint8_t rows[PBC_ROWS_BYTES(QUBITS, PBC_OPERATIONS_FOR(GATES)) + 1];
 
 #define LENGTH(words) (sizeof(words) / sizeof *(words))
 #define LENT(words) (words), LENGTH(words)
@@ -63,6 +64,12 @@ static uint32_t weights(void)
 {
     return pbc_max_axis_weights(header, LENGTH(header), nodes, LENGTH(nodes), operations, LENGTH(operations), LENT(scratch), LENT(pool), UINT64_MAX,
                                 LENT(answer));
+}
+
+static uint32_t expand_axes(size_t rows_len, size_t pool_len, uint64_t limit)
+{
+    return pbc_expand_axes(header, LENGTH(header), nodes, LENGTH(nodes), operations, LENGTH(operations), rows, rows_len, LENT(scratch), pool,
+                           pool_len, limit, LENT(answer));
 }
 
 /* Random lists, and lists of one kind before measurements, which have it flushed under a cap of 1. */
@@ -176,6 +183,48 @@ static void hand_is_marked(void)
     }
 }
 
+/* The first bytes of the rows have this value; then all are 9. */
+static void expect_rows(const char *what, size_t count, uint64_t value)
+{
+    for (size_t i = 0; i < count; i++)
+        expect(what, rows[i], value);
+    memset(rows, 9, sizeof rows);
+}
+
+/* Each row is what expand says of its axis, in as many bytes as the header says. */
+static void rows_are_the_axes(void)
+{
+    for (size_t i = 0; i < GATES; i++)
+        put_gate(gates + PBC_GATE_WORDS * i, kinds[below(LENGTH(kinds))]);
+    expect("convert", convert(3, GATES), PBC_ACCEPTED);
+    size_t used = PBC_ROWS_BYTES(QUBITS, header[PBC_OPERATIONS]);
+    expect("weights", weights(), PBC_ACCEPTED);
+    uint64_t work = answer[2];
+    memset(rows, 9, sizeof rows);
+    expect("too few rows", expand_axes(used - 1, LENGTH(pool), work), PBC_NO_SCRATCH);
+    expect_rows("a row after 16", sizeof rows, 9);
+    expect("a small limit", expand_axes(used, LENGTH(pool), work - 1), PBC_EXPANSION_LIMIT);
+    expect("a byte past the rows", rows[used], 9);
+    expect_rows("a row after 17", used, 0);
+    expect("a small pool", expand_axes(used, PBC_POOL_WORDS(2), work), PBC_NO_POOL);
+    expect_rows("a row after 18", used, 0);
+    expect("axes", expand_axes(sizeof rows, LENGTH(pool), work), PBC_ACCEPTED);
+    expect("work", answer[0], work);
+    expect("a byte past the rows", rows[used], 9);
+    for (uint64_t i = 0; i < header[PBC_OPERATIONS]; i++) {
+        uint8_t letters[QUBITS];
+        const uint8_t *row = rows + PBC_ROW_BYTES(QUBITS) * i;
+        expect("expand",
+               pbc_expand(header, LENGTH(header), nodes, LENGTH(nodes), LENT(letters), LENT(scratch), LENT(pool), OWNER,
+                          operations[PBC_OPERATION_WORDS * i + 1], UINT64_MAX, LENT(answer)),
+               PBC_ACCEPTED);
+        expect("letters", (uint64_t)memcmp(row, letters, QUBITS), 0);
+        expect("phase", row[QUBITS], answer[0]);
+    }
+    operations[4] = PBC_MAX_GATES;
+    expect("a bad operation", expand_axes(sizeof rows, LENGTH(pool), work), PBC_BAD_STORE);
+}
+
 /* Null slices, alone and together, are answered as empty ones. */
 static void null_is_empty(void)
 {
@@ -194,6 +243,10 @@ static void null_is_empty(void)
     expect("weights", pbc_max_axis_weights(header, LENGTH(header), nodes, LENGTH(nodes), NONE, LENT(scratch), NONE, 100, LENT(answer)),
            PBC_ACCEPTED);
     expect("weights", pbc_max_axis_weights(NONE, NONE, NONE, NONE, NONE, 100, LENT(answer)), PBC_TOO_SHORT);
+    expect("axes", pbc_expand_axes(header, LENGTH(header), nodes, LENGTH(nodes), NONE, NONE, LENT(scratch), NONE, 100, LENT(answer)), PBC_ACCEPTED);
+    expect("axes", pbc_expand_axes(header, LENGTH(header), nodes, LENGTH(nodes), NONE, NONE, NONE, NONE, 100, LENT(answer)), PBC_NO_SCRATCH);
+    expect("axes", pbc_expand_axes(header, LENGTH(header), NONE, NONE, NONE, NONE, NONE, 100, LENT(answer)), PBC_BAD_STORE);
+    expect("axes", pbc_expand_axes(NONE, NONE, NONE, NONE, NONE, NONE, 100, LENT(answer)), PBC_TOO_SHORT);
     expect("expand", pbc_expand(header, LENGTH(header), NONE, NONE, NONE, NONE, OWNER, 4, 100, LENT(answer)), PBC_BAD_STORE);
     expect("expand", pbc_expand(header, LENGTH(header), nodes, LENGTH(nodes), NONE, NONE, NONE, OWNER, 4, 100, LENT(answer)), PBC_NO_SCRATCH);
     uint8_t letter;
@@ -266,6 +319,7 @@ int main(void)
     targets_past_32_bits();
     operations_name_their_gates();
     hand_is_marked();
+    rows_are_the_axes();
     null_is_empty();
     names();
     threads_read_one_circuit();

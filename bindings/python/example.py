@@ -10,10 +10,10 @@ ADDER = [
 
 
 def show(circuit):
-    for operation in circuit.operations:
+    for operation, axis in zip(circuit.operations, circuit.axes(100000)):
         source = "by hand" if operation.gate is None else f"gate {operation.gate}"
         into = "" if operation.target is None else f" into {operation.target}"
-        print(f"{source}:", operation.kind, operation.angle or 0, f"{circuit.expand(operation.axis, 100000)}{into}")
+        print(f"{source}:", operation.kind, operation.angle or 0, f"{axis}{into}")
 
 
 circuit = pbc.to_pbc(6, 3, ADDER)

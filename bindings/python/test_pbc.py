@@ -80,6 +80,50 @@ class Threads(unittest.TestCase):
             self.assertIn(str(circuit.expand(operation.axis, 100))[1 + operation.angle:][:5], ["XIIIZ"])
 
 
+class Axes(unittest.TestCase):
+    def test_each_is_the_expansion_of_its_operation(self):
+        for cap in (None, 3):
+            circuit = pbc.to_pbc(5, 1, random_gates(4, 5, 60), cap)
+            circuit.rotate(circuit.single(2, pbc.Y).scaled(pbc.MINUS_ONE), 3)
+            axes = circuit.axes(10**6)
+            each = [circuit.expand(operation.axis, 10**6) for operation in circuit.operations]
+            self.assertEqual([axis[:2] for axis in axes], [axis[:2] for axis in each])
+            self.assertEqual((str(axes[-1]), axes[-1].work), ("-IIYII", None))
+
+    def test_the_limit_is_that_of_the_weights(self):
+        circuit = pbc.to_pbc(3, 0, [("h", 0), ("ccx", 0, 1, 2)])
+        work = circuit.max_axis_weights(1000).work
+        self.assertEqual(len(circuit.axes(work)), 7)
+        with self.assertRaises(pbc.PbcError) as raised:
+            circuit.axes(work - 1)
+        self.assertEqual(raised.exception.name, "ExpansionLimit")
+        for limit in (-1, 2**64):
+            self.assertRaises(ValueError, circuit.axes, limit)
+
+    def test_no_operations_and_no_qubits(self):
+        self.assertEqual(pbc.PbcCircuit(3, 0).axes(0), [])
+        circuit = pbc.PbcCircuit(0, 0)
+        circuit.rotate(circuit.identity.scaled(pbc.MINUS_ONE), 1)
+        circuit.rotate(circuit.identity, 1)
+        self.assertEqual(circuit.axes(100), [(pbc.MINUS_ONE, [], None), (pbc.ONE, [], None)])
+
+    def test_threads_add_meanwhile(self):
+        circuit = pbc.PbcCircuit(3, 0)
+        x = circuit.single(1, pbc.X)
+
+        def work(i):
+            for _ in range(200):
+                if i < 2:
+                    circuit.rotate(x, 1)
+                else:
+                    before = len(circuit.operations)
+                    axes = circuit.axes(10**6)
+                    assert before <= len(axes) <= len(circuit.operations) and {str(axis) for axis in axes} <= {"+IXI"}
+
+        self.assertEqual(in_threads(4, work), [])
+        self.assertEqual(len(circuit.axes(10**6)), 400)
+
+
 class Gates(unittest.TestCase):
     def refused(self, gate, message):
         with self.assertRaises(ValueError) as raised:

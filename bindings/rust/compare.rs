@@ -244,12 +244,17 @@ impl Comparison {
         }
     }
 
-    /// The weights, also with the exact limit and one below.
+    /// The weights, also with the exact limit and one below; and all axes at once, beside each one's expansion, where the weights are given.
     fn weights(&mut self, both: &Both) {
         let work = both.rust.work(&both.rust.axes(), usize::MAX).unwrap();
         for limit in [usize::MAX, work, work.saturating_sub(1)] {
             if let Some((a, b)) = self.agree(both.rust.max_axis_weights(limit), both.ours.max_axis_weights(limit), &[]) {
                 assert_eq!((a.non_clifford, a.clifford), (b.non_clifford, b.clifford), "the weights differ");
+            }
+            let each = |_| both.rust.axes().into_iter().map(|axis| both.rust.expand(axis, usize::MAX)).collect::<Result<Vec<_>, _>>();
+            if let Some((a, b)) = self.agree(both.rust.max_axis_weights(limit).and_then(each), both.ours.axes(limit), &[]) {
+                assert_eq!(a.len(), b.len());
+                assert!(a.iter().zip(&b).all(|(a, b)| same_expansion(a, b)), "the axes differ");
             }
         }
     }

@@ -1,7 +1,7 @@
 //! Commands to answers. What the Rust does not carry is answered `?`: the operands of refusals 6 and 8, and the fifth word of a converted operation.
 //! The fifth words of operations that were stored or added by hand are kept beside the Rust's circuit, which has four.
 use crate::circuit::{Circuit, Gate, GateKind};
-use crate::pbc::{AxisKind, Pauli, PauliAngle, PauliNode, PauliRef, PbcCircuit, PbcError, PbcOp, Phase, to_pbc};
+use crate::pbc::{AxisKind, ExpandedPauli, Pauli, PauliAngle, PauliNode, PauliRef, PbcCircuit, PbcError, PbcOp, Phase, to_pbc};
 use std::fmt::Write as _;
 use std::io::{BufRead, Write};
 use std::num::NonZeroUsize;
@@ -110,6 +110,12 @@ fn put(out: &mut String, words: &[u32]) {
     }
 }
 
+fn put_letters(out: &mut String, expanded: &ExpandedPauli) {
+    for &l in &expanded.factors {
+        write!(out, " {}", l as u32).unwrap();
+    }
+}
+
 /// The first number of a list is how many follow that belong to it; they, and the rest.
 fn counted(numbers: &[u32]) -> Option<(&[u32], &[u32])> {
     let (&count, rest) = numbers.split_first()?;
@@ -196,6 +202,19 @@ impl Driver {
         self.circuit = c;
         self.fifths = operations.chunks(5).map(|w| Some(w[4])).collect();
         Some("ok".into())
+    }
+
+    /// The work of the report, and each axis expanded by itself: the Rust does not read them all in one call. So the report's limit decides, and
+    /// what comes of lent slices (16, 18) is not compared.
+    fn rows(&self) -> String {
+        let axes = self.circuit.axes();
+        let mut out = format!("ok {}", self.circuit.work(&axes, usize::MAX).unwrap());
+        for axis in axes {
+            let expanded = self.circuit.expand(axis, usize::MAX).unwrap();
+            write!(out, " {}", expanded.phase as u32).unwrap();
+            put_letters(&mut out, &expanded);
+        }
+        out
     }
 
     /// Whether an operation has a fifth word that is no gate's index and not the mark.
@@ -287,9 +306,7 @@ impl Driver {
                     Ok(p) => {
                         let work = self.circuit.work(&[r], usize::MAX).unwrap();
                         let mut out = format!("ok {} {work}", p.phase as u32);
-                        for l in p.factors {
-                            write!(out, " {}", l as u32).unwrap();
-                        }
+                        put_letters(&mut out, &p);
                         out
                     }
                 }
@@ -301,7 +318,7 @@ impl Driver {
                     Ok(a) => format!("ok {} {}", word(a.as_ref()), self.circuit.work(&[r], usize::MAX).unwrap()),
                 }
             }
-            ("report", &[_]) if self.malformed() => "err 3 0 0".into(),
+            ("report" | "rows", &[_]) if self.malformed() => "err 3 0 0".into(),
             ("report", &[limit]) => match self.circuit.max_axis_weights(limit as usize) {
                 Err(e) => refusal(&e, 0),
                 Ok(m) => {
@@ -309,6 +326,7 @@ impl Driver {
                     format!("ok {} {} {work}", m.non_clifford, m.clifford)
                 }
             },
+            ("rows", &[limit]) => self.circuit.max_axis_weights(limit as usize).map_or_else(|e| refusal(&e, 0), |_| self.rows()),
             ("times", &[a, b]) if a < 4 && b < 4 => {
                 let (p, l) = LETTERS[a as usize].times(LETTERS[b as usize]);
                 format!("ok {} {}", p as u32, l as u32)

@@ -108,16 +108,27 @@ impl<W: Write> Writer<W> {
     fn walk(&mut self, roots: &[PauliRef], more: usize, f: impl Fn(usize) -> String) {
         let need = self.driver.circuit.work(roots, usize::MAX).unwrap() + more;
         self.say(&f(need + 1000));
+        self.at_limit(need, f);
+    }
+
+    fn at_limit(&mut self, need: usize, f: impl Fn(usize) -> String) {
         self.say(&f(need));
         if need > 0 {
             self.say(&f(need - 1));
         }
     }
 
-    fn walks(&mut self, random: &mut Random) {
-        self.say("kinds");
+    /// The report and the rows of all axes.
+    fn read_axes(&mut self) {
         let axes = self.driver.circuit.axes();
         self.walk(&axes, 0, |limit| format!("report {limit}"));
+        let need = self.driver.circuit.work(&axes, usize::MAX).unwrap();
+        self.at_limit(need, |limit| format!("rows {limit}"));
+    }
+
+    fn walks(&mut self, random: &mut Random) {
+        self.say("kinds");
+        self.read_axes();
         let n = self.driver.circuit.num_qubits();
         let nodes = self.driver.circuit.pauli_nodes().len() as u32;
         for _ in 0..3 {
@@ -300,8 +311,7 @@ pub fn exhaust(qubits: u64, count: u64) {
                 continue;
             }
             w.convert(n, 1, cap, &words);
-            let axes = w.driver.circuit.axes();
-            w.walk(&axes, 0, |limit| format!("report {limit}"));
+            w.read_axes();
         }
         let Some(k) = (0..places.len()).rev().find(|&k| places[k] + 1 < all.len()) else { return };
         places[k] += 1;

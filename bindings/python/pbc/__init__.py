@@ -8,8 +8,8 @@ Letters are 0 to 3 (I, X, Y, Z), phases 0 to 3 (powers of i); an angle k stands 
 
 >>> import pbc
 >>> circuit = pbc.to_pbc(3, 1, [("h", 0), ("cx", 0, 1), ("t", 1), ("measure", 2, 0)])
->>> for operation in circuit.operations:
-...     print(operation.gate, operation.kind, operation.angle, circuit.expand(operation.axis, 1000))
+>>> for operation, axis in zip(circuit.operations, circuit.axes(1000)):
+...     print(operation.gate, operation.kind, operation.angle, axis)
 2 rotate 1 +XZI
 3 measure None +IIZ
 """

@@ -106,10 +106,12 @@ class PbcCircuit:
                 self._seen_operations = resized(self._operations, OPERATION_WORDS * header[4])
             return header, self._seen_nodes, self._seen_operations
 
-    def _walk(self, attempt):
-        """A call that reads the circuit as it is now, with scratch and pool of its own; others may add to it meanwhile."""
+    def _walk(self, attempt, long=False):
+        """A call that reads the circuit as it is now, with scratch and pool of its own; others may add to it meanwhile. The pool grows; that
+        of a long walk has all that can be of use, so that it is not begun again with more."""
         header, nodes, operations = self._seen()
-        scratch, pool = words(_SCRATCH_WORDS * header[3]), words(_FIRST_POOL_WORDS)
+        first = min(POOL_WORDS, 3 * (1 + header[0] * header[3])) if long else _FIRST_POOL_WORDS
+        scratch, pool = words(_SCRATCH_WORDS * header[3]), words(first)
 
         def grow(refusal):
             nonlocal pool
@@ -294,6 +296,27 @@ class PbcCircuit:
             "pbc_max_axis_weights", header, nodes, operations, scratch, pool, limit, answer))
         return MaxAxisWeights(*values[:3])
 
+    def axes(self, limit: int) -> list[ExpandedPauli]:
+        """The axis of every operation, in order, in one walk: its work and its limit are those of max_axis_weights, and an axis has no
+        work of its own.
+
+        >>> circuit = to_pbc(2, 1, [("cnot", 0, 1), ("t", 1), ("measure", 0, 0)])
+        >>> [str(axis) for axis in circuit.axes(100)]
+        ['+ZZ', '+ZI']
+        """
+        limit = number("limit", limit, U64)
+        rows = words(0, ctypes.c_uint8)
+
+        def attempt(header, nodes, operations, scratch, pool, answer):
+            nonlocal rows
+            rows = words(header[4] * (header[0] + 1), ctypes.c_uint8)
+            return call("pbc_expand_axes", header, nodes, operations, rows, scratch, pool, limit, answer)
+
+        self._walk(attempt, long=True)
+        # A row is a letter a qubit, then the phase.
+        read, width = bytes(rows), self.num_qubits + 1
+        return [ExpandedPauli(read[end], list(read[end - width + 1:end]), None) for end in range(width - 1, len(read), width)]
+
     def push_output_clifford(self, name: str, a: int, b: Optional[int] = None, c: Optional[int] = None) -> None:
         """One more Clifford gate (h, x, z, s, sdg, cnot, cz) on the output frame.
 
@@ -313,10 +336,10 @@ def to_pbc(num_qubits: int, num_cbits: int, gates: Iterable, max_weight: Optiona
     as rotations before one would. Those have at most two letters, whatever the cap.
 
     >>> circuit = to_pbc(2, 0, [("cnot", 0, 1), ("t", 1)])
-    >>> [str(circuit.expand(operation.axis, 100)) for operation in circuit.operations]
+    >>> [str(axis) for axis in circuit.axes(100)]
     ['+ZZ']
     >>> capped = to_pbc(2, 0, [("cnot", 0, 1), ("t", 1)], max_weight=1)
-    >>> [(str(capped.expand(operation.axis, 100)), operation.angle) for operation in capped.operations]
+    >>> [(str(axis), operation.angle) for operation, axis in zip(capped.operations, capped.axes(100))]
     [('+ZI', 2), ('+IX', 2), ('+ZX', 6), ('+IZ', 1)]
 
     A gate that is no gate is a ValueError with its index, whatever the circuit:

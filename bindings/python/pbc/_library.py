@@ -17,6 +17,7 @@ _SIGNATURES = {
     "pbc_expand": "wubuuQIQw",
     "pbc_hermitian_axis": "wuuuQIQw",
     "pbc_max_axis_weights": "wuuuuQw",
+    "pbc_expand_axes": "wuubuuQw",
     "pbc_push_output_clifford": "wuuIIIw",
     "pbc_convert": "IIQQuuuuwww",
 }

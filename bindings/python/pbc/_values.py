@@ -123,7 +123,8 @@ class PbcOp(NamedTuple):
 
 
 class ExpandedPauli(NamedTuple):
-    """The phase and the letters of a reference, and the work of reading them. As text, the letters by qubit.
+    """The phase and the letters of a reference, and the work of reading them, None where all axes were read at once. As text, the letters
+    by qubit.
 
     >>> import pbc
     >>> print(pbc.ExpandedPauli(pbc.ONE, [pbc.Z, pbc.I, pbc.Z], 0))
@@ -132,7 +133,7 @@ class ExpandedPauli(NamedTuple):
 
     phase: int
     factors: list
-    work: int
+    work: Optional[int]
 
     def __str__(self) -> str:
         return ["+", "+i", "-", "-i"][self.phase] + "".join("IXYZ"[letter] for letter in self.factors)

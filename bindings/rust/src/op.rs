@@ -42,8 +42,7 @@ const HAND: u32 = u32::MAX;
 /// ```
 /// use pbc::{Gate, PbcOp, to_pbc};
 /// let circuit = to_pbc(1, 1, &[Gate::H(0), Gate::T(0), Gate::Measure(0, 0)], None)?;
-/// for op in circuit.operations() {
-///     let axis = circuit.expand(op.axis().as_ref(), 100)?;
+/// for (op, axis) in circuit.operations().zip(circuit.axes(100)?) {
 ///     match op {
 ///         PbcOp::Rotate { angle, gate, .. } => assert_eq!((format!("{angle} {axis}").as_str(), gate), ("pi/8 +X", Some(1))),
 ///         PbcOp::Measure { outcome, target, .. } => assert_eq!((outcome.index(), target), (0, Some(0))),

@@ -28,6 +28,13 @@ pub struct ExpandedPauli {
     pub factors: Vec<Pauli>,
 }
 
+impl ExpandedPauli {
+    fn of(phase: u32, letters: &[u8]) -> Self {
+        let factors = letters.iter().map(|&letter| Pauli::of(u32::from(letter))).collect();
+        Self { phase: Phase::power(phase), factors }
+    }
+}
+
 impl fmt::Display for ExpandedPauli {
     fn fmt(&self, f: &mut fmt::Formatter<'_>) -> fmt::Result {
         write!(f, "{}", self.phase)?;
@@ -45,10 +52,10 @@ pub struct MaxAxisWeights {
 }
 
 impl PbcCircuit {
-    /// Calls with scratch of four words a node, and with a pool that grows.
-    fn walk(&self, mut call: impl FnMut(&mut [u32], &mut [u32]) -> Answer) -> Answer {
+    /// Calls with scratch of four words a node, and with a pool that begins with so many words, and grows.
+    fn walk(&self, words: usize, mut call: impl FnMut(&mut [u32], &mut [u32]) -> Answer) -> Answer {
         let mut scratch = vec![0; 4 * self.header[3] as usize];
-        growing(&mut Vec::new(), POOL_WORDS, PbcError::NoPool, |pool| call(&mut scratch, pool))
+        growing(&mut vec![0; words], POOL_WORDS, PbcError::NoPool, |pool| call(&mut scratch, pool))
     }
 
     /// The letters of one expression. The budget charges one cell a qubit plus the work of the expansion.
@@ -69,10 +76,10 @@ impl PbcCircuit {
     pub fn expand(&self, reference: PauliRef, max_cells: usize) -> Result<ExpandedPauli, PbcError> {
         let PauliRef { owner, word } = reference;
         let mut letters = vec![0; self.num_qubits()];
-        let answer = self
-            .walk(|scratch, pool| ffi::pbc_expand(&self.header, &self.nodes, &mut letters, scratch, pool, owner, word, max_cells as u64))?;
-        let factors = letters.iter().map(|&letter| Pauli::of(u32::from(letter))).collect();
-        Ok(ExpandedPauli { phase: Phase::power(answer[0] as u32), factors })
+        let answer = self.walk(0, |scratch, pool| {
+            ffi::pbc_expand(&self.header, &self.nodes, &mut letters, scratch, pool, owner, word, max_cells as u64)
+        })?;
+        Ok(ExpandedPauli::of(answer[0] as u32, &letters))
     }
 
     /// The expression as an axis, if its sign is +1 or -1.
@@ -92,7 +99,7 @@ impl PbcCircuit {
     /// `ForeignPauli`, `ExpansionLimit`, `NoPool`, `NonHermitianAxis`.
     pub fn hermitian_axis(&self, reference: PauliRef, max_cells: usize) -> Result<PauliAxis, PbcError> {
         let PauliRef { owner, word } = reference;
-        self.walk(|scratch, pool| ffi::pbc_hermitian_axis(&self.header, &self.nodes, scratch, pool, owner, word, max_cells as u64))?;
+        self.walk(0, |scratch, pool| ffi::pbc_hermitian_axis(&self.header, &self.nodes, scratch, pool, owner, word, max_cells as u64))?;
         Ok(PauliAxis(reference))
     }
 
@@ -110,8 +117,36 @@ impl PbcCircuit {
     ///
     /// `ExpansionLimit`, `NoPool`.
     pub fn max_axis_weights(&self, max_work: usize) -> Result<MaxAxisWeights, PbcError> {
-        let answer = self
-            .walk(|scratch, pool| ffi::pbc_max_axis_weights(&self.header, &self.nodes, &self.operations, scratch, pool, max_work as u64))?;
+        let answer = self.walk(0, |scratch, pool| {
+            ffi::pbc_max_axis_weights(&self.header, &self.nodes, &self.operations, scratch, pool, max_work as u64)
+        })?;
         Ok(MaxAxisWeights { non_clifford: answer[0] as usize, clifford: answer[1] as usize })
+    }
+
+    /// The axis of every operation, in order, in one walk: its work and its limit are those of
+    /// [`max_axis_weights`](Self::max_axis_weights).
+    ///
+    /// ```
+    /// use pbc::{Gate, to_pbc};
+    /// let circuit = to_pbc(2, 1, &[Gate::Cnot(0, 1), Gate::T(1), Gate::Measure(0, 0)], None)?;
+    /// for (operation, axis) in circuit.operations().zip(circuit.axes(100)?) {
+    ///     assert_eq!(axis.to_string(), if operation.gate() == Some(1) { "+ZZ" } else { "+ZI" });
+    /// }
+    /// # Ok::<(), pbc::PbcError>(())
+    /// ```
+    ///
+    /// # Errors
+    ///
+    /// `ExpansionLimit`, `NoPool`.
+    pub fn axes(&self, max_work: usize) -> Result<Vec<ExpandedPauli>, PbcError> {
+        let qubits = self.num_qubits();
+        let mut rows = vec![0; self.header[4] as usize * (qubits + 1)];
+        // All that can be of use, so that a long walk is not begun again with more.
+        let records = 1 + qubits * self.header[3] as usize;
+        self.walk(POOL_WORDS.min(3 * records), |scratch, pool| {
+            ffi::pbc_expand_axes(&self.header, &self.nodes, &self.operations, &mut rows, scratch, pool, max_work as u64)
+        })?;
+        // A row is a letter a qubit, then the phase.
+        Ok(rows.chunks_exact(qubits + 1).map(|row| ExpandedPauli::of(u32::from(row[qubits]), &row[..qubits])).collect())
     }
 }

@@ -1,6 +1,7 @@
 //! What is read by expanding products: letters, axes, weights, and the limits.
 
-use pbc::{ExpandedPauli, MaxAxisWeights, Pauli, PauliAngle, PbcCircuit, PbcError, Phase};
+use pbc::{ExpandedPauli, Gate, MaxAxisWeights, Pauli, PauliAngle, PbcCircuit, PbcError, Phase, to_pbc};
+use std::num::NonZeroU32;
 
 #[test]
 fn a_product_of_x_and_z_is_no_axis_before_it_is_scaled() {
@@ -48,6 +49,42 @@ fn weights_are_by_kind() {
     circuit.measure(z, None).unwrap();
     assert_eq!(circuit.max_axis_weights(100).unwrap(), MaxAxisWeights { non_clifford: 1, clifford: 2 });
     assert_eq!(circuit.max_axis_weights(3).unwrap_err(), PbcError::ExpansionLimit);
+}
+
+#[test]
+fn axes_are_the_expansions_of_all_operations() {
+    let gates = [Gate::H(0), Gate::Cnot(0, 1), Gate::T(1), Gate::Ccx(0, 1, 2), Gate::Sx(2), Gate::Measure(2, 0)];
+    for cap in [None, NonZeroU32::new(3)] {
+        let mut circuit = to_pbc(3, 1, &gates, cap).unwrap();
+        let y = circuit.single(1, Pauli::Y).unwrap().negated();
+        circuit.rotate(y, PauliAngle::new(3)).unwrap();
+        let each: Vec<_> = circuit.operations().map(|op| circuit.expand(op.axis().as_ref(), 1000).unwrap()).collect();
+        let axes = circuit.axes(1000).unwrap();
+        assert_eq!(axes, each);
+        assert_eq!(axes.last().unwrap().to_string(), "-IYI");
+    }
+}
+
+#[test]
+fn axes_have_the_limit_of_the_weights() {
+    let mut circuit = PbcCircuit::new(2, 0).unwrap();
+    assert_eq!(circuit.axes(0).unwrap(), []);
+    let (x, z) = (circuit.single(0, Pauli::X).unwrap(), circuit.single(1, Pauli::Z).unwrap());
+    let product = circuit.product(x.as_ref(), z.as_ref()).unwrap();
+    let axis = circuit.hermitian_axis(product, 100).unwrap();
+    circuit.rotate(axis, PauliAngle::new(1)).unwrap();
+    circuit.measure(z, None).unwrap();
+    let work = (0..).find(|&limit| circuit.max_axis_weights(limit).is_ok()).unwrap();
+    assert_eq!(circuit.axes(work).unwrap().len(), 2);
+    assert_eq!(circuit.axes(work - 1).unwrap_err(), PbcError::ExpansionLimit);
+}
+
+#[test]
+fn axes_of_no_qubit_are_phases() {
+    let mut circuit = PbcCircuit::new(0, 0).unwrap();
+    circuit.rotate(circuit.identity().negated(), PauliAngle::new(1)).unwrap();
+    circuit.rotate(circuit.identity(), PauliAngle::new(1)).unwrap();
+    assert_eq!(circuit.axes(100).unwrap().iter().map(ToString::to_string).collect::<Vec<_>>(), ["-", "+"]);
 }
 
 #[test]

@@ -32,6 +32,7 @@ fn threads_read_one_circuit() {
     let axes: Vec<_> = circuit.operations().map(|op| op.axis().as_ref()).skip(1_900).step_by(10).collect();
     let expected: Vec<_> = axes.iter().map(|&axis| circuit.expand(axis, usize::MAX).unwrap()).collect();
     let weights = circuit.max_axis_weights(usize::MAX).unwrap();
+    let all = circuit.axes(usize::MAX).unwrap();
     thread::scope(|scope| {
         for _ in 0..4 {
             scope.spawn(|| {
@@ -40,6 +41,7 @@ fn threads_read_one_circuit() {
                     assert!(circuit.hermitian_axis(axis, usize::MAX).is_ok());
                 }
                 assert_eq!(circuit.max_axis_weights(usize::MAX).unwrap(), weights);
+                assert_eq!(circuit.axes(usize::MAX).unwrap(), all);
             });
         }
     });

@@ -14,8 +14,8 @@ use Rattle.arena.specs.Operations.{sourceOf, decodeOp}
 use Rattle.arena.specs.Store.{breaksLimit, exceedsNodes, exceedsOperations, foreign, unknown, noNodeRoom, noOperationRoom}
 use Rattle.arena.specs.Builder.{newCheck, newStep, singleCheck, singleStep, productCheck, productStep, rotateCheck, rotateStep, measureCheck, measureStep, conditionalCheck, conditionalStep}
 use Rattle.arena.specs.Walk.{walk}
-use Rattle.arena.specs.Readers.{expandWalk, hermitianWalk, reportWalk}
-use Rattle.arena.specs.Expansion.{opAt, expandCheck, expandStep, hermitianCheck, hermitianStep, reportCheck, reportStep}
+use Rattle.arena.specs.Readers.{expandWalk, hermitianWalk, reportWalk, axesWalk}
+use Rattle.arena.specs.Expansion.{opAt, expandCheck, expandStep, hermitianCheck, hermitianStep, reportCheck, reportStep, axesCheck, axesStep}
 use Rattle.convert.specs.Records.{records, kindOf, lowerAs, lower, lowerFrom, lowerAll}
 use Rattle.convert.specs.Plain.{plainBegin, tested, exceeds, flushFrom, flushed, performAs, plainStep, plainRun, rowsAfter, tableRun}
 use Rattle.convert.specs.Frame.{startArena, pushed, multiplied, frameStep, qubitsOf, operandsChecked, frameGates, frameRun, cliffordCheck, cliffordStep}
@@ -25,7 +25,7 @@ use Rattle.convert.specs.Conversion.{gatesIn, plainEnd, tableEnd, wordEnd, reco
 use Rattle.exports.specs.Words.{fieldIn, headerIn, letterIn, angleIn, targetIn, tooShort, numberIn, headerLeft, answerLeft, returned}
 use Rattle.exports.specs.Exports.{createdReply, singledReply, multipliedReply, pushedReply, measuredReply, headed, lentWords}
 use Rattle.exports.specs.Exports.{newCall, singleCall, productCall, rotateCall, measureCall, conditionalCall, timesNumber}
-use Rattle.exports.specs.Readers.{expandedReply, hermitianReply, weightsReply, expandWords, walkWords, expandCall, hermitianCall, weightsCall}
+use Rattle.exports.specs.Readers.{expandedReply, hermitianReply, weightsReply, axesReply, expandWords, walkWords, axesWords, expandCall, hermitianCall, weightsCall, expandAxesCall}
 use Rattle.exports.specs.Conversion.{framePushedReply, convertedReply, capIn, cliffordCall, convertWords, convertCall}
 
 -- a header of two qubits, three classical bits, owner 7, six nodes, two operations and one measurement, and a word more; five words for the answer
@@ -37,7 +37,7 @@ unfolding power flushFrom start step _⟫_⇒_ decode nodeAt dense sourceOf deco
     writeSeven write wordStep wordRun mask digits rowWords rowsWords images packed gatesIn plainEnd tableEnd wordEnd recordChecked recordsChecked gatesCheck gatesChecked roomChecked
     convertCheck convertWithin convertStep fieldIn headerIn letterIn angleIn targetIn tooShort numberIn headerLeft answerLeft createdReply singledReply multipliedReply pushedReply
     measuredReply newCall singleCall productCall rotateCall measureCall conditionalCall timesNumber expandedReply hermitianReply weightsReply expandCall hermitianCall weightsCall
-    framePushedReply convertedReply capIn cliffordCall convertCall
+    axesWalk axesCheck axesStep axesReply expandAxesCall framePushedReply convertedReply capIn cliffordCall convertCall
 header = 2 ∷ 3 ∷ 7 ∷ 6 ∷ 2 ∷ 1 ∷ 9 ∷ []
 
 abbrev answer : List ℕ
@@ -188,6 +188,37 @@ weights-sourceless : weightsCall header nodes (1 ∷ 8 ∷ 0 ∷ 3 ∷ 429496729
     ≡ returned 3 (0 ∷ 0 ∷ 0 ∷ 0 ∷ 9 ∷ []) (walkWords (replicate 24 9) (9 ∷ 9 ∷ 9 ∷ 9 ∷ []))
 unfolding header
 weights-sourceless = refl
+
+-- ---- pbc_expand_axes: Z₀ and X₀ Z₁, two letters and the phase each, in six bytes, and a byte more; the value is the work
+
+axes-accepted : expandAxesCall header nodes operations (replicate 7 9) (replicate 25 9) (replicate 10 9) 10 answer
+    ≡ returned 0 (10 ∷ 0 ∷ 0 ∷ 0 ∷ 9 ∷ [])
+    (axesWords (3 ∷ 0 ∷ 0 ∷ 1 ∷ 3 ∷ 0 ∷ 9 ∷ [])
+    (0 ∷ 0 ∷ 0 ∷ 0 ∷ 0 ∷ 0 ∷ 0 ∷ 0 ∷ 0 ∷ 0 ∷ 0 ∷ 0 ∷ 0 ∷ 0 ∷ 0 ∷ 0 ∷ 0 ∷ 0 ∷ 0 ∷ 0 ∷ 0 ∷ 0 ∷ 0 ∷ 0 ∷ 9 ∷ [])
+    (0 ∷ 0 ∷ 0 ∷ 0 ∷ 0 ∷ 0 ∷ 0 ∷ 0 ∷ 0 ∷ 9 ∷ []))
+unfolding header
+axes-accepted = refl
+
+-- one less for the work: 17; rows, scratch and pool are zero
+axes-refused : expandAxesCall header nodes operations (replicate 7 9) (replicate 25 9) (replicate 10 9) 9 answer
+    ≡ returned 17 (0 ∷ 0 ∷ 0 ∷ 0 ∷ 9 ∷ [])
+    (axesWords (0 ∷ 0 ∷ 0 ∷ 0 ∷ 0 ∷ 0 ∷ 9 ∷ [])
+    (0 ∷ 0 ∷ 0 ∷ 0 ∷ 0 ∷ 0 ∷ 0 ∷ 0 ∷ 0 ∷ 0 ∷ 0 ∷ 0 ∷ 0 ∷ 0 ∷ 0 ∷ 0 ∷ 0 ∷ 0 ∷ 0 ∷ 0 ∷ 0 ∷ 0 ∷ 0 ∷ 0 ∷ 9 ∷ [])
+    (0 ∷ 0 ∷ 0 ∷ 0 ∷ 0 ∷ 0 ∷ 0 ∷ 0 ∷ 0 ∷ 9 ∷ []))
+unfolding header
+axes-refused = refl
+
+-- one byte too few: 16, and nothing is zero
+axes-short-rows : expandAxesCall header nodes operations (replicate 5 9) (replicate 24 9) (replicate 9 9) 10 answer
+    ≡ returned 16 (0 ∷ 0 ∷ 0 ∷ 0 ∷ 9 ∷ []) (axesWords (9 ∷ 9 ∷ 9 ∷ 9 ∷ 9 ∷ []) (replicate 24 9) (replicate 9 9))
+unfolding header
+axes-short-rows = refl
+
+-- an answer of three words: 255
+axes-short-answer : expandAxesCall header nodes operations (replicate 6 9) (replicate 24 9) (replicate 9 9) 10 (9 ∷ 9 ∷ 9 ∷ [])
+    ≡ returned 255 (9 ∷ 9 ∷ 9 ∷ []) (axesWords (9 ∷ 9 ∷ 9 ∷ 9 ∷ 9 ∷ 9 ∷ []) (replicate 24 9) (replicate 9 9))
+unfolding header
+axes-short-answer = refl
 
 -- ---- pbc_push_output_clifford: s 1
 

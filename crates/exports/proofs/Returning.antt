@@ -4,7 +4,7 @@ use mathlib.Core.List.{List}
 use Prim.Native.Nat.{ℕ}
 use Rattle.exports.specs.Words.{Reply, numberIn, headerLeft, answerLeft, returned}
 use Rattle.exports.specs.Exports.{headed, lentWords}
-use Rattle.exports.specs.Readers.{walkWords, expandWords}
+use Rattle.exports.specs.Readers.{walkWords, expandWords, axesWords}
 
 pub replied-is : {B : Type 0} {said reply : Reply} {number : ℕ} {written : List ℕ} {left words : B} (answer : List ℕ)
     → said ≡ reply
@@ -35,3 +35,6 @@ module _ {a b a′ b′ : List ℕ} where
 
   pub same-expand : {c c′ : List ℕ} → a ≡ a′ → b ≡ b′ → c ≡ c′ → expandWords a b c ≡ expandWords a′ b′ c′
   same-expand p q r = rw (p, q, r)
+
+  pub same-axes : {c c′ : List ℕ} → a ≡ a′ → b ≡ b′ → c ≡ c′ → axesWords a b c ≡ axesWords a′ b′ c′
+  same-axes p q r = rw (p, q, r)

@@ -5,11 +5,11 @@ use Prim.Native.Nat.{ℕ}
 use lib.ListN.{length}
 use Rattle.pauli.specs.Letters.{phaseNumber}
 use Rattle.arena.specs.Walk.{Out}
-use Rattle.arena.specs.Expansion.{ExpandStep, WalkStep, expansionOf, hermitianOf, maxWeightsOf, expandStep, hermitianStep, reportStep}
-use Rattle.exports.specs.Types.{Header, Expansion, ExpansionMade, ExpansionRefused, HermitianAxis, HermitianMade, HermitianRefused, MaxAxisWeights, WeightsMade, WeightsRefused}
+use Rattle.arena.specs.Expansion.{ExpandStep, WalkStep, AxesStep, expansionOf, hermitianOf, maxWeightsOf, expandedAxesOf, expandStep, hermitianStep, reportStep, axesStep}
+use Rattle.exports.specs.Types.{Header, Expansion, ExpansionMade, ExpansionRefused, HermitianAxis, HermitianMade, HermitianRefused, MaxAxisWeights, WeightsMade, WeightsRefused, ExpandedAxes, AxesMade, AxesRefused}
 use Rattle.exports.specs.Words.{headerIn, handleIn, tooShort, Reply, Accepted, Refused, Returned, replied}
 
--- ---- replies: phase and work, word and work, two weights and work
+-- ---- replies: phase and work, word and work, two weights and work, the work
 
 unfoldable pub expandedReply : Header → Expansion → Reply
 expandedReply h (ExpansionMade phase work) = Accepted h (phaseNumber phase) work 0
@@ -22,6 +22,10 @@ hermitianReply h (HermitianRefused e) = Refused e
 unfoldable pub weightsReply : Header → MaxAxisWeights → Reply
 weightsReply h (WeightsMade nonClifford clifford work) = Accepted h nonClifford clifford work
 weightsReply h (WeightsRefused e) = Refused e
+
+unfoldable pub axesReply : Header → ExpandedAxes → Reply
+axesReply h (AxesMade work) = Accepted h work 0 0
+axesReply h (AxesRefused e) = Refused e
 
 -- ---- expand
 
@@ -66,3 +70,23 @@ unfoldable pub weightsCall : (header nodes operations scratch pool : List ℕ) �
 weightsCall header nodes operations scratch pool limit answer =
     walkedWith scratch pool answer (tooShort (length header) (length answer)) (λ o. weightsReply (headerIn header) (maxWeightsOf o))
     (reportStep (headerIn header) nodes operations scratch pool limit)
+
+-- ---- expand_axes
+
+pub record AxesLent : Type 0 where
+  pub rows : List ℕ
+  pub scratch : List ℕ
+  pub pool : List ℕ
+
+abbrev pub axesWords : (rows scratch pool : List ℕ) → AxesLent
+axesWords rows scratch pool = record { rows = rows; scratch = scratch; pool = pool }
+
+abbrev pub axesWith : Header → (rows scratch pool answer : List ℕ) → (short : Bool) → AxesStep → Returned AxesLent
+axesWith h rows scratch pool answer short step =
+    replied short answer (axesWords rows scratch pool) (axesReply h (expandedAxesOf (step .answer)))
+    (axesWords (step .rows) (step .scratch) (step .pool))
+
+unfoldable pub expandAxesCall : (header nodes operations rows scratch pool : List ℕ) → (limit : ℕ) → (answer : List ℕ) → Returned AxesLent
+expandAxesCall header nodes operations rows scratch pool limit answer =
+    axesWith (headerIn header) rows scratch pool answer (tooShort (length header) (length answer))
+    (axesStep (headerIn header) nodes operations rows scratch pool limit)

@@ -16,6 +16,7 @@ pub use Rattle.arena.specs.declared.builder.Measured.the-variants.{the-data as 
 pub use Rattle.arena.specs.declared.expansion.Expansion.the-variants.{the-data as Expansion, Made as ExpansionMade, Refused as ExpansionRefused}
 pub use Rattle.arena.specs.declared.expansion.HermitianAxis.the-variants.{the-data as HermitianAxis, Made as HermitianMade, Refused as HermitianRefused}
 pub use Rattle.arena.specs.declared.expansion.MaxAxisWeights.the-variants.{the-data as MaxAxisWeights, Made as WeightsMade, Refused as WeightsRefused}
+pub use Rattle.arena.specs.declared.expansion.ExpandedAxes.the-variants.{the-data as ExpandedAxes, Made as AxesMade, Refused as AxesRefused}
 pub use Rattle.convert.specs.declared.frame.FramePushed.the-variants.{the-data as FramePushed, Made as FramePushedMade, Refused as FramePushedRefused}
 pub use Rattle.convert.specs.declared.convert.Converted.the-variants.{the-data as Converted, Made as ConvertedMade, Refused as ConvertedRefused}
 pub use Rattle.convert.specs.declared.cap.Cap.the-variants.{the-data as Cap, None as NoCap, AtMost}

@@ -26,5 +26,6 @@ pub use conversion::pbc_push_output_clifford;
 pub use letters::pbc_angle;
 pub use letters::pbc_times;
 pub use readers::pbc_expand;
+pub use readers::pbc_expand_axes;
 pub use readers::pbc_hermitian_axis;
 pub use readers::pbc_max_axis_weights;

@@ -5,13 +5,15 @@ use crate::words::handle;
 use crate::words::read_header;
 use crate::words::too_short;
 use crate::words::write_answer;
+use arena::ExpandedAxes;
 use arena::Expansion;
 use arena::Header;
 use arena::HermitianAxis;
 use arena::MaxAxisWeights;
 ghost use mathlib.Core.Path.{_≡_};
 ghost use Rattle.exports.specs.Words.{returned};
-ghost use Rattle.exports.specs.Readers.{expandedReply, hermitianReply, weightsReply, expandWords, walkWords, expandCall, hermitianCall, weightsCall};
+ghost use Rattle.exports.specs.Readers.{expandedReply, hermitianReply, weightsReply, axesReply};
+ghost use Rattle.exports.specs.Readers.{expandWords, walkWords, axesWords, expandCall, hermitianCall, weightsCall, expandAxesCall};
 
 fn expanded(header: Header, answer: Expansion) -> Reply
     ensures { λ r. ⌜ r ≡ expandedReply header answer ⌝ }
@@ -43,6 +45,15 @@ fn weights(header: Header, answer: MaxAxisWeights) -> Reply
             Reply::Accepted(header, non_clifford as u64, clifford as u64, work as u64)
         }
         MaxAxisWeights::Refused(error) => Reply::Refused(error),
+    }
+}
+
+fn axes(header: Header, answer: ExpandedAxes) -> Reply
+    ensures { λ r. ⌜ r ≡ axesReply header answer ⌝ }
+{
+    match answer {
+        ExpandedAxes::Made(work) => Reply::Accepted(header, work as u64, 0, 0),
+        ExpandedAxes::Refused(error) => Reply::Refused(error),
     }
 }
 
@@ -117,5 +128,29 @@ pub extern "C" fn pbc_max_axis_weights(
     let was = read_header(header);
     let made = was.max_axis_weights(nodes, operations, scratch, pool, limit as usize);
     let reply = weights(was, made);
+    write_answer(answer, reply)
+}
+
+/// The axis of every operation as a row of bytes, n letters and then the phase; the value is the work. Promise: `expandAxesCall`.
+#[no_mangle]
+pub extern "C" fn pbc_expand_axes(
+    header: &[u64],
+    nodes: &[u32],
+    operations: &[u32],
+    rows: &mut [u8],
+    scratch: &mut [u32],
+    pool: &mut [u32],
+    limit: u64,
+    answer: &mut [u64],
+) -> u32
+    ensures { λ r. ⌜ returned r (now (answer .exit)) (axesWords (now (rows .exit)) (now (scratch .exit)) (now (pool .exit)))
+        ≡ expandAxesCall (now (header .entry)) (now (nodes .entry)) (now (operations .entry)) (now (rows .entry)) (now (scratch .entry)) (now (pool .entry)) limit (now (answer .entry)) ⌝ }
+{
+    if too_short(header.len(), answer.len()) {
+        return 255;
+    }
+    let was = read_header(header);
+    let made = was.expand_axes(nodes, operations, rows, scratch, pool, limit as usize);
+    let reply = axes(was, made);
     write_answer(answer, reply)
 }

@@ -104,6 +104,10 @@ pub report-number : numberOf (114 ∷ 101 ∷ 112 ∷ 111 ∷ 114 ∷ 116 ∷ []
 unfolding extendedBy extendedName
 report-number = refl
 
+pub rows-number : numberOf (114 ∷ 111 ∷ 119 ∷ 115 ∷ []) ≡ 365869
+unfolding extendedBy extendedName
+rows-number = refl
+
 pub convert-number : numberOf (99 ∷ 111 ∷ 110 ∷ 118 ∷ 101 ∷ 114 ∷ 116 ∷ []) ≡ 1385372423
 unfolding extendedBy extendedName
 convert-number = refl

@@ -15,7 +15,7 @@ allLends = record {
   planes = 4096;
   scratch = 262144;
   pool = 196620;
-  letters = 256;
+  letters = 1048576;
 }
 
 -- what seven numbers say

@@ -153,6 +153,33 @@ fn expansion(out: &mut [u8; CHUNK], at: usize, phase: u64, work: u64, letters: &
     output::bytes(out, to, letters)
 }
 
+// A row of n letters and a phase: the phase first.
+fn row(out: &mut [u8; CHUNK], at: usize, bytes: &[u8], n: usize) -> usize {
+    let to = output::bytes(out, at, byte_part(bytes, n, 1));
+    output::bytes(out, to, byte_part(bytes, 0, n))
+}
+
+// The rows of all operations, from the front of the letters.
+fn rows_of(out: &mut [u8; CHUNK], at: usize, h: Header, letters: &[u8]) -> usize {
+    let n = h.qubits as usize;
+    let width = n + 1;
+    let mut to = at;
+    let mut from = 0;
+    let mut k = 0;
+    while k < h.operations {
+        to = row(out, to, byte_part(letters, from, width), n);
+        from += width;
+        k += 1;
+    }
+    to
+}
+
+// The work, and the axis of every operation.
+fn rows(out: &mut [u8; CHUNK], at: usize, h: Header, work: u64, letters: &[u8]) -> usize {
+    let to = one(out, at, work);
+    rows_of(out, to, h, letters)
+}
+
 // Words of a buffer from a place on.
 fn words_from(out: &mut [u8; CHUNK], at: usize, words: &[u32], from: usize, count: usize) -> usize {
     output::words(out, at, part(words, from, count))
@@ -249,6 +276,7 @@ fn without_end(
                 byte_part(letters, 0, h.qubits as usize),
             )
         }
+        LineAnswer::Rows(work) => rows(out, at, h, work, letters),
         LineAnswer::Kinds => kinds(out, at, h, operations),
         LineAnswer::Words(buffer, from, count) => words_of(
             out,

@@ -19,8 +19,8 @@ pub const PLANES: usize = 4096;
 pub const SCRATCH: usize = 262144;
 
 pub const POOL: usize = 196620;
-/// Bytes.
-pub const LETTERS: usize = 256;
+/// Bytes: the letters of `expand`, the rows of `rows`.
+pub const LETTERS: usize = 1048576;
 /// The numbers of a line that are kept: those of the longest `store`, and some more.
 pub const LINE_WORDS: usize = 460000;
 /// Bytes that are read, or written, at a time.

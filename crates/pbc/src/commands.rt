@@ -65,6 +65,7 @@ fn command_named(name: u64) -> Command {
         names::EXPAND => Command::Reading(ReadingCommand::Expand),
         names::HERM => Command::Reading(ReadingCommand::Hermitian),
         names::REPORT => Command::Reading(ReadingCommand::Report),
+        names::ROWS => Command::Reading(ReadingCommand::Rows),
         _ => Command::Plain(PlainCommand::Unknown),
     }
 }

@@ -46,6 +46,8 @@ pub const HERM: u64 = 161608;
 
 pub const REPORT: u64 = 261263900;
 
+pub const ROWS: u64 = 365869;
+
 pub const CONVERT: u64 = 1385372423;
 
 pub const PLANES: u64 = 235989847;

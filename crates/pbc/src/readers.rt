@@ -9,6 +9,7 @@ use crate::line::Line;
 use crate::state::CommandState;
 use crate::state::LineAnswer;
 use crate::state::LineReply;
+use arena::ExpandedAxes;
 use arena::Expansion;
 use arena::HermitianAxis;
 use arena::MaxAxisWeights;
@@ -17,6 +18,7 @@ pub enum ReadingCommand {
     Expand,
     Hermitian,
     Report,
+    Rows,
 }
 
 // ---- answers of the calls
@@ -47,6 +49,13 @@ fn weighed(state: CommandState, answer: MaxAxisWeights) -> LineReply {
             work as u64,
         )),
         MaxAxisWeights::Refused(error) => state.refused(error),
+    }
+}
+
+fn written(state: CommandState, answer: ExpandedAxes) -> LineReply {
+    match answer {
+        ExpandedAxes::Made(work) => state.says(LineAnswer::Rows(work as u64)),
+        ExpandedAxes::Refused(error) => state.refused(error),
     }
 }
 
@@ -110,6 +119,26 @@ fn report(
     weighed(state, answer)
 }
 
+// `rows LIMIT`
+fn rows(
+    state: CommandState,
+    line: Line,
+    words: &[u32],
+    nodes: &[u32],
+    operations: &[u32],
+    scratch: &mut [u32],
+    pool: &mut [u32],
+    letters: &mut [u8],
+) -> LineReply {
+    if !line.has(1) {
+        return state.bad();
+    }
+    let header = state.header;
+    let limit = count_at(words, 0);
+    let answer = header.expand_axes(nodes, operations, letters, scratch, pool, limit);
+    written(state, answer)
+}
+
 fn read(
     command: ReadingCommand,
     state: CommandState,
@@ -125,6 +154,16 @@ fn read(
         ReadingCommand::Expand => expand(state, line, words, nodes, scratch, pool, letters),
         ReadingCommand::Hermitian => hermitian(state, line, words, nodes, scratch, pool),
         ReadingCommand::Report => report(state, line, words, nodes, operations, scratch, pool),
+        ReadingCommand::Rows => rows(
+            state,
+            line,
+            words,
+            nodes,
+            operations,
+            scratch,
+            pool,
+            letters,
+        ),
     }
 }
 

@@ -41,6 +41,8 @@ pub enum LineAnswer {
     DumpWithPlanes,
     /// A phase, the work, and the letters of an expansion.
     Letters(u64, u64),
+    /// The work, and the axis of every operation.
+    Rows(u64),
     Kinds,
     /// A part of a buffer: from where on, and how many words.
     Words(Buffer, usize, usize),
