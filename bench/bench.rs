@@ -236,7 +236,7 @@ fn random(qubits: u32, gates: usize, lists: usize, cap: Option<u32>) -> Workload
 fn best(mut round: impl FnMut() -> Duration) -> f64 {
     round();
     let (mut least, begun, mut rounds) = (f64::MAX, Instant::now(), 0);
-    while rounds < 5 || begun.elapsed() < Duration::from_millis(300) && rounds < 2000 {
+    while rounds < 5 && begun.elapsed() < Duration::from_secs(2) || begun.elapsed() < Duration::from_millis(300) && rounds < 2000 {
         least = least.min(round().as_secs_f64());
         rounds += 1;
     }
@@ -419,8 +419,9 @@ impl Job {
         assert!(b.axes() == 0);
         let n = self.workload.qubits as usize;
         for (row, axis) in b.rows.chunks(n + 1).zip(rust.axes()) {
-            let weight = row[..n].iter().filter(|&&letter| letter != 0).count();
-            assert!(weight == rust.expand(axis, usize::MAX).unwrap().factors.len());
+            let expanded = rust.expand(axis, usize::MAX).unwrap();
+            let letters = expanded.factors.iter().map(|&letter| letter as u8);
+            assert!(letters.eq(row[..n].iter().copied()) && expanded.phase as u8 == row[n]);
         }
     }
 }
@@ -470,6 +471,7 @@ fn summary(kinds: &mut [Kind]) {
 }
 
 const CAPS: [Option<u32>; 4] = [None, Some(3), Some(8), Some(32)];
+const SIZES: [usize; 7] = [1000, 2000, 4000, 8000, 16000, 32000, 65536];
 
 fn jobs(folder: &str) -> Vec<Job> {
     let adder = |form: &str, n: u32, cap| {
@@ -479,11 +481,13 @@ fn jobs(folder: &str) -> Vec<Job> {
     let mut jobs = Vec::new();
     let mut convert = |workload| jobs.push(Job { what: What::Convert, each: false, workload });
     for (form, cap) in ["cuccaro", "ladder"].into_iter().flat_map(|form| CAPS.map(|cap| (form, cap))) {
-        [4, 8, 16, 32, 64, 120].map(|n| convert(adder(form, n, cap)));
+        for n in [4, 8, 16, 32, 64, 120] {
+            convert(adder(form, n, cap));
+        }
     }
     for (qubits, cap) in [16, 64, 256].into_iter().flat_map(|qubits| CAPS.map(|cap| (qubits, cap))) {
-        for lists in [1, 16] {
-            [1000, 2000, 4000, 8000, 16000, 32000, 65536].map(|g| convert(random(qubits, g, lists, cap)));
+        for (lists, gates) in [1, 16].into_iter().flat_map(|lists| SIZES.map(|gates| (lists, gates))) {
+            convert(random(qubits, gates, lists, cap));
         }
     }
     let mut read = |each: bool, w: &dyn Fn() -> Workload| {
@@ -495,7 +499,9 @@ fn jobs(folder: &str) -> Vec<Job> {
         }
     };
     for (form, n) in ["cuccaro", "ladder"].into_iter().flat_map(|form| [8, 32, 120].map(|n| (form, n))) {
-        [None, Some(3), Some(8)].map(|cap| read(true, &|| adder(form, n, cap)));
+        for cap in [None, Some(3), Some(8)] {
+            read(true, &|| adder(form, n, cap));
+        }
     }
     for (qubits, cap) in [16, 64, 256].into_iter().flat_map(|qubits| CAPS.map(|cap| (qubits, cap))) {
         read(false, &|| random(qubits, 4000, 1, cap));
