@@ -3,14 +3,16 @@
 use crate::header::Header;
 use crate::limits::NODE_WORDS;
 use crate::limits::OPERATION_WORDS;
-use crate::node::PauliNode;
 use crate::op::AxisKind;
 use crate::op::PbcOp;
 use crate::op::Source;
 ghost use mathlib.Core.Path.{_≡_};
-ghost use lib.ListN.{getD};
-ghost use Rattle.arena.specs.Nodes.{nodeAt};
+ghost use mathlib.Core.Bool.{true};
+ghost use Prim.Native.Nat.{ℕ, _*_, _≤_};
+ghost use lib.ListN.{length, getD};
+ghost use Rattle.arena.specs.Nodes.{decode, nodeAt};
 ghost use Rattle.arena.specs.Expansion.{isMalformed, anyMalformed, badNodes, opAt, gateWord, isBadOp, isNoSource, isBadAt, anyBadOp, badOperations, weighedOf};
+ghost use Rattle.arena.specs.Code.Stored.{isProduct, isSingle, isIdentity};
 ghost use Rattle.arena.specs.Code.Roots.{countsClifford};
 
 // A word, or 0 past the end.
@@ -20,37 +22,80 @@ fn word_at(words: &[u32], i: usize) -> u32
     if i < words.len() { words[i] } else { 0 }
 }
 
-// ---- nodes
+// ---- nodes: tests of their two words with no branch, so that a loop takes several nodes at a time
 
-fn node_at(qubits: u32, nodes: &[u32], index: u32) -> PauliNode
-    ensures { λ r. ⌜ r ≡ nodeAt qubits (now (nodes .entry)) index ⌝ }
+// A product of nodes older than i.
+fn is_product(i: u32, first: u32, second: u32) -> bool
+    ensures { λ r. ⌜ r ≡ isProduct i first second ⌝ }
 {
-    let at = NODE_WORDS * (index as usize);
-    PauliNode::decode(qubits, index, word_at(nodes, at), word_at(nodes, at + 1))
+    (first % 4 == 2) & (first / 4 / 4 < i) & (second / 4 < i)
 }
 
-fn is_malformed(node: PauliNode) -> bool
-    ensures { λ r. ⌜ r ≡ isMalformed node ⌝ }
+fn is_single(qubits: u32, first: u32, second: u32) -> bool
+    ensures { λ r. ⌜ r ≡ isSingle qubits first second ⌝ }
 {
-    match node {
-        PauliNode::Identity => false,
-        PauliNode::Single(_, _) => false,
-        PauliNode::Product(_, _) => false,
-        PauliNode::Malformed => true,
-    }
+    (first % 4 == 1) & (1 <= first / 4) & (first / 4 <= 3) & (second < qubits)
+}
+
+fn is_identity(first: u32, second: u32) -> bool
+    ensures { λ r. ⌜ r ≡ isIdentity first second ⌝ }
+{
+    (first % 4 == 0) & (first / 4 == 0) & (second == 0)
+}
+
+fn is_malformed(qubits: u32, i: u32, first: u32, second: u32) -> bool
+    ensures { λ r. ⌜ r ≡ isMalformed (decode qubits i first second) ⌝ }
+{
+    let product = is_product(i, first, second);
+    let single = is_single(qubits, first, second);
+    !(product | single | is_identity(first, second))
 }
 
 // Whether one of the first nodes is malformed.
 fn any_malformed(qubits: u32, nodes: &[u32], count: u32) -> bool
+    requires { ⌜ 2 * count ≤ length (now nodes) ⌝ }
     ensures { λ r. ⌜ r ≡ anyMalformed (nodeAt qubits (now (nodes .entry))) count ⌝ }
 {
     let mut any = false;
+    let mut at = 0;
     let mut i = 0;
     while i < count {
-        any = any | is_malformed(node_at(qubits, nodes, i));
+        any = any | is_malformed(qubits, i, nodes[at], nodes[at + 1]);
+        at += NODE_WORDS;
         i += 1;
     }
     any
+}
+
+// Whether all nodes from one on are products: then those before it decide.
+fn all_products(nodes: &[u32], from: u32, count: u32) -> bool
+    requires { ⌜ (from ≤ count) × (2 * count ≤ length (now nodes)) ⌝ }
+    ensures { λ r. ⌜ ((n : ℕ) → r ≡ true → anyMalformed (nodeAt n (now (nodes .entry))) from ≡ anyMalformed (nodeAt n (now (nodes .entry))) count) ⌝ }
+{
+    let mut all = true;
+    let mut at = NODE_WORDS * (from as usize);
+    let mut i = from;
+    while i < count {
+        all = all & is_product(i, nodes[at], nodes[at + 1]);
+        at += NODE_WORDS;
+        i += 1;
+    }
+    all
+}
+
+// How many of the first nodes decide. In a circuit that was converted those are the ones of `Header::new`, since all later ones are products.
+fn deciding(qubits: u32, nodes: &[u32], count: u32) -> u32
+    requires { ⌜ (qubits ≤ 256) × (2 * count ≤ length (now nodes)) ⌝ }
+    ensures { λ r. ⌜ (r ≤ count) × (anyMalformed (nodeAt qubits (now (nodes .entry))) r ≡ anyMalformed (nodeAt qubits (now (nodes .entry))) count) ⌝ }
+{
+    let start = 1 + 2 * qubits;
+    if count < start {
+        return count;
+    }
+    if all_products(nodes, start, count) {
+        return start;
+    }
+    count
 }
 
 // Whether the header or a used node stands in the way of a walk. O(nodes).
@@ -60,7 +105,8 @@ pub(crate) fn bad_nodes(header: Header, nodes: &[u32]) -> bool
     if header.breaks_limit() | header.exceeds_nodes(nodes.len()) {
         return true;
     }
-    any_malformed(header.qubits, nodes, header.nodes)
+    let count = deciding(header.qubits, nodes, header.nodes);
+    any_malformed(header.qubits, nodes, count)
 }
 
 // ---- operations
