@@ -15,13 +15,14 @@ use crate::roots::release;
 use crate::roots::show;
 use crate::roots::show_root;
 use crate::roots::wipe;
+use crate::roots::zero_bytes;
 use crate::scratch::zero_all;
 use crate::stored::axis_word;
 use crate::stored::op_at;
 use crate::weights::count_axes;
 ghost use mathlib.Core.Path.{_≡_};
 ghost use Prim.Native.Nat.{_+_, _-_, _%_, _≤_, _<_};
-ghost use lib.ListN.{length, replicate};
+ghost use lib.ListN.{length};
 ghost use Rattle.arena.specs.References.{nodeIn};
 ghost use Rattle.arena.specs.Nodes.{nodeAt};
 ghost use Rattle.arena.specs.Builder.{overlay};
@@ -37,17 +38,17 @@ ghost use Rattle.arena.specs.Limits.{capOf};
 
 // The n letters of a chain, then the phase.
 fn fill_row(row: &mut [u8], pool: &[u32], n: usize, v: Value)
-    requires { ⌜ ShowReady (now pool) (v .head) × (n < length (now row)) ⌝ }
-    ensures { λ _. ⌜ ((g : ShowReady (now (pool .entry)) (v .head)) → now (row .exit) ≡ overlay (cells n (g .fs) (v .phase % 4)) (now (row .entry))) ⌝ }
+    requires { ⌜ ShowReady (now pool) (v .head) (v .count) × (n < length (now row)) ⌝ }
+    ensures { λ _. ⌜ ((g : ShowReady (now (pool .entry)) (v .head) (v .count)) → now (row .exit) ≡ overlay (cells n (g .fs) (v .phase % 4)) (now (row .entry))) ⌝ }
 {
-    show(row, pool, n, v.head);
+    show(row, pool, n, v.head, v.count);
     row[n] = (v.phase % 4) as u8;
 }
 
 // The same, from byte `at` on.
 fn put_row(rows: &mut [u8], at: usize, pool: &[u32], n: usize, v: Value)
-    requires { ⌜ ShowReady (now pool) (v .head) × (at + n < length (now rows)) ⌝ }
-    ensures { λ _. ⌜ ((g : ShowReady (now (pool .entry)) (v .head)) → now (rows .exit) ≡ laidAt at (cells n (g .fs) (v .phase % 4)) (now (rows .entry))) ⌝ }
+    requires { ⌜ ShowReady (now pool) (v .head) (v .count) × (at + n < length (now rows)) ⌝ }
+    ensures { λ _. ⌜ ((g : ShowReady (now (pool .entry)) (v .head) (v .count)) → now (rows .exit) ≡ laidAt at (cells n (g .fs) (v .phase % 4)) (now (rows .entry))) ⌝ }
 {
     fill_row(&mut rows[at..], pool, n, v);
 }
@@ -150,16 +151,6 @@ fn axes_walk(
 }
 
 // ---- the rows of a refused walk
-
-fn zero_bytes(rows: &mut [u8])
-    ensures { λ _. ⌜ now (rows .exit) ≡ replicate (length (now (rows .entry))) 0 ⌝ }
-{
-    let mut i = 0;
-    while i < rows.len() {
-        rows[i] = 0;
-        i += 1;
-    }
-}
 
 // The walk, and zero rows if it is refused.
 fn rows_or_zero(

@@ -47,7 +47,7 @@ fn expand_walk(
     match walk_root(nodes, s, pool, count, cells - n, word as usize) {
         Shown::Refused(e) => Expansion::Refused(e),
         Shown::Root(v, left) => {
-            show(letters, pool, n, v.head);
+            show(letters, pool, n, v.head, v.count);
             Expansion::Made(Phase::power((v.phase % 4) as u32), left.work)
         }
     }

@@ -85,8 +85,8 @@ module _ (w : ℕ) {words l p : List ℕ} {count limit : ℕ} {left : Ledger} (g
     abbrev shown : Sparse
     shown = turned (phaseIn w) (seen w g o z .0 .value (nodeIn w))
 
-    abbrev pub to-fill : ShowReady p₁ (v .head)
-    to-fill = record { who = seen w g o z .2 .who; tag = nodeIn w + 2; fs = seen w g o z .0 .value (nodeIn w) .factors; chain = seen w g o z .2 .value .chain }
+    abbrev pub to-fill : ShowReady p₁ (v .head) (v .count)
+    to-fill = record { who = seen w g o z .2 .who; tag = nodeIn w + 2; fs = seen w g o z .0 .value (nodeIn w) .factors; chain = seen w g o z .2 .value .chain; counted = seen w g o z .2 .value .count-is }
 
     phase-is : v .phase % 4 ≡ phaseNumber (shown .phase)
     phase-is = omega (arith, seen w g o z .2 .value .phase-is, phaseNumber-small (shown .phase))

@@ -182,8 +182,8 @@ module _ (n count : ℕ) (words : List ℕ) (w room : ℕ) where
       abbrev pub x : Sparse
       x = seen .2 .x
 
-      abbrev pub to-show : ShowReady p (v .head)
-      to-show = record { who = seen .2 .who; tag = seen .2 .tag; fs = seen .2 .x .factors; chain = seen .2 .value .chain }
+      abbrev pub to-show : ShowReady p (v .head) (v .count)
+      to-show = record { who = seen .2 .who; tag = seen .2 .tag; fs = seen .2 .x .factors; chain = seen .2 .value .chain; counted = seen .2 .value .count-is }
 
       first-is : firstOf (seen .0 .shown) ≡ x
       first-is = ap firstOf (seen .2 .shown-is)
