@@ -20,7 +20,7 @@ use crate::scratch::scan_uses;
 use crate::scratch::zero_all;
 ghost use mathlib.Core.Path.{_≡_};
 ghost use mathlib.Core.List.{[], _∷_, _++_};
-ghost use Prim.Native.Nat.{_+_, _-_, _≤_, _<_};
+ghost use Prim.Native.Nat.{ℕ, _+_, _-_, _≤_, _<_};
 ghost use lib.ListN.{length, replicate, drop};
 ghost use Rattle.arena.specs.References.{nodeIn};
 ghost use Rattle.arena.specs.Nodes.{nodeAt};
@@ -132,8 +132,8 @@ pub(crate) fn release(s: &mut [u32], pool: &mut [u32], j: usize, v: Value, left:
 
 // ---- one root
 
-// The root w is walked: its use is counted, and it is shown. The scratch and the pool are left as they are then.
-pub(crate) fn walk_root(
+// The root w is walked among the first nodes: its use is counted, and it is shown. The scratch and the pool are left as they are then.
+fn walk_among(
     nodes: &[u32],
     s: &mut [u32],
     pool: &mut [u32],
@@ -152,6 +152,24 @@ pub(crate) fn walk_root(
         Evaluated::Refused(e) => Shown::Refused(e),
         Evaluated::Done(left) => show_root(nodes, s, pool, count, limit, w, left),
     }
+}
+
+// The same among the nodes up to the root's own. It reaches no later one, so the answer is that of a walk among them all, however many there are.
+pub(crate) fn walk_root(
+    nodes: &[u32],
+    s: &mut [u32],
+    pool: &mut [u32],
+    limit: usize,
+    w: usize,
+) -> Shown
+    requires { ⌜ RootReady (now nodes) (now s) (nodeIn w + 1) w ⌝ }
+    ensures { λ r. ⌜ ((g : RootReady (now (nodes .entry)) (now (s .entry)) (nodeIn w + 1) w) (count : ℕ) → nodeIn w < count
+        → Says (walkNodes limit (capOf (length (now (pool .entry))) - 1) (nodeAt (g .n) (now (nodes .entry))) count (w ∷ [])) (shownOut r)
+        (Showing (now (pool .exit)))) ⌝ }
+{
+    let count = w / 4 + 1;
+    let part = 4 * count;
+    walk_among(nodes, &mut s[..part], pool, count, limit, w)
 }
 
 // ---- the end
