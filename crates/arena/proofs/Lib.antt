@@ -15,6 +15,7 @@ pub mod chains
 pub mod steps
 pub mod StoredWords
 pub mod FormedNodes
+pub mod SoundOperations
 pub mod Examples
 pub mod Pins
 pub mod Theorems

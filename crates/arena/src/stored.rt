@@ -1,18 +1,20 @@
 //! The stored words of a circuit, read entry by entry: whether a used one is malformed, and the axis of an operation.
 
 use crate::header::Header;
+use crate::limits::HAND_MARK;
+use crate::limits::MAX_GATES;
 use crate::limits::NODE_WORDS;
 use crate::limits::OPERATION_WORDS;
 use crate::op::AxisKind;
 use crate::op::PbcOp;
-use crate::op::Source;
 ghost use mathlib.Core.Path.{_≡_};
-ghost use mathlib.Core.Bool.{true};
-ghost use Prim.Native.Nat.{ℕ, _*_, _≤_};
+ghost use mathlib.Core.Bool.{true, _||_};
+ghost use Prim.Native.Nat.{ℕ, _+_, _*_, _≤_, _<_};
 ghost use lib.ListN.{length, getD};
 ghost use Rattle.arena.specs.Nodes.{decode, nodeAt};
-ghost use Rattle.arena.specs.Expansion.{isMalformed, anyMalformed, badNodes, opAt, gateWord, isBadOp, isNoSource, isBadAt, anyBadOp, badOperations, weighedOf};
-ghost use Rattle.arena.specs.Code.Stored.{isProduct, isSingle, isIdentity};
+ghost use Rattle.arena.specs.Expansion.{isMalformed, anyMalformed, badNodes, opAt, isBadOp, isNoSource, isBadAt, anyBadOp, badOperations, weighedOf};
+ghost use Rattle.arena.specs.Operations.{decodeOp, sourceOf};
+ghost use Rattle.arena.specs.Code.Stored.{isProduct, isSingle, isIdentity, isRotation, isMeasurement, isConditional, isSource};
 ghost use Rattle.arena.specs.Code.Roots.{countsClifford};
 
 // A word, or 0 past the end.
@@ -125,47 +127,68 @@ pub(crate) fn op_at(header: Header, operations: &[u32], index: u32) -> PbcOp
     )
 }
 
-// An operation that is malformed, or names an unused node or measurement.
-fn is_bad_op(header: Header, op: PbcOp) -> bool
-    ensures { λ r. ⌜ r ≡ isBadOp header op ⌝ }
+fn is_rotation(first: u32, measurement: u32, target: u32) -> bool
+    ensures { λ r. ⌜ r ≡ isRotation first measurement target ⌝ }
 {
-    match op {
-        PbcOp::Rotate(axis, _) => header.is_foreign(axis.as_ref()),
-        PbcOp::Measure(axis, outcome, _) => {
-            header.is_foreign(axis.as_ref()) | header.is_unknown(outcome)
-        }
-        PbcOp::ConditionalRotate(axis, _, outcome) => {
-            header.is_foreign(axis.as_ref()) | header.is_unknown(outcome)
-        }
-        PbcOp::Malformed => true,
-    }
+    (first % 4 == 0) & (first / 4 < 8) & (measurement == 0) & (target == 0)
 }
 
-// The last word of an operation.
-fn gate_word(operations: &[u32], index: u32) -> u32
-    ensures { λ r. ⌜ r ≡ gateWord (now (operations .entry)) index ⌝ }
+fn is_measurement(header: Header, first: u32, measurement: u32, target: u32) -> bool
+    ensures { λ r. ⌜ r ≡ isMeasurement header first measurement target ⌝ }
 {
-    word_at(operations, OPERATION_WORDS * (index as usize) + 4)
+    (first % 4 == 1)
+        & (first / 4 == 0)
+        & (target <= header.cbits)
+        & !(header.measurements <= measurement)
 }
 
-fn is_no_source(source: Source) -> bool
-    ensures { λ r. ⌜ r ≡ isNoSource source ⌝ }
+fn is_conditional(header: Header, first: u32, measurement: u32, target: u32) -> bool
+    ensures { λ r. ⌜ r ≡ isConditional header first measurement target ⌝ }
 {
-    match source {
-        Source::Gate(_) => false,
-        Source::Hand => false,
-        Source::Malformed => true,
-    }
+    (first % 4 == 2) & (first / 4 < 8) & (target == 0) & !(header.measurements <= measurement)
+}
+
+// An index of a gate record, or the mark of an operation that was added by hand.
+fn is_source(gate: u32) -> bool
+    ensures { λ r. ⌜ r ≡ isSource gate ⌝ }
+{
+    (gate < MAX_GATES) | (gate == HAND_MARK)
+}
+
+// The words of an operation that is malformed, names an unused node or measurement, or came from nowhere.
+fn is_bad_op(
+    header: Header,
+    first: u32,
+    axis: u32,
+    measurement: u32,
+    target: u32,
+    gate: u32,
+) -> bool
+    ensures { λ r. ⌜ r ≡ (isBadOp header (decodeOp (header .owner) (header .cbits) first axis measurement target) || isNoSource (sourceOf gate)) ⌝ }
+{
+    let rotation = is_rotation(first, measurement, target);
+    let measures = is_measurement(header, first, measurement, target);
+    let formed = rotation | measures | is_conditional(header, first, measurement, target);
+    !formed | (header.nodes <= axis / 4) | !is_source(gate)
 }
 
 fn is_bad_at(header: Header, operations: &[u32], index: u32) -> bool
+    requires { ⌜ 5 * index + 4 < length (now operations) ⌝ }
     ensures { λ r. ⌜ r ≡ isBadAt header (now (operations .entry)) index ⌝ }
 {
-    let bad = is_bad_op(header, op_at(header, operations, index));
-    bad | is_no_source(Source::of_word(gate_word(operations, index)))
+    let at = OPERATION_WORDS * (index as usize);
+    is_bad_op(
+        header,
+        operations[at],
+        operations[at + 1],
+        operations[at + 2],
+        operations[at + 3],
+        operations[at + 4],
+    )
 }
 
 fn any_bad_op(header: Header, operations: &[u32]) -> bool
+    requires { ⌜ 5 * header .operations ≤ length (now operations) ⌝ }
     ensures { λ r. ⌜ r ≡ anyBadOp header (now (operations .entry)) (header .operations) ⌝ }
 {
     let mut any = false;
