@@ -18,7 +18,6 @@ use crate::roots::wipe;
 use crate::roots::zero_bytes;
 use crate::scratch::zero_all;
 use crate::stored::axis_word;
-use crate::stored::op_at;
 use crate::weights::count_axes;
 ghost use mathlib.Core.Path.{_≡_};
 ghost use Prim.Native.Nat.{_+_, _-_, _%_, _≤_, _<_};
@@ -31,7 +30,7 @@ ghost use Rattle.arena.specs.Readers.{wordsOf, axesWalk};
 ghost use Rattle.arena.specs.Expansion.{axesSize, expandedAxesOf, rowsMade, axesStep};
 ghost use Rattle.arena.specs.Code.Results.{Says, evaluatedOut, expandedOut};
 ghost use Rattle.arena.specs.Code.WalkWords.{Rooted, ShowReady};
-ghost use Rattle.arena.specs.Code.Roots.{Fit, weighedAt, axesOf, AxesNamed, showRoot, Weighing, cells, laidAt, RootWritten, RowsShown};
+ghost use Rattle.arena.specs.Code.Roots.{Fit, axesOf, OpsSound, showRoot, Weighing, cells, laidAt, RootWritten, RowsShown};
 ghost use Rattle.arena.specs.Limits.{capOf};
 
 // ---- a row
@@ -54,13 +53,6 @@ fn put_row(rows: &mut [u8], at: usize, pool: &[u32], n: usize, v: Value)
 }
 
 // ---- the walk
-
-fn root_at(header: Header, operations: &[u32], i: u32) -> usize
-    ensures { λ r. ⌜ r ≡ weighedAt header (now (operations .entry)) i .word ⌝ }
-{
-    let op = op_at(header, operations, i);
-    axis_word(op) as usize
-}
 
 // The axis w is shown, written and released.
 fn write_root(
@@ -111,7 +103,7 @@ fn write_axes(
     let mut at = 0;
     let mut i = 0;
     while i < total {
-        let w = root_at(header, operations, i);
+        let w = axis_word(operations, i);
         match write_root(header, nodes, rows, s, pool, limit, at, w, left) {
             Evaluated::Refused(e) => return ExpandedAxes::Refused(e),
             Evaluated::Done(rest) => {
@@ -134,7 +126,7 @@ fn axes_walk(
     pool: &mut [u32],
     limit: usize,
 ) -> ExpandedAxes
-    requires { ⌜ Fit header (now nodes) (now s) × AxesNamed header (now operations) × (header .operations ≤ 65536) × (length (now rows) ≡ axesSize header) ⌝ }
+    requires { ⌜ Fit header (now nodes) (now s) × OpsSound header (now operations) × (header .operations ≤ 65536) × (length (now rows) ≡ axesSize header) ⌝ }
     ensures { λ r. ⌜ Says (walkNodes limit (capOf (length (now (pool .entry))) - 1) (nodeAt (header .qubits) (now (nodes .entry))) (header .nodes)
         (wordsOf (axesOf header (now (operations .entry))))) (expandedOut r) (RowsShown (header .qubits) (now (rows .exit))) ⌝ }
 {
@@ -162,7 +154,7 @@ fn rows_or_zero(
     pool: &mut [u32],
     limit: usize,
 ) -> ExpandedAxes
-    requires { ⌜ Fit header (now nodes) (now s) × AxesNamed header (now operations) × (header .operations ≤ 65536) × (length (now rows) ≡ axesSize header) ⌝ }
+    requires { ⌜ Fit header (now nodes) (now s) × OpsSound header (now operations) × (header .operations ≤ 65536) × (length (now rows) ≡ axesSize header) ⌝ }
     ensures { λ r. ⌜ r ≡ expandedAxesOf (axesWalk limit (capOf (length (now (pool .entry))) - 1) (header .qubits) (header .nodes) (now (nodes .entry))
         (wordsOf (axesOf header (now (operations .entry))))) ⌝ }
     ensures { λ _. ⌜ now (rows .exit) ≡ rowsMade (axesWalk limit (capOf (length (now (pool .entry))) - 1) (header .qubits) (header .nodes) (now (nodes .entry))

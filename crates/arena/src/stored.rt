@@ -5,17 +5,17 @@ use crate::limits::HAND_MARK;
 use crate::limits::MAX_GATES;
 use crate::limits::NODE_WORDS;
 use crate::limits::OPERATION_WORDS;
-use crate::op::AxisKind;
-use crate::op::PbcOp;
+use crate::pool::wide;
 ghost use mathlib.Core.Path.{_≡_};
-ghost use mathlib.Core.Bool.{true, _||_};
+ghost use mathlib.Core.Bool.{true, false, _||_};
 ghost use Prim.Native.Nat.{ℕ, _+_, _*_, _≤_, _<_};
 ghost use lib.ListN.{length, getD};
 ghost use Rattle.arena.specs.Nodes.{decode, nodeAt};
-ghost use Rattle.arena.specs.Expansion.{isMalformed, anyMalformed, badNodes, opAt, isBadOp, isNoSource, isBadAt, anyBadOp, badOperations, weighedOf};
+ghost use Rattle.arena.specs.Expansion.{isMalformed, anyMalformed, badNodes, opAt, isBadOp, isNoSource, isBadAt, anyBadOp, badOperations};
 ghost use Rattle.arena.specs.Operations.{decodeOp, sourceOf};
 ghost use Rattle.arena.specs.Code.Stored.{isProduct, isSingle, isIdentity, isRotation, isMeasurement, isConditional, isSource};
-ghost use Rattle.arena.specs.Code.Roots.{countsClifford};
+ghost use Rattle.arena.specs.Store.{Header};
+ghost use Rattle.arena.specs.Code.Roots.{weighedAt};
 
 // A word, or 0 past the end.
 fn word_at(words: &[u32], i: usize) -> u32
@@ -113,20 +113,6 @@ pub(crate) fn bad_nodes(header: Header, nodes: &[u32]) -> bool
 
 // ---- operations
 
-pub(crate) fn op_at(header: Header, operations: &[u32], index: u32) -> PbcOp
-    ensures { λ r. ⌜ r ≡ opAt header (now (operations .entry)) index ⌝ }
-{
-    let at = OPERATION_WORDS * (index as usize);
-    PbcOp::decode(
-        header.owner,
-        header.cbits,
-        word_at(operations, at),
-        word_at(operations, at + 1),
-        word_at(operations, at + 2),
-        word_at(operations, at + 3),
-    )
-}
-
 fn is_rotation(first: u32, measurement: u32, target: u32) -> bool
     ensures { λ r. ⌜ r ≡ isRotation first measurement target ⌝ }
 {
@@ -210,36 +196,17 @@ pub(crate) fn bad_operations(header: Header, operations: &[u32]) -> bool
     any_bad_op(header, operations)
 }
 
-// The word of an operation's axis.
-pub(crate) fn axis_word(op: PbcOp) -> u32
-    ensures { λ r. ⌜ r ≡ weighedOf op .word ⌝ }
+// The word of the axis of an operation that is not bad.
+pub(crate) fn axis_word(operations: &[u32], index: u32) -> usize
+    ensures { λ r. ⌜ ((h : Header) → isBadOp h (opAt h (now (operations .entry)) index) ≡ false → r ≡ weighedAt h (now (operations .entry)) index .word) ⌝ }
 {
-    match op {
-        PbcOp::Rotate(axis, _) => axis.as_ref().word,
-        PbcOp::Measure(axis, _, _) => axis.as_ref().word,
-        PbcOp::ConditionalRotate(axis, _, _) => axis.as_ref().word,
-        PbcOp::Malformed => 0,
-    }
+    wide(word_at(operations, OPERATION_WORDS * (index as usize) + 1))
 }
 
-fn is_clifford(kind: AxisKind) -> bool
-    ensures { λ r. ⌜ r ≡ countsClifford kind ⌝ }
+// Whether the weight report counts an operation that is not bad as Clifford: no measurement, and an even angle, 0 too.
+pub(crate) fn counts_as_clifford(operations: &[u32], index: u32) -> bool
+    ensures { λ r. ⌜ ((h : Header) → isBadOp h (opAt h (now (operations .entry)) index) ≡ false → r ≡ weighedAt h (now (operations .entry)) index .clifford) ⌝ }
 {
-    match kind {
-        AxisKind::None => true,
-        AxisKind::Pi8 => false,
-        AxisKind::Clifford => true,
-        AxisKind::Measurement => false,
-    }
-}
-
-// Whether the weight report counts the operation as Clifford: a rotation of angle 0, which has no axis kind, is counted so too.
-pub(crate) fn counts_as_clifford(op: PbcOp) -> bool
-    ensures { λ r. ⌜ r ≡ weighedOf op .clifford ⌝ }
-{
-    let kind = AxisKind::of(op);
-    let AxisKind::None = kind else {
-        return is_clifford(kind);
-    };
-    true
+    let first = word_at(operations, OPERATION_WORDS * (index as usize));
+    !(first % 4 == 1) & (first / 4 % 2 == 0)
 }
