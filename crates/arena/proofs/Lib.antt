@@ -14,6 +14,8 @@ pub mod SparseProducts
 pub mod chains
 pub mod steps
 pub mod StoredWords
+pub mod FormedNodes
+pub mod SoundOperations
 pub mod Examples
 pub mod Pins
 pub mod Theorems

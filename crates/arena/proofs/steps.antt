@@ -11,6 +11,6 @@ pub mod Roots
 pub mod Readers
 pub mod Weights
 pub mod Axes
-pub mod Cells
+pub mod Shown
 pub mod Records
 pub mod Holding

@@ -7,6 +7,7 @@ pub mod Evaluates
 pub mod Means
 pub mod MachineSteps
 pub mod MachineRuns
+pub mod UpToRoot
 pub mod Ends
 pub mod Loops
 pub mod Bounds

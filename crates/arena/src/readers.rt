@@ -40,14 +40,13 @@ fn expand_walk(
         ≡ lettersLeft (expandWalk cells (capOf (length (now (pool .entry))) - 1) (header .qubits) (header .nodes) (now (nodes .entry)) word) (now (letters .entry)) ⌝ }
 {
     let n = header.qubits as usize;
-    let count = header.nodes as usize;
     if cells < n {
         return Expansion::Refused(PbcError::ExpansionLimit);
     }
-    match walk_root(nodes, s, pool, count, cells - n, word as usize) {
+    match walk_root(nodes, s, pool, cells - n, word as usize) {
         Shown::Refused(e) => Expansion::Refused(e),
         Shown::Root(v, left) => {
-            show(letters, pool, n, v.head);
+            show(letters, pool, n, v.head, v.count);
             Expansion::Made(Phase::power((v.phase % 4) as u32), left.work)
         }
     }
@@ -66,8 +65,7 @@ fn hermitian_walk(
     ensures { λ r. ⌜ r ≡ hermitianOf reference
         (hermitianWalk limit (capOf (length (now (pool .entry))) - 1) (header .qubits) (header .nodes) (now (nodes .entry)) (reference .word)) ⌝ }
 {
-    let count = header.nodes as usize;
-    match walk_root(nodes, s, pool, count, limit, reference.word as usize) {
+    match walk_root(nodes, s, pool, limit, reference.word as usize) {
         Shown::Refused(e) => HermitianAxis::Refused(e),
         Shown::Root(v, left) => {
             if v.phase % 2 == 1 {

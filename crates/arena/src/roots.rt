@@ -20,13 +20,14 @@ use crate::scratch::scan_uses;
 use crate::scratch::zero_all;
 ghost use mathlib.Core.Path.{_≡_};
 ghost use mathlib.Core.List.{[], _∷_, _++_};
-ghost use Prim.Native.Nat.{_+_, _-_, _≤_, _<_};
+ghost use Prim.Native.Nat.{ℕ, _+_, _-_, _≤_, _<_};
 ghost use lib.ListN.{length, replicate, drop};
 ghost use Rattle.arena.specs.References.{nodeIn};
 ghost use Rattle.arena.specs.Nodes.{nodeAt};
 ghost use Rattle.arena.specs.Walk.{walkNodes};
 ghost use Rattle.arena.specs.Code.Results.{Says, evaluatedOut, shownOut};
-ghost use Rattle.arena.specs.Code.WalkWords.{Rooted, RootReady, Showing, lettersWritten, CellReady, CellRead, ShowReady};
+ghost use Rattle.arena.specs.Pool.{Lendable, qubitAt, letterAt};
+ghost use Rattle.arena.specs.Code.WalkWords.{Rooted, RootReady, Showing, lettersWritten, letterPut, lettersPut, ShowReady};
 ghost use Rattle.arena.specs.Code.Roots.{Rootable, startOf, Begun, showRoot, RootShown, Releasable, Released};
 ghost use Rattle.arena.specs.Limits.{capOf};
 ghost use Rattle.arena.specs.Expansion.{cleared};
@@ -131,8 +132,8 @@ pub(crate) fn release(s: &mut [u32], pool: &mut [u32], j: usize, v: Value, left:
 
 // ---- one root
 
-// The root w is walked: its use is counted, and it is shown. The scratch and the pool are left as they are then.
-pub(crate) fn walk_root(
+// The root w is walked among the first nodes: its use is counted, and it is shown. The scratch and the pool are left as they are then.
+fn walk_among(
     nodes: &[u32],
     s: &mut [u32],
     pool: &mut [u32],
@@ -153,6 +154,24 @@ pub(crate) fn walk_root(
     }
 }
 
+// The same among the nodes up to the root's own. It reaches no later one, so the answer is that of a walk among them all, however many there are.
+pub(crate) fn walk_root(
+    nodes: &[u32],
+    s: &mut [u32],
+    pool: &mut [u32],
+    limit: usize,
+    w: usize,
+) -> Shown
+    requires { ⌜ RootReady (now nodes) (now s) (nodeIn w + 1) w ⌝ }
+    ensures { λ r. ⌜ ((g : RootReady (now (nodes .entry)) (now (s .entry)) (nodeIn w + 1) w) (count : ℕ) → nodeIn w < count
+        → Says (walkNodes limit (capOf (length (now (pool .entry))) - 1) (nodeAt (g .n) (now (nodes .entry))) count (w ∷ [])) (shownOut r)
+        (Showing (now (pool .exit)))) ⌝ }
+{
+    let count = w / 4 + 1;
+    let part = 4 * count;
+    walk_among(nodes, &mut s[..part], pool, count, limit, w)
+}
+
 // ---- the end
 
 // The first scratch words and every counted record are zero.
@@ -166,43 +185,47 @@ pub(crate) fn wipe(s: &mut [u32], pool: &mut [u32], used: usize)
 
 // ---- letters
 
-// A letter, and where the chain goes on.
-pub struct Cell {
-    pub letter: u8,
-    pub next: usize,
-}
-
-// The letter of qubit q, of a chain from a on whose qubits are q or more; and where the chain goes on.
-fn cell_at(pool: &[u32], a: usize, q: usize) -> Cell
-    requires { ⌜ CellReady (now pool) a q ⌝ }
-    ensures { λ r. ⌜ ((g : CellReady (now (pool .entry)) a q) → CellRead g (r .letter) (r .next)) ⌝ }
+pub(crate) fn zero_bytes(bytes: &mut [u8])
+    ensures { λ _. ⌜ now (bytes .exit) ≡ replicate (length (now (bytes .entry))) 0 ⌝ }
 {
-    if a == 0 {
-        return Cell { letter: 0, next: 0 };
-    }
-    let k = wide(qubit_of(pool, a));
-    if k != q {
-        return Cell { letter: 0, next: a };
-    }
-    let l = letter_of(pool, a);
-    let next = next_of(pool, a);
-    Cell {
-        letter: l as u8,
-        next,
+    let mut i = 0;
+    while i < bytes.len() {
+        bytes[i] = 0;
+        i += 1;
     }
 }
 
-// The letters of the first n qubits are written.
-pub(crate) fn show(letters: &mut [u8], pool: &[u32], n: usize, head: usize)
-    requires { ⌜ ShowReady (now pool) head × (n ≤ length (now letters)) ⌝ }
-    ensures { λ _. ⌜ ((g : ShowReady (now (pool .entry)) head) → now (letters .exit) ≡ lettersWritten n (g .fs) (now (letters .entry))) ⌝ }
+// The letter of the record a is written, if its qubit is among the first n.
+fn put_letter(letters: &mut [u8], pool: &[u32], n: usize, a: usize)
+    requires { ⌜ Lendable (now pool) a × (letterAt (now pool) a ≤ 3) × (n ≤ length (now letters)) ⌝ }
+    ensures { λ _. ⌜ now (letters .exit) ≡ letterPut n (qubitAt (now (pool .entry)) a) (letterAt (now (pool .entry)) a) (now (letters .entry)) ⌝ }
+{
+    let q = wide(qubit_of(pool, a));
+    if n <= q {
+        return;
+    }
+    letters[q] = letter_of(pool, a) as u8;
+}
+
+// The letters of a chain of so many records.
+fn put_letters(letters: &mut [u8], pool: &[u32], n: usize, head: usize, count: usize)
+    requires { ⌜ ShowReady (now pool) head count × (n ≤ length (now letters)) ⌝ }
+    ensures { λ _. ⌜ ((g : ShowReady (now (pool .entry)) head count) → now (letters .exit) ≡ lettersPut n (g .fs) (now (letters .entry))) ⌝ }
 {
     let mut a = head;
-    let mut q = 0;
-    while q < n {
-        let c = cell_at(pool, a, q);
-        letters[q] = c.letter;
-        a = c.next;
-        q += 1;
+    let mut left = count;
+    while left != 0 {
+        put_letter(letters, pool, n, a);
+        a = next_of(pool, a);
+        left -= 1;
     }
+}
+
+// The letters of the first n qubits are written: I in each place, then those of the chain.
+pub(crate) fn show(letters: &mut [u8], pool: &[u32], n: usize, head: usize, count: usize)
+    requires { ⌜ ShowReady (now pool) head count × (n ≤ length (now letters)) ⌝ }
+    ensures { λ _. ⌜ ((g : ShowReady (now (pool .entry)) head count) → now (letters .exit) ≡ lettersWritten n (g .fs) (now (letters .entry))) ⌝ }
+{
+    zero_bytes(&mut letters[..n]);
+    put_letters(letters, pool, n, head, count);
 }

@@ -1,17 +1,21 @@
 //! The stored words of a circuit, read entry by entry: whether a used one is malformed, and the axis of an operation.
 
 use crate::header::Header;
+use crate::limits::HAND_MARK;
+use crate::limits::MAX_GATES;
 use crate::limits::NODE_WORDS;
 use crate::limits::OPERATION_WORDS;
-use crate::node::PauliNode;
-use crate::op::AxisKind;
-use crate::op::PbcOp;
-use crate::op::Source;
+use crate::pool::wide;
 ghost use mathlib.Core.Path.{_≡_};
-ghost use lib.ListN.{getD};
-ghost use Rattle.arena.specs.Nodes.{nodeAt};
-ghost use Rattle.arena.specs.Expansion.{isMalformed, anyMalformed, badNodes, opAt, gateWord, isBadOp, isNoSource, isBadAt, anyBadOp, badOperations, weighedOf};
-ghost use Rattle.arena.specs.Code.Roots.{countsClifford};
+ghost use mathlib.Core.Bool.{true, false, _||_};
+ghost use Prim.Native.Nat.{ℕ, _+_, _*_, _≤_, _<_};
+ghost use lib.ListN.{length, getD};
+ghost use Rattle.arena.specs.Nodes.{decode, nodeAt};
+ghost use Rattle.arena.specs.Expansion.{isMalformed, anyMalformed, badNodes, opAt, isBadOp, isNoSource, isBadAt, anyBadOp, badOperations};
+ghost use Rattle.arena.specs.Operations.{decodeOp, sourceOf};
+ghost use Rattle.arena.specs.Code.Stored.{isProduct, isSingle, isIdentity, isRotation, isMeasurement, isConditional, isSource};
+ghost use Rattle.arena.specs.Store.{Header};
+ghost use Rattle.arena.specs.Code.Roots.{weighedAt};
 
 // A word, or 0 past the end.
 fn word_at(words: &[u32], i: usize) -> u32
@@ -20,37 +24,80 @@ fn word_at(words: &[u32], i: usize) -> u32
     if i < words.len() { words[i] } else { 0 }
 }
 
-// ---- nodes
+// ---- nodes: tests of their two words with no branch, so that a loop takes several nodes at a time
 
-fn node_at(qubits: u32, nodes: &[u32], index: u32) -> PauliNode
-    ensures { λ r. ⌜ r ≡ nodeAt qubits (now (nodes .entry)) index ⌝ }
+// A product of nodes older than i.
+fn is_product(i: u32, first: u32, second: u32) -> bool
+    ensures { λ r. ⌜ r ≡ isProduct i first second ⌝ }
 {
-    let at = NODE_WORDS * (index as usize);
-    PauliNode::decode(qubits, index, word_at(nodes, at), word_at(nodes, at + 1))
+    (first % 4 == 2) & (first / 4 / 4 < i) & (second / 4 < i)
 }
 
-fn is_malformed(node: PauliNode) -> bool
-    ensures { λ r. ⌜ r ≡ isMalformed node ⌝ }
+fn is_single(qubits: u32, first: u32, second: u32) -> bool
+    ensures { λ r. ⌜ r ≡ isSingle qubits first second ⌝ }
 {
-    match node {
-        PauliNode::Identity => false,
-        PauliNode::Single(_, _) => false,
-        PauliNode::Product(_, _) => false,
-        PauliNode::Malformed => true,
-    }
+    (first % 4 == 1) & (1 <= first / 4) & (first / 4 <= 3) & (second < qubits)
+}
+
+fn is_identity(first: u32, second: u32) -> bool
+    ensures { λ r. ⌜ r ≡ isIdentity first second ⌝ }
+{
+    (first % 4 == 0) & (first / 4 == 0) & (second == 0)
+}
+
+fn is_malformed(qubits: u32, i: u32, first: u32, second: u32) -> bool
+    ensures { λ r. ⌜ r ≡ isMalformed (decode qubits i first second) ⌝ }
+{
+    let product = is_product(i, first, second);
+    let single = is_single(qubits, first, second);
+    !(product | single | is_identity(first, second))
 }
 
 // Whether one of the first nodes is malformed.
 fn any_malformed(qubits: u32, nodes: &[u32], count: u32) -> bool
+    requires { ⌜ 2 * count ≤ length (now nodes) ⌝ }
     ensures { λ r. ⌜ r ≡ anyMalformed (nodeAt qubits (now (nodes .entry))) count ⌝ }
 {
     let mut any = false;
+    let mut at = 0;
     let mut i = 0;
     while i < count {
-        any = any | is_malformed(node_at(qubits, nodes, i));
+        any = any | is_malformed(qubits, i, nodes[at], nodes[at + 1]);
+        at += NODE_WORDS;
         i += 1;
     }
     any
+}
+
+// Whether all nodes from one on are products: then those before it decide.
+fn all_products(nodes: &[u32], from: u32, count: u32) -> bool
+    requires { ⌜ (from ≤ count) × (2 * count ≤ length (now nodes)) ⌝ }
+    ensures { λ r. ⌜ ((n : ℕ) → r ≡ true → anyMalformed (nodeAt n (now (nodes .entry))) from ≡ anyMalformed (nodeAt n (now (nodes .entry))) count) ⌝ }
+{
+    let mut all = true;
+    let mut at = NODE_WORDS * (from as usize);
+    let mut i = from;
+    while i < count {
+        all = all & is_product(i, nodes[at], nodes[at + 1]);
+        at += NODE_WORDS;
+        i += 1;
+    }
+    all
+}
+
+// How many of the first nodes decide. In a circuit that was converted those are the ones of `Header::new`, since all later ones are products.
+fn deciding(qubits: u32, nodes: &[u32], count: u32) -> u32
+    requires { ⌜ (qubits ≤ 256) × (2 * count ≤ length (now nodes)) ⌝ }
+    ensures { λ r. ⌜ (r ≤ count) × (anyMalformed (nodeAt qubits (now (nodes .entry))) r ≡ anyMalformed (nodeAt qubits (now (nodes .entry))) count) ⌝ }
+{
+    let start = 1 + 2 * qubits;
+    if count < start {
+        return count;
+    }
+    if all_products(nodes, start, count) {
+        return start;
+    }
+    count
 }
 
 // Whether the header or a used node stands in the way of a walk. O(nodes).
@@ -60,66 +107,74 @@ pub(crate) fn bad_nodes(header: Header, nodes: &[u32]) -> bool
     if header.breaks_limit() | header.exceeds_nodes(nodes.len()) {
         return true;
     }
-    any_malformed(header.qubits, nodes, header.nodes)
+    let count = deciding(header.qubits, nodes, header.nodes);
+    any_malformed(header.qubits, nodes, count)
 }
 
 // ---- operations
 
-pub(crate) fn op_at(header: Header, operations: &[u32], index: u32) -> PbcOp
-    ensures { λ r. ⌜ r ≡ opAt header (now (operations .entry)) index ⌝ }
+fn is_rotation(first: u32, measurement: u32, target: u32) -> bool
+    ensures { λ r. ⌜ r ≡ isRotation first measurement target ⌝ }
 {
-    let at = OPERATION_WORDS * (index as usize);
-    PbcOp::decode(
-        header.owner,
-        header.cbits,
-        word_at(operations, at),
-        word_at(operations, at + 1),
-        word_at(operations, at + 2),
-        word_at(operations, at + 3),
-    )
+    (first % 4 == 0) & (first / 4 < 8) & (measurement == 0) & (target == 0)
 }
 
-// An operation that is malformed, or names an unused node or measurement.
-fn is_bad_op(header: Header, op: PbcOp) -> bool
-    ensures { λ r. ⌜ r ≡ isBadOp header op ⌝ }
+fn is_measurement(header: Header, first: u32, measurement: u32, target: u32) -> bool
+    ensures { λ r. ⌜ r ≡ isMeasurement header first measurement target ⌝ }
 {
-    match op {
-        PbcOp::Rotate(axis, _) => header.is_foreign(axis.as_ref()),
-        PbcOp::Measure(axis, outcome, _) => {
-            header.is_foreign(axis.as_ref()) | header.is_unknown(outcome)
-        }
-        PbcOp::ConditionalRotate(axis, _, outcome) => {
-            header.is_foreign(axis.as_ref()) | header.is_unknown(outcome)
-        }
-        PbcOp::Malformed => true,
-    }
+    (first % 4 == 1)
+        & (first / 4 == 0)
+        & (target <= header.cbits)
+        & !(header.measurements <= measurement)
 }
 
-// The last word of an operation.
-fn gate_word(operations: &[u32], index: u32) -> u32
-    ensures { λ r. ⌜ r ≡ gateWord (now (operations .entry)) index ⌝ }
+fn is_conditional(header: Header, first: u32, measurement: u32, target: u32) -> bool
+    ensures { λ r. ⌜ r ≡ isConditional header first measurement target ⌝ }
 {
-    word_at(operations, OPERATION_WORDS * (index as usize) + 4)
+    (first % 4 == 2) & (first / 4 < 8) & (target == 0) & !(header.measurements <= measurement)
 }
 
-fn is_no_source(source: Source) -> bool
-    ensures { λ r. ⌜ r ≡ isNoSource source ⌝ }
+// An index of a gate record, or the mark of an operation that was added by hand.
+fn is_source(gate: u32) -> bool
+    ensures { λ r. ⌜ r ≡ isSource gate ⌝ }
 {
-    match source {
-        Source::Gate(_) => false,
-        Source::Hand => false,
-        Source::Malformed => true,
-    }
+    (gate < MAX_GATES) | (gate == HAND_MARK)
+}
+
+// The words of an operation that is malformed, names an unused node or measurement, or came from nowhere.
+fn is_bad_op(
+    header: Header,
+    first: u32,
+    axis: u32,
+    measurement: u32,
+    target: u32,
+    gate: u32,
+) -> bool
+    ensures { λ r. ⌜ r ≡ (isBadOp header (decodeOp (header .owner) (header .cbits) first axis measurement target) || isNoSource (sourceOf gate)) ⌝ }
+{
+    let rotation = is_rotation(first, measurement, target);
+    let measures = is_measurement(header, first, measurement, target);
+    let formed = rotation | measures | is_conditional(header, first, measurement, target);
+    !formed | (header.nodes <= axis / 4) | !is_source(gate)
 }
 
 fn is_bad_at(header: Header, operations: &[u32], index: u32) -> bool
+    requires { ⌜ 5 * index + 4 < length (now operations) ⌝ }
     ensures { λ r. ⌜ r ≡ isBadAt header (now (operations .entry)) index ⌝ }
 {
-    let bad = is_bad_op(header, op_at(header, operations, index));
-    bad | is_no_source(Source::of_word(gate_word(operations, index)))
+    let at = OPERATION_WORDS * (index as usize);
+    is_bad_op(
+        header,
+        operations[at],
+        operations[at + 1],
+        operations[at + 2],
+        operations[at + 3],
+        operations[at + 4],
+    )
 }
 
 fn any_bad_op(header: Header, operations: &[u32]) -> bool
+    requires { ⌜ 5 * header .operations ≤ length (now operations) ⌝ }
     ensures { λ r. ⌜ r ≡ anyBadOp header (now (operations .entry)) (header .operations) ⌝ }
 {
     let mut any = false;
@@ -141,36 +196,17 @@ pub(crate) fn bad_operations(header: Header, operations: &[u32]) -> bool
     any_bad_op(header, operations)
 }
 
-// The word of an operation's axis.
-pub(crate) fn axis_word(op: PbcOp) -> u32
-    ensures { λ r. ⌜ r ≡ weighedOf op .word ⌝ }
+// The word of the axis of an operation that is not bad.
+pub(crate) fn axis_word(operations: &[u32], index: u32) -> usize
+    ensures { λ r. ⌜ ((h : Header) → isBadOp h (opAt h (now (operations .entry)) index) ≡ false → r ≡ weighedAt h (now (operations .entry)) index .word) ⌝ }
 {
-    match op {
-        PbcOp::Rotate(axis, _) => axis.as_ref().word,
-        PbcOp::Measure(axis, _, _) => axis.as_ref().word,
-        PbcOp::ConditionalRotate(axis, _, _) => axis.as_ref().word,
-        PbcOp::Malformed => 0,
-    }
+    wide(word_at(operations, OPERATION_WORDS * (index as usize) + 1))
 }
 
-fn is_clifford(kind: AxisKind) -> bool
-    ensures { λ r. ⌜ r ≡ countsClifford kind ⌝ }
+// Whether the weight report counts an operation that is not bad as Clifford: no measurement, and an even angle, 0 too.
+pub(crate) fn counts_as_clifford(operations: &[u32], index: u32) -> bool
+    ensures { λ r. ⌜ ((h : Header) → isBadOp h (opAt h (now (operations .entry)) index) ≡ false → r ≡ weighedAt h (now (operations .entry)) index .clifford) ⌝ }
 {
-    match kind {
-        AxisKind::None => true,
-        AxisKind::Pi8 => false,
-        AxisKind::Clifford => true,
-        AxisKind::Measurement => false,
-    }
-}
-
-// Whether the weight report counts the operation as Clifford: a rotation of angle 0, which has no axis kind, is counted so too.
-pub(crate) fn counts_as_clifford(op: PbcOp) -> bool
-    ensures { λ r. ⌜ r ≡ weighedOf op .clifford ⌝ }
-{
-    let kind = AxisKind::of(op);
-    let AxisKind::None = kind else {
-        return is_clifford(kind);
-    };
-    true
+    let first = word_at(operations, OPERATION_WORDS * (index as usize));
+    !(first % 4 == 1) & (first / 4 % 2 == 0)
 }

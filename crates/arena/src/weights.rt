@@ -17,18 +17,18 @@ use crate::scratch::add_use;
 use crate::scratch::zero_all;
 use crate::stored::axis_word;
 use crate::stored::counts_as_clifford;
-use crate::stored::op_at;
 ghost use mathlib.Core.Path.{_≡_};
-ghost use mathlib.Core.Bool.{cond};
+ghost use mathlib.Core.Bool.{false, cond};
 ghost use Prim.Native.Nat.{_-_, _≤_, max};
 ghost use lib.ListN.{length};
 ghost use Rattle.arena.specs.References.{nodeIn};
 ghost use Rattle.arena.specs.Nodes.{nodeAt};
 ghost use Rattle.arena.specs.Readers.{reportWalk};
-ghost use Rattle.arena.specs.Expansion.{maxWeightsOf, reportStep};
+ghost use Rattle.arena.specs.Store.{Header};
+ghost use Rattle.arena.specs.Expansion.{opAt, isBadOp, maxWeightsOf, reportStep};
 ghost use Rattle.arena.specs.Code.Results.{Says, axisWeightOut};
 ghost use Rattle.arena.specs.Code.WalkWords.{Rooted};
-ghost use Rattle.arena.specs.Code.Roots.{Fit, weighedAt, axesOf, AxesNamed, Countable, AxesCounted, weighRoot, RootWeighed, weighRoots, weightsOf, Weighing};
+ghost use Rattle.arena.specs.Code.Roots.{Fit, weighedAt, axesOf, OpsSound, Countable, AxesCounted, weighRoot, RootWeighed, weighRoots, weightsOf, Weighing};
 ghost use Rattle.arena.specs.Limits.{capOf};
 
 // One use for the axis of each operation.
@@ -39,8 +39,7 @@ pub(crate) fn count_axes(header: Header, operations: &[u32], s: &mut [u32])
     let total = header.operations;
     let mut i = 0;
     while i < total {
-        let op = op_at(header, operations, i);
-        let w = axis_word(op) as usize;
+        let w = axis_word(operations, i);
         add_use(s, w / 4);
         i += 1;
     }
@@ -57,20 +56,20 @@ fn raised(counts: bool, weight: usize, most: usize) -> usize
     }
 }
 
-// The axis of an operation: its word, and whether it counts as Clifford.
+// The axis of an operation that is not bad: its word, and whether it counts as Clifford.
 pub struct Axis {
     pub word: usize,
     pub clifford: bool,
 }
 
-fn axis_at(header: Header, operations: &[u32], i: u32) -> Axis
-    ensures { λ r. ⌜ r .word ≡ weighedAt header (now (operations .entry)) i .word ⌝ }
-    ensures { λ r. ⌜ r .clifford ≡ weighedAt header (now (operations .entry)) i .clifford ⌝ }
+fn axis_at(operations: &[u32], i: u32) -> Axis
+    ensures { λ r. ⌜ ((h : Header) → isBadOp h (opAt h (now (operations .entry)) i) ≡ false → r .word ≡ weighedAt h (now (operations .entry)) i .word) ⌝ }
+    ensures { λ r. ⌜ ((h : Header) → isBadOp h (opAt h (now (operations .entry)) i) ≡ false → r .clifford ≡ weighedAt h (now (operations .entry)) i .clifford) ⌝ }
 {
-    let op = op_at(header, operations, i);
+    let word = axis_word(operations, i);
     Axis {
-        word: axis_word(op) as usize,
-        clifford: counts_as_clifford(op),
+        word,
+        clifford: counts_as_clifford(operations, i),
     }
 }
 
@@ -82,19 +81,20 @@ pub enum AxisWeight {
 
 // The axis w is shown, weighed and released.
 fn weigh_root(
+    header: Header,
     nodes: &[u32],
     s: &mut [u32],
     pool: &mut [u32],
-    count: usize,
     limit: usize,
     w: usize,
     left: Ledger,
 ) -> AxisWeight
-    requires { ⌜ Rooted (now nodes) (now s) (now pool) count limit (nodeIn w) left ⌝ }
-    ensures { λ r. ⌜ ((g : Rooted (now (nodes .entry)) (now (s .entry)) (now (pool .entry)) count limit (nodeIn w) left)
-        → Says (weighRoot limit (g .at .room) (nodeAt (g .at .n) (now (nodes .entry))) count w (g .at .s)) (axisWeightOut r)
+    requires { ⌜ Rooted (now nodes) (now s) (now pool) (header .nodes) limit (nodeIn w) left ⌝ }
+    ensures { λ r. ⌜ ((g : Rooted (now (nodes .entry)) (now (s .entry)) (now (pool .entry)) (header .nodes) limit (nodeIn w) left)
+        → Says (weighRoot limit (g .at .room) (nodeAt (g .at .n) (now (nodes .entry))) (header .nodes) w (g .at .s)) (axisWeightOut r)
         (RootWeighed w g (now (s .exit)) (now (pool .exit)))) ⌝ }
 {
+    let count = header.nodes as usize;
     match show_root(nodes, s, pool, count, limit, w, left) {
         Shown::Refused(e) => AxisWeight::Refused(e),
         Shown::Root(v, rest) => {
@@ -119,15 +119,14 @@ fn weigh_axes(
         → r ≡ maxWeightsOf (weighRoots limit (g .room) (nodeAt (header .qubits) (now (nodes .entry))) (header .nodes)
         (axesOf header (now (operations .entry))) (weightsOf 0 0) (g .s))) ⌝ }
 {
-    let count = header.nodes as usize;
     let total = header.operations;
     let mut left = left0;
     let mut non_clifford = 0;
     let mut clifford = 0;
     let mut i = 0;
     while i < total {
-        let x = axis_at(header, operations, i);
-        match weigh_root(nodes, s, pool, count, limit, x.word, left) {
+        let x = axis_at(operations, i);
+        match weigh_root(header, nodes, s, pool, limit, x.word, left) {
             AxisWeight::Refused(e) => return MaxAxisWeights::Refused(e),
             AxisWeight::Weighed(k, rest) => {
                 non_clifford = raised(!x.clifford, k, non_clifford);
@@ -149,7 +148,7 @@ fn report_walk(
     pool: &mut [u32],
     limit: usize,
 ) -> MaxAxisWeights
-    requires { ⌜ Fit header (now nodes) (now s) × AxesNamed header (now operations) × (header .operations ≤ 65536) ⌝ }
+    requires { ⌜ Fit header (now nodes) (now s) × OpsSound header (now operations) × (header .operations ≤ 65536) ⌝ }
     ensures { λ r. ⌜ r ≡ maxWeightsOf
         (reportWalk limit (capOf (length (now (pool .entry))) - 1) (header .qubits) (header .nodes) (now (nodes .entry)) (axesOf header (now (operations .entry)))) ⌝ }
 {

@@ -22,7 +22,7 @@ use Rattle.arena.specs.Limits.{capOf}
 use Rattle.arena.specs.Expansion.{AxesMade, expandedAxesOf, opAt, rowBytes, axesBytes, axesSize, axesCheck, rowsMade}
 use Rattle.arena.specs.Code.Results.{Ledger, Value, Says}
 use Rattle.arena.specs.Code.WalkWords.{Rooted, ShowReady, bytes, lettersWritten}
-use Rattle.arena.specs.Code.Roots.{startOf, Begun, showRoot, RootShown, Released, Fit, weighedAt, axesOf, AxesNamed, AxesCounted, Resting, Weighing, cells, laidAt, RootWritten, RowsShown}
+use Rattle.arena.specs.Code.Roots.{startOf, Begun, showRoot, RootShown, Released, Fit, weighedAt, axesOf, OpsSound, AxesCounted, Resting, Weighing, cells, laidAt, RootWritten, RowsShown}
 use Rattle.arena.proofs.Accepted.{passed-before, test-passed, left-false, right-false}
 use Rattle.arena.proofs.Overlay.{overlay-sets, overlay-part, overlay-rest}
 use Rattle.arena.proofs.walk.Outcomes.{bind-assoc}
@@ -85,8 +85,8 @@ module _ (w : ℕ) {words l p : List ℕ} {count limit : ℕ} {left : Ledger} (g
     abbrev shown : Sparse
     shown = turned (phaseIn w) (seen w g o z .0 .value (nodeIn w))
 
-    abbrev pub to-fill : ShowReady p₁ (v .head)
-    to-fill = record { who = seen w g o z .2 .who; tag = nodeIn w + 2; fs = seen w g o z .0 .value (nodeIn w) .factors; chain = seen w g o z .2 .value .chain }
+    abbrev pub to-fill : ShowReady p₁ (v .head) (v .count)
+    to-fill = record { who = seen w g o z .2 .who; tag = nodeIn w + 2; fs = seen w g o z .0 .value (nodeIn w) .factors; chain = seen w g o z .2 .value .chain; counted = seen w g o z .2 .value .count-is }
 
     phase-is : v .phase % 4 ≡ phaseNumber (shown .phase)
     phase-is = omega (arith, seen w g o z .2 .value .phase-is, phaseNumber-small (shown .phase))
@@ -216,9 +216,9 @@ module _ {h : Header} {words ops was pool : List ℕ} {limit : ℕ} {left₀ : L
 
 -- ---- the whole walk
 
-module _ {h : Header} {words l : List ℕ} (ops : List ℕ) (f : Fit h words l) (named : AxesNamed h ops) (few : h .operations ≤ 65536) {l₁ : List ℕ} (e₁ : l₁ ≡ replicate (length l) 0)
+module _ {h : Header} {words l : List ℕ} (ops : List ℕ) (f : Fit h words l) (sound : OpsSound h ops) (few : h .operations ≤ 65536) {l₁ : List ℕ} (e₁ : l₁ ≡ replicate (length l) 0)
     {l₂ : List ℕ} (c : AxesCounted h ops l₂) (len : length l₂ ≡ length l₁) (limit : ℕ) (p : List ℕ) {l₃ p₁ : List ℕ} {y : Out Ledger}
-    (b : Says (startOf limit (nodeAt (h .qubits) words) (h .nodes) (wordsOf (axesOf h ops))) y (Begun (axes-rootable ops f named few e₁ c len) limit (capOf (length p) - 1) l₃ p₁)) where
+    (b : Says (startOf limit (nodeAt (h .qubits) words) (h .nodes) (wordsOf (axesOf h ops))) y (Begun (axes-rootable ops f sound few e₁ c len) limit (capOf (length p) - 1) l₃ p₁)) where
   abbrev showing : State → Out Walked
   showing s = showRoots limit (capOf (length p) - 1) (nodeAt (h .qubits) words) (h .nodes) (wordsOf (axesOf h ops)) s
 
@@ -227,9 +227,9 @@ module _ {h : Header} {words l : List ℕ} (ops : List ℕ) (f : Fit h words l) 
   axes-refused q = refuses-on b showing q
 
   pub axes-shown : {left : Ledger} (z : y ≡ fine left) {B : Type 0} {o : Out B} {S : Walked → B → Type 0}
-      → Says (showRoots limit (capOf (length p) - 1) (nodeAt (h .qubits) words) (h .nodes) (wordsOf (axesOf h ops)) (begun-at ops f named few e₁ c len limit p b z .0)) o S
+      → Says (showRoots limit (capOf (length p) - 1) (nodeAt (h .qubits) words) (h .nodes) (wordsOf (axesOf h ops)) (begun-at ops f sound few e₁ c len limit p b z .0)) o S
       → Says (walkNodes limit (capOf (length p) - 1) (nodeAt (h .qubits) words) (h .nodes) (wordsOf (axesOf h ops))) o S
-  axes-shown z o = says-as o (ap (λ q. bind q showing) (begun-at ops f named few e₁ c len limit p b z .1))
+  axes-shown z o = says-as o (ap (λ q. bind q showing) (begun-at ops f sound few e₁ c len limit p b z .1))
 
 -- ---- what is answered
 
@@ -257,7 +257,7 @@ module _ (limit room n count : ℕ) (words ws : List ℕ) where
 
 -- ---- what passed the checks
 
-pub fits-axes : (h : Header) (words ops : List ℕ) (rows scratch : ℕ) → axesCheck h words ops rows scratch ≡ Fine → (Walkable h words scratch × AxesNamed h ops) × (axesSize h ≤ rows)
+pub fits-axes : (h : Header) (words ops : List ℕ) (rows scratch : ℕ) → axesCheck h words ops rows scratch ≡ Fine → (Walkable h words scratch × OpsSound h ops) × (axesSize h ≤ rows)
 unfolding axesCheck
 fits-axes h words ops rows scratch e =
     let t = test-passed _ _ _ e in

@@ -24,6 +24,7 @@ use Rattle.arena.specs.Code.WalkWords.{RootReady, Showing, ShowReady, by
 use Rattle.arena.specs.Expansion.{expansionOf, ExpansionMade, isMalformed, anyMalformed, badNodes, lettersLeft, scratchLeft, expandCheck, hermitianCheck, cleared}
 use Rattle.arena.specs.Code.Roots.{Fit}
 use Rattle.arena.proofs.Accepted.{passed-before, test-passed, left-false, right-false, Sound, sound, own}
+use Rattle.arena.proofs.walk.UpToRoot.{walk-upto}
 use Rattle.arena.proofs.walk.Readers.{spread-length}
 use Rattle.arena.proofs.steps.Saying.{said-fine, said-refused}
 use Rattle.arena.specs.Limits.{capOf}
@@ -117,16 +118,33 @@ zero-front l x k h e = ap (λ (y : List ℕ). y ++ drop k l) (e ∙ ap (λ (m : 
 
 -- ---- what is read
 
-abbrev pub ready-of : {h : Header} {words l : List ℕ} (w : ℕ) → Fit h words l → nodeIn w < h .nodes → RootReady words l (h .nodes) w
+abbrev pub ready-of : {h : Header} {words l : List ℕ} (w : ℕ) → Fit h words l → nodeIn w < h .nodes → RootReady words l (nodeIn w + 1) w
 ready-of {h} w f named = record {
   n = h .qubits;
-  named = named;
-  long = f .long;
-  well = f .well;
+  named = omega arith;
+  long = omega (arith, f .long);
+  well = λ i l. f .well i (omega arith);
   qubits-few = f .qubits-few;
-  nodes-long = f .nodes-long;
-  nodes-few = f .nodes-few;
+  nodes-long = omega (arith, f .nodes-long);
+  nodes-few = omega (arith, f .nodes-few);
 }
+
+-- a part of the scratch serves as well
+abbrev pub ready-part : {words l : List ℕ} {count w k : ℕ} → RootReady words l count w → k ≡ 4 * count → RootReady words (take k l) count w
+ready-part {l = l} {k = k} g e = record {
+  n = g .n;
+  named = g .named;
+  long = omega (arith, part-long l k (omega (arith, g .long)));
+  well = g .well;
+  qubits-few = g .qubits-few;
+  nodes-long = g .nodes-long;
+  nodes-few = g .nodes-few;
+}
+
+-- and the walk up to the root says what the whole one does
+pub whole-walk : (limit room n : ℕ) (words : List ℕ) (w count : ℕ) {p : List ℕ} {y : Out (Value × Ledger)} → nodeIn w < count
+    → Says (walkNodes limit room (nodeAt n words) (nodeIn w + 1) (w ∷ [])) y (Showing p) → Says (walkNodes limit room (nodeAt n words) count (w ∷ [])) y (Showing p)
+whole-walk limit room n words w count {p} {y} named = subst (λ (o : Out Walked). Says o y (Showing p)) (walk-upto limit room n words w count named)
 
 abbrev expandOf : ℕ → Bool → Out Walked → Out Expanded
 expandOf n b x = cond b (bind (bind x (λ r. fine (answerOf r))) (λ a. fine (record { row = dense n (firstOf (a .shown)); work = a .work }))) (refused ExpansionLimit)
@@ -182,8 +200,8 @@ module _ (n count : ℕ) (words : List ℕ) (w room : ℕ) where
       abbrev pub x : Sparse
       x = seen .2 .x
 
-      abbrev pub to-show : ShowReady p (v .head)
-      to-show = record { who = seen .2 .who; tag = seen .2 .tag; fs = seen .2 .x .factors; chain = seen .2 .value .chain }
+      abbrev pub to-show : ShowReady p (v .head) (v .count)
+      to-show = record { who = seen .2 .who; tag = seen .2 .tag; fs = seen .2 .x .factors; chain = seen .2 .value .chain; counted = seen .2 .value .count-is }
 
       first-is : firstOf (seen .0 .shown) ≡ x
       first-is = ap firstOf (seen .2 .shown-is)

@@ -21,7 +21,7 @@ use Rattle.arena.specs.Code.Results.{Ledger, Value, Says}
 use Rattle.arena.specs.Pool.{Who}
 use Rattle.arena.specs.Code.WalkWords.{Inv, none, edge, usesAt, withUse, valueAt, Uses, Rep, Rooted}
 use Rattle.arena.specs.Expansion.{maxWeightsOf, WeightsMade, WeightsRefused, opAt, isBadOp, anyBadOp, badNodes, badOperations, weighedOf, axesTo, reportCheck}
-use Rattle.arena.specs.Code.Roots.{Rootable, tallyOf, startOf, Begun, showRoot, RootShown, Releasable, Released, Fit, weighedAt, axesOf, AxesNamed, Countable, AxesCounted, RootWeight, weightOf, weighRoot, RootWeighed, weighRoots, weightsOf, Resting, Weighing}
+use Rattle.arena.specs.Code.Roots.{Rootable, tallyOf, startOf, Begun, showRoot, RootShown, Releasable, Released, Fit, weighedAt, axesOf, OpsSound, Countable, AxesCounted, RootWeight, weightOf, weighRoot, RootWeighed, weighRoots, weightsOf, Resting, Weighing}
 use Rattle.arena.proofs.Readable.{axis-named, each-good}
 use Rattle.arena.proofs.walk.Outcomes.{bind-assoc}
 use Rattle.arena.proofs.DecodedNodes.{node-fits}
@@ -129,7 +129,7 @@ module _ {h : Header} {ops was : List ℕ} (g : Countable h ops was) where
 
   module _ {l : List ℕ} {i w : ℕ} (s : CountAt h ops was l i) (lt : i < h .operations) (w-is : w ≡ weighedAt h ops i .word) where
     named : nodeIn w < h .nodes
-    named = rw w-is (g .named i lt)
+    named = rw w-is (axis-named h (opAt h ops i) (g .sound i lt))
 
     pub count-fits : (4 * nodeIn w + 1 < length l) × (usesAt l (nodeIn w) < 18446744073709551615)
     count-fits = (
@@ -210,7 +210,7 @@ module _ {h : Header} {words ops was pool : List ℕ} {limit : ℕ} {left₀ : L
     axes-are = ap wordsOf (rest-more h ops i lt) ∙ ap (λ (v : ℕ). v ∷ wordsOf (restAxes h ops (i + 1))) (sym w-is)
 
     pub axis-low : nodeIn w < h .nodes
-    axis-low = rw w-is (g .named i lt)
+    axis-low = rw w-is (axis-named h (opAt h ops i) (g .sound i lt))
 
     pub axis-inv : Inv limit (g .room) (h .qubits) (h .nodes) (nodeAt (h .qubits) words) (a .total) (rootUses (w ∷ wordsOf (restAxes h ops (i + 1)))) none 0 s
     axis-inv = subst (λ (ws : List ℕ). Inv limit (g .room) (h .qubits) (h .nodes) (nodeAt (h .qubits) words) (a .total) (rootUses ws) none 0 s) axes-are (a .inv)
@@ -307,12 +307,12 @@ module _ {h : Header} {words ops was pool : List ℕ} {limit : ℕ} {left₀ : L
 
 -- ---- the whole walk
 
-module _ {h : Header} {words l : List ℕ} (ops : List ℕ) (f : Fit h words l) (named : AxesNamed h ops) (few : h .operations ≤ 65536) {l₁ : List ℕ} (e₁ : l₁ ≡ replicate (length l) 0) where
+module _ {h : Header} {words l : List ℕ} (ops : List ℕ) (f : Fit h words l) (sound : OpsSound h ops) (few : h .operations ≤ 65536) {l₁ : List ℕ} (e₁ : l₁ ≡ replicate (length l) 0) where
   pub blank-long : 4 * h .nodes ≤ length l₁
   blank-long = rw (e₁, length-replicate) (f .long)
 
   pub countable : Countable h ops l₁
-  countable = record { zero-at = λ k. rw e₁ (zero-at (length l) k); long = blank-long; nodes-few = f .nodes-few; operations-few = few; named = named }
+  countable = record { zero-at = λ k. rw e₁ (zero-at (length l) k); long = blank-long; nodes-few = f .nodes-few; operations-few = few; sound = sound }
 
   module _ {l₂ : List ℕ} (c : AxesCounted h ops l₂) (len : length l₂ ≡ length l₁) where
     abbrev pub axes-rootable : Rootable words l₂ (h .nodes) (h .operations)
@@ -354,7 +354,7 @@ module _ {h : Header} {words l : List ℕ} (ops : List ℕ) (f : Fit h words l) 
           s = begun-at .0;
           few = room-low;
           fit = record { long = begun-at .2 .rep .scratch .long; well = f .well; qubits-few = f .qubits-few; nodes-long = f .nodes-long; nodes-few = f .nodes-few };
-          named = named;
+          sound = sound;
           rest = record {
             total = tallyOf (nodeAt (h .qubits) words) (h .nodes) (wordsOf (axesOf h ops)) .uses;
             who = begun-at .2 .who;
@@ -369,15 +369,15 @@ module _ {h : Header} {words l : List ℕ} (ops : List ℕ) (f : Fit h words l) 
 
 -- ---- what passed the checks
 
-all-named : (h : Header) (ops : List ℕ) (k : ℕ) → anyBadOp h ops k ≡ false → (i : ℕ) → i < k → nodeIn (weighedOf (opAt h ops i) .word) < h .nodes
-all-named h ops k e i l = axis-named h (opAt h ops i) (left-false (isBadOp h (opAt h ops i)) _ (each-good h ops k e i l))
+all-sound : (h : Header) (ops : List ℕ) (k : ℕ) → anyBadOp h ops k ≡ false → (i : ℕ) → i < k → isBadOp h (opAt h ops i) ≡ false
+all-sound h ops k e i l = left-false (isBadOp h (opAt h ops i)) _ (each-good h ops k e i l)
 
 -- nodes and operations that can be read, and scratch enough for a walk
-pub readable : (h : Header) (words ops : List ℕ) (scratch : ℕ) → (badNodes h words || badOperations h ops) ≡ false → ltb scratch (4 * h .nodes) ≡ false → Walkable h words scratch × AxesNamed h ops
+pub readable : (h : Header) (words ops : List ℕ) (scratch : ℕ) → (badNodes h words || badOperations h ops) ≡ false → ltb scratch (4 * h .nodes) ≡ false → Walkable h words scratch × OpsSound h ops
 readable h words ops scratch t s =
     let o = right-false (badNodes h words) _ t in
-    (walkable h words scratch (left-false (badNodes h words) _ t) s, all-named h ops (h .operations) (right-false (exceedsOperations h (length ops)) _ o))
+    (walkable h words scratch (left-false (badNodes h words) _ t) s, all-sound h ops (h .operations) (right-false (exceedsOperations h (length ops)) _ o))
 
-pub fits-report : (h : Header) (words ops : List ℕ) (scratch : ℕ) → reportCheck h words ops scratch ≡ Fine → Walkable h words scratch × AxesNamed h ops
+pub fits-report : (h : Header) (words ops : List ℕ) (scratch : ℕ) → reportCheck h words ops scratch ≡ Fine → Walkable h words scratch × OpsSound h ops
 unfolding reportCheck
 fits-report h words ops scratch e = readable h words ops scratch (test-passed _ _ _ (passed-before _ _ _ e)) (test-passed _ _ _ e)

@@ -8,7 +8,6 @@ use Prim.Native.Nat.{ℕ, _+_, _*_, _-_, _≤_, _<_}
 use lib.ListN.{length, getD, take, drop}
 use Rattle.arena.specs.References.{nodeIn, phaseIn}
 use Rattle.arena.specs.Nodes.{PauliNode, Malformed, nodeAt}
-use Rattle.arena.specs.Operations.{AxisKind, NoKind, Pi8, Clifford, Measurement}
 use Rattle.arena.specs.Store.{Header}
 use Rattle.arena.specs.Builder.{overlay}
 use Rattle.arena.specs.Sparse.{Factor, turned, size, spread, dense}
@@ -17,14 +16,7 @@ use Rattle.arena.specs.Pool.{Who, Chain}
 use Rattle.arena.specs.Code.Results.{Ledger, Value}
 use Rattle.arena.specs.Code.WalkWords.{Inv, none, valueAt, Uses, Rep, ValueIs, Rooted, bytes}
 use Rattle.arena.specs.Readers.{Weighed, Weights, weigh, wordsOf, Report}
-use Rattle.arena.specs.Expansion.{opAt, weighedOf, axesTo, rowBytes, axesBytes}
-
--- whether the report counts an axis of that kind as Clifford
-abbrev pub countsClifford : AxisKind → Bool
-countsClifford NoKind = true
-countsClifford Pi8 = false
-countsClifford Clifford = true
-countsClifford Measurement = false
+use Rattle.arena.specs.Expansion.{opAt, isBadOp, weighedOf, axesTo, rowBytes, axesBytes}
 
 -- ---- the start
 
@@ -110,16 +102,16 @@ weighedAt h ops i = weighedOf (opAt h ops i)
 abbrev pub axesOf : Header → List ℕ → List Weighed
 axesOf h ops = axesTo (opAt h ops) (h .operations)
 
--- the axis of every used operation is a used node
-abbrev pub AxesNamed : Header → List ℕ → Type 0
-AxesNamed h ops = (i : ℕ) → i < h .operations → nodeIn (weighedAt h ops i .word) < h .nodes
+-- no used operation is malformed, or names an unused node or measurement
+abbrev pub OpsSound : Header → List ℕ → Type 0
+OpsSound h ops = (i : ℕ) → i < h .operations → isBadOp h (opAt h ops i) ≡ false
 
 pub record Countable (h : Header) (ops l : List ℕ) : Type 0 where
   pub zero-at : (k : ℕ) → getD l k 0 ≡ 0
   pub long : 4 * h .nodes ≤ length l
   pub nodes-few : h .nodes ≤ 65536
   pub operations-few : h .operations ≤ 65536
-  pub named : AxesNamed h ops
+  pub sound : OpsSound h ops
 
 -- the uses of the axes stand in the words, and no value
 pub record AxesCounted (h : Header) (ops l : List ℕ) : Type 0 where
@@ -171,7 +163,7 @@ pub record Weighing (h : Header) (words ops l p : List ℕ) (limit : ℕ) (left 
   pub s : State
   pub few : room < 65536
   pub fit : Fit h words l
-  pub named : AxesNamed h ops
+  pub sound : OpsSound h ops
   pub rest : Resting h words l p (axesOf h ops) limit room s left
 
 -- ---- the axes of operations written

@@ -5,7 +5,7 @@ use mathlib.Core.Logic.{_≢_}
 use mathlib.Core.Bool.{Bool, true, false, cond}
 use mathlib.Core.List.{List, [], _∷_, _++_, map}
 use Prim.Native.Nat.{ℕ, zero, suc, _+_, _*_, _/_, _%_, _≤_, _<_, min}
-use lib.Dec.{eqb}
+use lib.Dec.{eqb, ltb}
 use lib.ListN.{length, getD, set, drop}
 use Rattle.pauli.specs.Letters.{pauliNumber, phaseNumber}
 use Rattle.pauli.specs.Rows.{identity}
@@ -369,19 +369,19 @@ bytes us = map pauliNumber us
 abbrev pub lettersWritten : ℕ → List Factor → List ℕ → List ℕ
 lettersWritten n fs was = bytes (spread n 0 fs) ++ drop n was
 
-pub record CellReady (p : List ℕ) (a q : ℕ) : Type 0 where
-  pub who : Who
-  pub tag : ℕ
-  pub fs : List Factor
-  pub chain : Chain p who tag q a fs
+-- a letter at q, if that is among the first n
+abbrev pub letterPut : ℕ → ℕ → ℕ → List ℕ → List ℕ
+letterPut n q letter was = cond (ltb q n) (set was q letter) was
 
-pub record CellRead {p : List ℕ} {a q : ℕ} (g : CellReady p a q) (letter next : ℕ) : Type 0 where
-  pub gs : List Factor
-  pub chain : Chain p (g .who) (g .tag) (suc q) next gs
-  pub cell : (k : ℕ) → bytes (spread (suc k) q (g .fs)) ≡ letter ∷ bytes (spread k (suc q) gs)
+-- the letters of the factors, one after another
+abbrev pub lettersPut : ℕ → List Factor → List ℕ → List ℕ
+lettersPut n [] was = was
+lettersPut n (f ∷ fs) was = lettersPut n fs (letterPut n (f .qubit) (pauliNumber (f .pauli)) was)
 
-pub record ShowReady (p : List ℕ) (head : ℕ) : Type 0 where
+-- from head on there are so many factors
+pub record ShowReady (p : List ℕ) (head count : ℕ) : Type 0 where
   pub who : Who
   pub tag : ℕ
   pub fs : List Factor
   pub chain : Chain p who tag 0 head fs
+  pub counted : count ≡ length fs

@@ -25,18 +25,18 @@ add-width c = search needs
 loop-holds : tie.Need-loop-holds Inv-loop μ-loop
 loop-holds c = λ g. write-begin g (c .before .before .before .before .before .before .args .rows .now)
 
-root-at-requires : tie.Need-root-at-requires Inv-loop μ-loop
-root-at-requires c κs = search needs
+axis-word-requires : tie.Need-axis-word-requires Inv-loop μ-loop
+axis-word-requires c κs = search needs
 
 write-root-requires : tie.Need-write-root-requires Inv-loop μ-loop
 write-root-requires c κs =
-    let root-at = c .before .before .before .root-at in
+    let axis-word = c .before .before .before .axis-word in
     let loop-test = c .before .before .before .before .loop-test in
     let the-loop = c .before .before .before .before .before .loop in
     let args = c .before .before .before .before .before .before .before .before .before .before .before .before .args in
     let pre = c .before .before .before .before .before .before .before .before .before .before .before .before .pre in (
-      axis-rooted (pre .0) (the-loop .inv (pre .0) .rest) (loop-test .taken) (root-at .ensures),
-      row-fits (pre .0) (args .rows .now) (pre .1) (the-loop .inv (pre .0)) (loop-test .taken) (root-at .ensures) .0,
+      axis-rooted (pre .0) (the-loop .inv (pre .0) .rest) (loop-test .taken) (axis-word .ensures (c .before .before .before .before .before .before .before .before .before .before .before .before .args .header) (pre .0 .sound _ (loop-test .taken))),
+      row-fits (pre .0) (args .rows .now) (pre .1) (the-loop .inv (pre .0)) (loop-test .taken) (axis-word .ensures (c .before .before .before .before .before .before .before .before .before .before .before .before .args .header) (pre .0 .sound _ (loop-test .taken))) .0,
     )
 
 enum-known-e : tie.Need-enum-known-e Inv-loop μ-loop
@@ -45,59 +45,53 @@ enum-known-e c = search needs
 same-length : tie.Need-same-length Inv-loop μ-loop
 same-length c =
     let write-root = c .before .before .before .before .before .before .before .before .before .write-root in
-    let back12 = c .before .before .before .before .before .before .before .before .before .before .before .before in
-    let the-loop = back12 .before .before .before .loop in
-    let pre = back12 .before .before .before .before .before .before .before .before .before .before .pre in
+    let the-loop = c .before .before .before .before .before .before .before .before .before .before .before .before .before .before .before .loop in
+    let pre = c .before .before .before .before .before .before .before .before .before .before .before .before .before .before .before .before .before .before .before .before .before .before .pre in
     write-root .kept .1 .1 .0 ∙ the-loop .inv (pre .0) .rows-long
 
 same-length-2 : tie.Need-same-length-2 Inv-loop μ-loop
 same-length-2 c =
     let write-root = c .before .before .before .before .before .before .before .before .before .write-root in
-    let back12 = c .before .before .before .before .before .before .before .before .before .before .before .before in
-    let the-loop = back12 .before .before .before .loop in
-    let pre = back12 .before .before .before .before .before .before .before .before .before .before .pre in
+    let the-loop = c .before .before .before .before .before .before .before .before .before .before .before .before .before .before .before .loop in
+    let pre = c .before .before .before .before .before .before .before .before .before .before .before .before .before .before .before .before .before .before .before .before .before .before .pre in
     write-root .kept .1 .1 .1 .0 ∙ the-loop .inv (pre .0) .long
 
 same-length-3 : tie.Need-same-length-3 Inv-loop μ-loop
 same-length-3 c =
     let write-root = c .before .before .before .before .before .before .before .before .before .write-root in
-    let back12 = c .before .before .before .before .before .before .before .before .before .before .before .before in
-    let the-loop = back12 .before .before .before .loop in
-    let pre = back12 .before .before .before .before .before .before .before .before .before .before .pre in
+    let the-loop = c .before .before .before .before .before .before .before .before .before .before .before .before .before .before .before .loop in
+    let pre = c .before .before .before .before .before .before .before .before .before .before .before .before .before .before .before .before .before .before .before .before .before .before .pre in
     write-root .kept .1 .1 .1 .1 .0 ∙ the-loop .inv (pre .0) .pool-long
 
 returns : tie.Need-returns Inv-loop μ-loop
 returns c =
     let e = c .before .e in
     let write-root = c .before .before .before .before .before .before .before .before .before .write-root in
-    let root-at = c .before .before .before .before .before .before .before .before .before .before .before .before .before .root-at in
+    let axis-word = c .before .before .before .before .before .before .before .before .before .before .before .before .before .axis-word in
     let loop-test = c .before .before .before .before .before .before .before .before .before .before .before .before .before .before .loop-test in
-    let back12 = c .before .before .before .before .before .before .before .before .before .before .before .before in
-    let the-loop = back12 .before .before .before .loop in
-    let args = back12 .before .before .before .before .before .before .before .before .before .before .args in
-    let pre = back12 .before .before .before .before .before .before .before .before .before .before .pre in
-    λ g. write-refused g (args .rows .now) (pre .1) (the-loop .inv g) (loop-test .taken) (root-at .ensures)
-    (write-root .ensures (axis-rooted g (the-loop .inv g .rest) (loop-test .taken) (root-at .ensures))) (ap evaluatedOut (e .given .1))
+    let the-loop = c .before .before .before .before .before .before .before .before .before .before .before .before .before .before .before .loop in
+    let args = c .before .before .before .before .before .before .before .before .before .before .before .before .before .before .before .before .before .before .before .before .before .before .args in
+    let pre = c .before .before .before .before .before .before .before .before .before .before .before .before .before .before .before .before .before .before .before .before .before .before .pre in
+    λ g. write-refused g (args .rows .now) (pre .1) (the-loop .inv g) (loop-test .taken) (axis-word .ensures (c .before .before .before .before .before .before .before .before .before .before .before .before .before .before .before .before .before .before .before .before .before .before .args .header) (g .sound _ (loop-test .taken)))
+    (write-root .ensures (axis-rooted g (the-loop .inv g .rest) (loop-test .taken) (axis-word .ensures (c .before .before .before .before .before .before .before .before .before .before .before .before .before .before .before .before .before .before .before .before .before .before .args .header) (g .sound _ (loop-test .taken))))) (ap evaluatedOut (e .given .1))
 
 enum-known-rest : tie.Need-enum-known-rest Inv-loop μ-loop
 enum-known-rest c = search needs
 
 add-at : tie.Need-add-at Inv-loop μ-loop
 add-at c =
-    let root-at = c .before .before .before .before .before .before .before .before .before .before .before .before .before .root-at in
+    let axis-word = c .before .before .before .before .before .before .before .before .before .before .before .before .before .axis-word in
     let loop-test = c .before .before .before .before .before .before .before .before .before .before .before .before .before .before .loop-test in
-    let back12 = c .before .before .before .before .before .before .before .before .before .before .before .before in
-    let the-loop = back12 .before .before .before .loop in
-    let args = back12 .before .before .before .before .before .before .before .before .before .before .args in
-    let pre = back12 .before .before .before .before .before .before .before .before .before .before .pre in
-    let good = back12 .before .before .before .before .before .before .before .before .before .before .good in
-    record { fits = omega (arith, row-fits (pre .0) (args .rows .now) (pre .1) (the-loop .inv (pre .0)) (loop-test .taken) (root-at .ensures) .1, good) }
+    let the-loop = c .before .before .before .before .before .before .before .before .before .before .before .before .before .before .before .loop in
+    let args = c .before .before .before .before .before .before .before .before .before .before .before .before .before .before .before .before .before .before .before .before .before .before .args in
+    let pre = c .before .before .before .before .before .before .before .before .before .before .before .before .before .before .before .before .before .before .before .before .before .before .pre in
+    let good = c .before .before .before .before .before .before .before .before .before .before .before .before .before .before .before .before .before .before .before .before .before .before .good in
+    record { fits = omega (arith, row-fits (pre .0) (args .rows .now) (pre .1) (the-loop .inv (pre .0)) (loop-test .taken) (axis-word .ensures (c .before .before .before .before .before .before .before .before .before .before .before .before .before .before .before .before .before .before .before .before .before .before .args .header) (pre .0 .sound _ (loop-test .taken))) .1, good) }
 
 add-i : tie.Need-add-i Inv-loop μ-loop
 add-i c =
     let loop-test = c .before .before .before .before .before .before .before .before .before .before .before .before .before .before .loop-test in
-    let back12 = c .before .before .before .before .before .before .before .before .before .before .before .before in
-    let good = back12 .before .before .before .before .before .before .before .before .before .before .good in
+    let good = c .before .before .before .before .before .before .before .before .before .before .before .before .before .before .before .before .before .before .before .before .before .before .good in
     record { fits = omega (arith, loop-test .taken, good .0) }
 
 loop-less : tie.Need-loop-less Inv-loop μ-loop
@@ -107,14 +101,13 @@ loop-again : tie.Need-loop-again Inv-loop μ-loop
 loop-again c =
     let rest = c .before .rest in
     let write-root = c .before .before .before .before .before .before .before .before .before .write-root in
-    let root-at = c .before .before .before .before .before .before .before .before .before .before .before .before .before .root-at in
+    let axis-word = c .before .before .before .before .before .before .before .before .before .before .before .before .before .axis-word in
     let loop-test = c .before .before .before .before .before .before .before .before .before .before .before .before .before .before .loop-test in
-    let back12 = c .before .before .before .before .before .before .before .before .before .before .before .before in
-    let the-loop = back12 .before .before .before .loop in
-    let args = back12 .before .before .before .before .before .before .before .before .before .before .args in
-    let pre = back12 .before .before .before .before .before .before .before .before .before .before .pre in
-    λ g. write-turn g (args .rows .now) (pre .1) (the-loop .inv g) (loop-test .taken) (root-at .ensures)
-    (write-root .ensures (axis-rooted g (the-loop .inv g .rest) (loop-test .taken) (root-at .ensures))) (ap evaluatedOut (rest .given .1)) refl
+    let the-loop = c .before .before .before .before .before .before .before .before .before .before .before .before .before .before .before .loop in
+    let args = c .before .before .before .before .before .before .before .before .before .before .before .before .before .before .before .before .before .before .before .before .before .before .args in
+    let pre = c .before .before .before .before .before .before .before .before .before .before .before .before .before .before .before .before .before .before .before .before .before .before .pre in
+    λ g. write-turn g (args .rows .now) (pre .1) (the-loop .inv g) (loop-test .taken) (axis-word .ensures (c .before .before .before .before .before .before .before .before .before .before .before .before .before .before .before .before .before .before .before .before .before .before .args .header) (g .sound _ (loop-test .taken)))
+    (write-root .ensures (axis-rooted g (the-loop .inv g .rest) (loop-test .taken) (axis-word .ensures (c .before .before .before .before .before .before .before .before .before .before .before .before .before .before .before .before .before .before .before .before .before .before .args .header) (g .sound _ (loop-test .taken))))) (ap evaluatedOut (rest .given .1)) refl
     (write-root .kept .1 .1 .0 ∙ the-loop .inv g .rows-long) (write-root .kept .1 .1 .1 .0 ∙ the-loop .inv g .long) (write-root .kept .1 .1 .1 .1 .0 ∙ the-loop .inv g .pool-long)
 
 same-length-4 : tie.Need-same-length-4 Inv-loop μ-loop
@@ -138,7 +131,7 @@ write-axes-spec =
     cast-width
     add-width
     loop-holds
-    root-at-requires
+    axis-word-requires
     write-root-requires
     enum-known-e
     same-length

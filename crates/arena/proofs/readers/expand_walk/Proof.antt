@@ -13,17 +13,14 @@ use Rattle.arena.proofs.readers.expand_walk.Tie as tie
 cast-n : tie.Need-cast-n
 cast-n c = search needs
 
-cast-count : tie.Need-cast-count
-cast-count c = search needs
-
 returns : tie.Need-returns
 returns c =
-    let args = c .before .before .before .before .before .before .before .args in
+    let args = c .before .before .before .before .before .before .args in
     let low = expand-low (args .header .qubits) (args .header .nodes) (args .nodes .now) (args .word) (capOf (length (args .pool .now)) - 1)
     (args .cells) (c .if1 .taken) in (sym (ap expansionOf low), sym (ap (λ o. lettersLeft o (args .letters .now)) low))
 
 walk-root-requires : tie.Need-walk-root-requires
-walk-root-requires c κs = ready-of (c .before .before .before .before .before .before .before .before .before .args .word) (c .before .before .before .before .before .before .before .before .before .pre .0) (c .before .before .before .before .before .before .before .before .before .pre .1)
+walk-root-requires c κs = ready-of (c .before .before .before .before .before .before .before .before .args .word) (c .before .before .before .before .before .before .before .before .pre .0) (c .before .before .before .before .before .before .before .before .pre .1)
 
 enum-known-e : tie.Need-enum-known-e
 enum-known-e c = search needs
@@ -35,11 +32,10 @@ show-requires : tie.Need-show-requires
 show-requires c κs =
     let v = c .before .before .before .v in
     let walk-root = c .before .before .before .before .before .before .before .before .before .walk-root in
-    let back12 = c .before .before .before .before .before .before .before .before .before .before .before .before in
-    let args = back12 .before .before .before .before .before .before .before .args in
-    let pre = back12 .before .before .before .before .before .before .before .pre in (
+    let args = c .before .before .before .before .before .before .before .before .before .before .before .before .before .before .before .before .before .before .args in
+    let pre = c .before .before .before .before .before .before .before .before .before .before .before .before .before .before .before .before .before .before .pre in (
       to-show (args .header .qubits) (args .header .nodes) (args .nodes .now) (args .word) (capOf (length (args .pool .now)) - 1)
-          (args .cells - args .header .qubits) (walk-root .ensures (ready-of (args .word) (pre .0) (pre .1))) (ap shownOut (v .given .1)),
+          (args .cells - args .header .qubits) (walk-root .ensures (ready-of (args .word) (pre .0) (pre .1)) (args .header .nodes) (pre .1)) (ap shownOut (v .given .1)),
       pre .2,
     )
 
@@ -60,11 +56,10 @@ returns-2 c =
     let e = c .before .e in
     let walk-root = c .before .before .before .before .before .before .before .walk-root in
     let if1 = c .before .before .before .before .before .before .before .before .before .before .if1 in
-    let back12 = c .before .before .before .before .before .before .before .before .before .before .before .before in
-    let args = back12 .before .before .before .before .before .args in
-    let pre = back12 .before .before .before .before .before .pre in
+    let args = c .before .before .before .before .before .before .before .before .before .before .before .before .before .before .before .before .args in
+    let pre = c .before .before .before .before .before .before .before .before .before .before .before .before .before .before .before .before .pre in
     let no = expand-refused (args .header .qubits) (args .header .nodes) (args .nodes .now) (args .word) (capOf (length (args .pool .now)) - 1)
-    (args .cells - args .header .qubits) (walk-root .ensures (ready-of (args .word) (pre .0) (pre .1))) (args .cells) (if1 .left) refl (ap shownOut
+    (args .cells - args .header .qubits) (walk-root .ensures (ready-of (args .word) (pre .0) (pre .1)) (args .header .nodes) (pre .1)) (args .cells) (if1 .left) refl (ap shownOut
     (e .given .1)) in (sym (ap expansionOf no), sym (ap (λ o. lettersLeft o (args .letters .now)) no))
 
 same-length-3 : tie.Need-same-length-3
@@ -81,18 +76,17 @@ returns-3 c =
     let show = c .before .before .before .before .show in
     let v = c .before .before .before .before .before .before .before .before .v in
     let walk-root = c .before .before .before .before .before .before .before .before .before .before .before .before .before .before .walk-root in
-    let back12 = c .before .before .before .before .before .before .before .before .before .before .before .before in
-    let if1 = back12 .before .before .before .before .before .if1 in
-    let args = back12 .before .before .before .before .before .before .before .before .before .before .before .before .args in
-    let pre = back12 .before .before .before .before .before .before .before .before .before .before .before .before .pre in (
+    let if1 = c .before .before .before .before .before .before .before .before .before .before .before .before .before .before .before .before .before .if1 in
+    let args = c .before .before .before .before .before .before .before .before .before .before .before .before .before .before .before .before .before .before .before .before .before .before .before .args in
+    let pre = c .before .before .before .before .before .before .before .before .before .before .before .before .before .before .before .before .before .before .before .before .before .before .before .pre in (
       expand-answer (args .header .qubits) (args .header .nodes) (args .nodes .now) (args .word) (capOf (length (args .pool .now)) - 1)
-          (args .cells - args .header .qubits) (walk-root .ensures (ready-of (args .word) (pre .0) (pre .1))) (ap shownOut (v .given .1)) (args .cells)
+          (args .cells - args .header .qubits) (walk-root .ensures (ready-of (args .word) (pre .0) (pre .1)) (args .header .nodes) (pre .1)) (ap shownOut (v .given .1)) (args .cells)
           (if1 .left) refl (c .power .ensures),
       expand-letters (args .header .qubits) (args .header .nodes) (args .nodes .now) (args .word) (capOf (length
-          (args .pool .now)) - 1) (args .cells - args .header .qubits) (walk-root .ensures (ready-of (args .word) (pre .0) (pre .1))) (ap shownOut
+          (args .pool .now)) - 1) (args .cells - args .header .qubits) (walk-root .ensures (ready-of (args .word) (pre .0) (pre .1)) (args .header .nodes) (pre .1)) (ap shownOut
           (v .given .1)) (args .cells) (args .letters .now) _ (if1 .left) refl (show .ensures (to-show (args .header .qubits) (args .header .nodes)
           (args .nodes .now) (args .word) (capOf (length (args .pool .now)) - 1) (args .cells - args .header .qubits) (walk-root .ensures (ready-of
-          (args .word) (pre .0) (pre .1))) (ap shownOut (v .given .1)))),
+          (args .word) (pre .0) (pre .1)) (args .header .nodes) (pre .1)) (ap shownOut (v .given .1)))),
     )
 
 pub expand-walk-spec : {M : Type 1} → statement M
@@ -100,7 +94,6 @@ expand-walk-spec =
     tie.close
     (tie.spec
     cast-n
-    cast-count
     returns
     walk-root-requires
     enum-known-e

@@ -11,14 +11,11 @@ use borrow.Author.Needs.{needs}
 use Rattle.arena.proofs.readers.hermitian_walk.Statement.{statement}
 use Rattle.arena.proofs.readers.hermitian_walk.Tie as tie
 
-cast-count : tie.Need-cast-count
-cast-count c = search needs
-
 cast-walk-root : tie.Need-cast-walk-root
 cast-walk-root c = search needs
 
 walk-root-requires : tie.Need-walk-root-requires
-walk-root-requires c κs = ready-of (c .before .before .before .before .before .before .before .args .reference .word) (c .before .before .before .before .before .before .before .pre .0) (c .before .before .before .before .before .before .before .pre .1)
+walk-root-requires c κs = ready-of (c .before .before .before .before .before .before .args .reference .word) (c .before .before .before .before .before .before .pre .0) (c .before .before .before .before .before .before .pre .1)
 
 enum-known-e : tie.Need-enum-known-e
 enum-known-e c = search needs
@@ -36,11 +33,10 @@ returns : tie.Need-returns
 returns c =
     let v = c .before .before .before .v in
     let walk-root = c .before .before .before .before .before .before .before .before .before .walk-root in
-    let back12 = c .before .before .before .before .before .before .before .before .before .before .before .before in
-    let args = back12 .before .before .before .before .before .args in
-    let pre = back12 .before .before .before .before .before .pre in
+    let args = c .before .before .before .before .before .before .before .before .before .before .before .before .before .before .before .before .args in
+    let pre = c .before .before .before .before .before .before .before .before .before .before .before .before .before .before .before .before .pre in
     sym (ap (hermitianOf (args .reference)) (axis-odd (args .header .qubits) (args .header .nodes) (args .nodes .now) (args .reference .word) (capOf
-    (length (args .pool .now)) - 1) (args .limit) (walk-root .ensures (ready-of (args .reference .word) (pre .0) (pre .1))) (ap shownOut (v .given .1))
+    (length (args .pool .now)) - 1) (args .limit) (walk-root .ensures (ready-of (args .reference .word) (pre .0) (pre .1)) (args .header .nodes) (pre .1)) (ap shownOut (v .given .1))
     (c .if1 .taken)))
 
 assume-hermitian-requires : tie.Need-assume-hermitian-requires
@@ -56,11 +52,10 @@ returns-2 : tie.Need-returns-2
 returns-2 c =
     let e = c .before .e in
     let walk-root = c .before .before .before .before .before .before .before .walk-root in
-    let back12 = c .before .before .before .before .before .before .before .before .before .before .before .before in
-    let args = back12 .before .before .before .args in
-    let pre = back12 .before .before .before .pre in
+    let args = c .before .before .before .before .before .before .before .before .before .before .before .before .before .before .args in
+    let pre = c .before .before .before .before .before .before .before .before .before .before .before .before .before .before .pre in
     sym (ap (hermitianOf (args .reference)) (axis-refused (args .header .qubits) (args .header .nodes) (args .nodes .now) (args .reference .word) (capOf
-    (length (args .pool .now)) - 1) (args .limit) (walk-root .ensures (ready-of (args .reference .word) (pre .0) (pre .1))) (ap shownOut (e .given .1))))
+    (length (args .pool .now)) - 1) (args .limit) (walk-root .ensures (ready-of (args .reference .word) (pre .0) (pre .1)) (args .header .nodes) (pre .1)) (ap shownOut (e .given .1))))
 
 same-length-5 : tie.Need-same-length-5
 same-length-5 c = c .before .before .before .before .before .before .before .before .before .before .walk-root .kept .1 .0
@@ -73,18 +68,16 @@ returns-3 c =
     let if1 = c .before .if1 in
     let v = c .before .before .before .before .v in
     let walk-root = c .before .before .before .before .before .before .before .before .before .before .walk-root in
-    let back12 = c .before .before .before .before .before .before .before .before .before .before .before .before in
-    let args = back12 .before .before .before .before .before .before .args in
-    let pre = back12 .before .before .before .before .before .before .pre in
+    let args = c .before .before .before .before .before .before .before .before .before .before .before .before .before .before .before .before .before .args in
+    let pre = c .before .before .before .before .before .before .before .before .before .before .before .before .before .before .before .before .before .pre in
     ap (λ (r : PauliRef). HermitianMade (axisOf r) (v .given .0 .1 .0 .work)) (c .assume-hermitian .ensures) ∙ sym (ap (hermitianOf (args .reference))
     (axis-even (args .header .qubits) (args .header .nodes) (args .nodes .now) (args .reference .word) (capOf (length (args .pool .now)) - 1)
-    (args .limit) (walk-root .ensures (ready-of (args .reference .word) (pre .0) (pre .1))) (ap shownOut (v .given .1)) (if1 .left)))
+    (args .limit) (walk-root .ensures (ready-of (args .reference .word) (pre .0) (pre .1)) (args .header .nodes) (pre .1)) (ap shownOut (v .given .1)) (if1 .left)))
 
 pub hermitian-walk-spec : {M : Type 1} → statement M
 hermitian-walk-spec =
     tie.close
     (tie.spec
-    cast-count
     cast-walk-root
     walk-root-requires
     enum-known-e

@@ -1,99 +1,49 @@
--- `walk_root` meets its contract: the use counted, the walk begun, the root shown, or a refusal on the way.
-use mathlib.Core.Path.{ap, _∙_}
-use Rattle.arena.specs.Code.Results.{evaluatedOut}
-use Rattle.arena.proofs.steps.Roots.{add-fits, rootable, walk-refused, rooted, walk-shown}
+-- `walk_root` meets its contract: the walk up to the root is the whole one.
+use mathlib.Core.Path.{refl, sym}
+use Prim.Native.Nat.{_+_, _*_, _-_, _/_}
+use native.Mathlib.Omega.{arith}
 use borrow.Author.Needs.{needs}
+use lib.ListN.{length}
+use Rattle.arena.specs.Limits.{capOf}
+use Rattle.arena.proofs.steps.Readers.{part-long, ready-part, whole-walk}
 use Rattle.arena.proofs.roots.walk_root.Statement.{statement}
 use Rattle.arena.proofs.roots.walk_root.Tie as tie
 
-zero-all-requires : tie.Need-zero-all-requires
-zero-all-requires c κs = search needs
+add-count : tie.Need-add-count
+add-count c = search needs
 
-add-use-requires : tie.Need-add-use-requires
-add-use-requires c κs = add-fits (c .before .before .before .before .before .before .before .before .pre) (c .before .before .before .zero-all .ensures)
+mul-part : tie.Need-mul-part
+mul-part c = search needs
 
-begin-requires : tie.Need-begin-requires
-begin-requires c κs = rootable (c .before .before .before .before .before .before .before .before .before .before .before .before .before .pre) (c .before .before .before .before .before .before .before .before .zero-all .ensures) (c .before .before .before .before .add-use .ensures)
+slice-relend-prefix-walk-among : tie.Need-slice-relend-prefix-walk-among
+slice-relend-prefix-walk-among c = search needs
 
-enum-known-e : tie.Need-enum-known-e
-enum-known-e c = search needs
+slice-aggregate-walk-among : tie.Need-slice-aggregate-walk-among
+slice-aggregate-walk-among c = sym (part-long (c .before .before .before .before .args .s .now) (4 * (c .before .before .before .before .args .w / 4 + 1)) (omega (arith, c .before .before .before .before .pre .long)))
 
-enum-known-left : tie.Need-enum-known-left
-enum-known-left c = search needs
-
-show-root-requires : tie.Need-show-root-requires
-show-root-requires c κs =
-    let left = c .before .before .before .left in
-    let begin = c .before .before .before .before .before .before .before .before .before .begin in
-    let add-use = c .before .before .before .before .before .before .before .before .before .before .before .before .before .before .add-use in
-    let back12 = c .before .before .before .before .before .before .before .before .before .before .before .before in
-    let zero-all = back12 .before .before .before .before .before .before .zero-all in
-    let pre = back12 .before .before .before .before .before .before .before .before .before .before .before .pre in
-    let args = back12 .before .before .before .before .before .before .before .before .before .before .before .args in
-    rooted pre (zero-all .ensures) (add-use .ensures) (args .pool .now) (begin .ensures (rootable pre (zero-all .ensures) (add-use .ensures)))
-    (ap evaluatedOut (left .given .1))
+walk-among-requires : tie.Need-walk-among-requires
+walk-among-requires c κs = ready-part (c .before .before .before .before .before .pre) refl
 
 same-length : tie.Need-same-length
-same-length c =
-    let begin = c .before .before .before .before .before .before .before .begin in
-    let add-use = c .before .before .before .before .before .before .before .before .before .before .before .before .add-use in
-    let back12 = c .before .before .before .before .before .before .before .before .before .before .before .before in
-    let zero-all = back12 .before .before .before .before .zero-all in
-    begin .kept .1 .0 ∙ add-use .kept .0 ∙ zero-all .kept .0
+same-length c = search needs
 
 same-length-2 : tie.Need-same-length-2
-same-length-2 c = c .before .before .before .before .before .before .before .begin .kept .1 .1 .0
+same-length-2 c = search needs
 
 returns : tie.Need-returns
 returns c =
-    let e = c .before .e in
-    let begin = c .before .before .before .before .before .before .before .begin in
-    let add-use = c .before .before .before .before .before .before .before .before .before .before .before .before .add-use in
-    let back12 = c .before .before .before .before .before .before .before .before .before .before .before .before in
-    let zero-all = back12 .before .before .before .before .zero-all in
-    let args = back12 .before .before .before .before .before .before .before .before .before .args in
-    λ g. walk-refused g (zero-all .ensures) (add-use .ensures) (args .pool .now) (begin .ensures (rootable g (zero-all .ensures) (add-use .ensures)))
-    (ap evaluatedOut (e .given .1))
-
-same-length-3 : tie.Need-same-length-3
-same-length-3 c =
-    let show-root = c .before .before .before .before .show-root in
-    let begin = c .before .before .before .before .before .before .before .before .before .before .before .before .before .before .begin in
-    let back12 = c .before .before .before .before .before .before .before .before .before .before .before .before in
-    let add-use = back12 .before .before .before .before .before .before .before .add-use in
-    let zero-all = back12 .before .before .before .before .before .before .before .before .before .before .before .zero-all in
-    show-root .kept .1 .0 ∙ begin .kept .1 .0 ∙ add-use .kept .0 ∙ zero-all .kept .0
-
-same-length-4 : tie.Need-same-length-4
-same-length-4 c = c .before .before .before .before .show-root .kept .1 .1 .0 ∙ c .before .before .before .before .before .before .before .before .before .before .before .before .before .before .begin .kept .1 .1 .0
-
-returns-2 : tie.Need-returns-2
-returns-2 c =
-    let show-root = c .before .before .before .before .show-root in
-    let left = c .before .before .before .before .before .before .before .before .left in
-    let begin = c .before .before .before .before .before .before .before .before .before .before .before .before .before .before .begin in
-    let back12 = c .before .before .before .before .before .before .before .before .before .before .before .before in
-    let add-use = back12 .before .before .before .before .before .before .before .add-use in
-    let zero-all = back12 .before .before .before .before .before .before .before .before .before .before .before .zero-all in
-    let back24 = back12 .before .before .before .before .before .before .before .before .before .before .before .before in
-    let args = back24 .before .before .before .before .args in
-    λ g. walk-shown g (zero-all .ensures) (add-use .ensures) (args .pool .now) (begin .ensures (rootable g (zero-all .ensures) (add-use .ensures)))
-    (ap evaluatedOut (left .given .1)) (show-root .ensures (rooted g (zero-all .ensures) (add-use .ensures) (args .pool .now) (begin .ensures
-    (rootable g (zero-all .ensures) (add-use .ensures))) (ap evaluatedOut (left .given .1))))
+    let args = c .before .before .before .before .before .before .before .before .before .before .args in
+    λ g count named. whole-walk (args .limit) (capOf (length (args .pool .now)) - 1) (g .n) (args .nodes .now) (args .w) count named (c .before .before .before .before .walk-among .ensures (ready-part g refl))
 
 pub walk-root-spec : {M : Type 1} → statement M
 walk-root-spec =
     tie.close
     (tie.spec
-    zero-all-requires
-    add-use-requires
-    begin-requires
-    enum-known-e
-    enum-known-left
-    show-root-requires
+    add-count
+    mul-part
+    slice-relend-prefix-walk-among
+    slice-aggregate-walk-among
+    walk-among-requires
     same-length
     same-length-2
-    returns
-    same-length-3
-    same-length-4
-    returns-2)
+    returns)

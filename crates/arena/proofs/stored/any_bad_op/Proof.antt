@@ -19,7 +19,7 @@ loop-holds : tie.Need-loop-holds Inv-loop μ-loop
 loop-holds c = (omega arith, refl)
 
 is-bad-at-requires : tie.Need-is-bad-at-requires Inv-loop μ-loop
-is-bad-at-requires c κs = search needs
+is-bad-at-requires c κs = omega (arith, c .if1 .taken, c .before .before .before .before .pre)
 
 add-i : tie.Need-add-i Inv-loop μ-loop
 add-i c = search needs

@@ -10,13 +10,10 @@ use Rattle.arena.proofs.weights.weigh_axes.Statement.{statement}
 use Rattle.arena.proofs.weights.weigh_axes.Tie as tie
 
 abbrev Inv-loop : tie.InvT-loop
-Inv-loop header nodes operations s₀ pool₀ limit count total left₀ non-clifford₀ clifford₀ i₀ s pool left non-clifford clifford i = (g : Weighing header nodes operations s₀ pool₀ limit left₀) → WeighAt g s pool left non-clifford clifford i
+Inv-loop header nodes operations s₀ pool₀ limit total left₀ non-clifford₀ clifford₀ i₀ s pool left non-clifford clifford i = (g : Weighing header nodes operations s₀ pool₀ limit left₀) → WeighAt g s pool left non-clifford clifford i
 
 abbrev μ-loop : tie.MeasureT-loop
-μ-loop header nodes operations s₀ pool₀ limit count total left₀ non-clifford₀ clifford₀ i₀ s pool left non-clifford clifford i = header .operations - i
-
-cast-count : tie.Need-cast-count Inv-loop μ-loop
-cast-count c = search needs
+μ-loop header nodes operations s₀ pool₀ limit total left₀ non-clifford₀ clifford₀ i₀ s pool left non-clifford clifford i = header .operations - i
 
 loop-holds : tie.Need-loop-holds Inv-loop μ-loop
 loop-holds c = λ g. weigh-begin g
@@ -29,8 +26,8 @@ weigh-root-requires c κs =
     let axis-at = c .before .before .axis-at in
     let loop-test = c .before .before .before .loop-test in
     let the-loop = c .before .before .before .before .loop in
-    let pre = c .before .before .before .before .before .before .before .before .before .before .pre in
-    axis-rooted pre (the-loop .inv pre .rest) (loop-test .taken) (axis-at .ensures .0)
+    let pre = c .before .before .before .before .before .before .before .before .before .pre in
+    axis-rooted pre (the-loop .inv pre .rest) (loop-test .taken) (axis-at .ensures .0 (c .before .before .before .before .before .before .before .before .before .args .header) (pre .sound _ (loop-test .taken)))
 
 enum-known-e : tie.Need-enum-known-e Inv-loop μ-loop
 enum-known-e c = search needs
@@ -39,17 +36,15 @@ same-length : tie.Need-same-length Inv-loop μ-loop
 same-length c =
     let weigh-root = c .before .before .before .before .before .before .before .weigh-root in
     let the-loop = c .before .before .before .before .before .before .before .before .before .before .before .before .loop in
-    let back12 = c .before .before .before .before .before .before .before .before .before .before .before .before in
-    let pre = back12 .before .before .before .before .before .before .pre in
-    weigh-root .kept .1 .0 ∙ the-loop .inv pre .long
+    let pre = c .before .before .before .before .before .before .before .before .before .before .before .before .before .before .before .before .before .pre in
+    weigh-root .kept .1 .1 .0 ∙ the-loop .inv pre .long
 
 same-length-2 : tie.Need-same-length-2 Inv-loop μ-loop
 same-length-2 c =
     let weigh-root = c .before .before .before .before .before .before .before .weigh-root in
     let the-loop = c .before .before .before .before .before .before .before .before .before .before .before .before .loop in
-    let back12 = c .before .before .before .before .before .before .before .before .before .before .before .before in
-    let pre = back12 .before .before .before .before .before .before .pre in
-    weigh-root .kept .1 .1 .0 ∙ the-loop .inv pre .pool-long
+    let pre = c .before .before .before .before .before .before .before .before .before .before .before .before .before .before .before .before .before .pre in
+    weigh-root .kept .1 .1 .1 .0 ∙ the-loop .inv pre .pool-long
 
 returns : tie.Need-returns Inv-loop μ-loop
 returns c =
@@ -58,8 +53,8 @@ returns c =
     let axis-at = c .before .before .before .before .before .before .before .before .before .before .axis-at in
     let loop-test = c .before .before .before .before .before .before .before .before .before .before .before .loop-test in
     let the-loop = c .before .before .before .before .before .before .before .before .before .before .before .before .loop in
-    λ g. weigh-refused g (the-loop .inv g) (loop-test .taken) (axis-at .ensures .0) (weigh-root .ensures (axis-rooted g (the-loop .inv g .rest)
-    (loop-test .taken) (axis-at .ensures .0))) (ap axisWeightOut (e .given .1))
+    λ g. weigh-refused g (the-loop .inv g) (loop-test .taken) (axis-at .ensures .0 (c .before .before .before .before .before .before .before .before .before .before .before .before .before .before .before .before .before .args .header) (g .sound _ (loop-test .taken))) (weigh-root .ensures (axis-rooted g (the-loop .inv g .rest)
+    (loop-test .taken) (axis-at .ensures .0 (c .before .before .before .before .before .before .before .before .before .before .before .before .before .before .before .before .before .args .header) (g .sound _ (loop-test .taken))))) (ap axisWeightOut (e .given .1))
 
 enum-known-k : tie.Need-enum-known-k Inv-loop μ-loop
 enum-known-k c = search needs
@@ -73,8 +68,7 @@ raised-requires-2 c κs = search needs
 add-i : tie.Need-add-i Inv-loop μ-loop
 add-i c =
     let loop-test = c .before .before .before .before .before .before .before .before .before .before .before .before .before .before .loop-test in
-    let back12 = c .before .before .before .before .before .before .before .before .before .before .before .before in
-    let good = back12 .before .before .before .before .before .before .before .before .before .good in
+    let good = c .before .before .before .before .before .before .before .before .before .before .before .before .before .before .before .before .before .before .before .before .good in
     record { fits = omega (arith, loop-test .taken, good .0) }
 
 loop-less : tie.Need-loop-less Inv-loop μ-loop
@@ -87,17 +81,16 @@ loop-again c =
     let weigh-root = c .before .before .before .before .before .before .before .before .before .before .weigh-root in
     let axis-at = c .before .before .before .before .before .before .before .before .before .before .before .before .before .axis-at in
     let loop-test = c .before .before .before .before .before .before .before .before .before .before .before .before .before .before .loop-test in
-    let back12 = c .before .before .before .before .before .before .before .before .before .before .before .before in
-    let the-loop = back12 .before .before .before .loop in
-    λ g. weigh-turn g (the-loop .inv g) (loop-test .taken) (axis-at .ensures .0) (weigh-root .ensures (axis-rooted g (the-loop .inv g .rest)
-    (loop-test .taken) (axis-at .ensures .0))) (ap axisWeightOut (k .given .1)) (axis-at .ensures .1) (weigh-root .kept .1 .0 ∙ the-loop .inv g .long)
-    (weigh-root .kept .1 .1 .0 ∙ the-loop .inv g .pool-long) (raised .ensures) (c .raised2 .ensures)
+    let the-loop = c .before .before .before .before .before .before .before .before .before .before .before .before .before .before .before .loop in
+    λ g. weigh-turn g (the-loop .inv g) (loop-test .taken) (axis-at .ensures .0 (c .before .before .before .before .before .before .before .before .before .before .before .before .before .before .before .before .before .before .before .before .args .header) (g .sound _ (loop-test .taken))) (weigh-root .ensures (axis-rooted g (the-loop .inv g .rest)
+    (loop-test .taken) (axis-at .ensures .0 (c .before .before .before .before .before .before .before .before .before .before .before .before .before .before .before .before .before .before .before .before .args .header) (g .sound _ (loop-test .taken))))) (ap axisWeightOut (k .given .1)) (axis-at .ensures .1 (c .before .before .before .before .before .before .before .before .before .before .before .before .before .before .before .before .before .before .before .before .args .header) (g .sound _ (loop-test .taken))) (weigh-root .kept .1 .1 .0 ∙ the-loop .inv g .long)
+    (weigh-root .kept .1 .1 .1 .0 ∙ the-loop .inv g .pool-long) (raised .ensures) (c .raised2 .ensures)
 
 same-length-3 : tie.Need-same-length-3 Inv-loop μ-loop
-same-length-3 c = c .before .loop .inv (c .before .before .before .before .before .before .before .pre) .long
+same-length-3 c = c .before .loop .inv (c .before .before .before .before .before .before .pre) .long
 
 same-length-4 : tie.Need-same-length-4 Inv-loop μ-loop
-same-length-4 c = c .before .loop .inv (c .before .before .before .before .before .before .before .pre) .pool-long
+same-length-4 c = c .before .loop .inv (c .before .before .before .before .before .before .pre) .pool-long
 
 returns-2 : tie.Need-returns-2 Inv-loop μ-loop
 returns-2 c = λ g. weigh-end g (c .before .loop .inv g) (c .loop-test .left)
@@ -108,7 +101,6 @@ weigh-axes-spec =
     (tie.spec
     Inv-loop
     μ-loop
-    cast-count
     loop-holds
     axis-at-requires
     weigh-root-requires

@@ -6,8 +6,11 @@ use borrow.Author.Needs.{needs}
 use Rattle.arena.proofs.weights.weigh_root.Statement.{statement}
 use Rattle.arena.proofs.weights.weigh_root.Tie as tie
 
+cast-count : tie.Need-cast-count
+cast-count c = search needs
+
 show-root-requires : tie.Need-show-root-requires
-show-root-requires c κs = c .before .before .before .before .before .pre
+show-root-requires c κs = c .before .before .before .before .before .before .pre
 
 enum-known-e : tie.Need-enum-known-e
 enum-known-e c = search needs
@@ -19,9 +22,8 @@ release-requires : tie.Need-release-requires
 release-requires c κs =
     let v = c .before .before .before .v in
     let show-root = c .before .before .before .before .before .before .before .before .before .show-root in
-    let back12 = c .before .before .before .before .before .before .before .before .before .before .before .before in
-    let args = back12 .before .before .before .args in
-    let pre = back12 .before .before .before .pre in
+    let args = c .before .before .before .before .before .before .before .before .before .before .before .before .before .before .before .before .args in
+    let pre = c .before .before .before .before .before .before .before .before .before .before .before .before .before .before .before .before .pre in
     to-release (args .w) pre (show-root .ensures pre) (ap shownOut (v .given .1))
 
 same-length : tie.Need-same-length
@@ -31,7 +33,7 @@ same-length-2 : tie.Need-same-length-2
 same-length-2 c = c .before .before .before .before .before .before .before .show-root .kept .1 .1 .0
 
 returns : tie.Need-returns
-returns c = λ g. weight-refused (c .before .before .before .before .before .before .before .before .before .before .before .before .before .args .w) g (c .before .before .before .before .before .before .before .show-root .ensures g) (ap shownOut (c .before .e .given .1))
+returns c = λ g. weight-refused (c .before .before .before .before .before .before .before .before .before .before .before .before .before .before .args .w) g (c .before .before .before .before .before .before .before .show-root .ensures g) (ap shownOut (c .before .e .given .1))
 
 same-length-3 : tie.Need-same-length-3
 same-length-3 c = c .before .before .before .before .release .kept .0 ∙ c .before .before .before .before .before .before .before .before .before .before .before .before .before .before .show-root .kept .1 .0
@@ -44,8 +46,7 @@ returns-2 c =
     let release = c .before .before .before .before .release in
     let v = c .before .before .before .before .before .before .before .before .v in
     let show-root = c .before .before .before .before .before .before .before .before .before .before .before .before .before .before .show-root in
-    let back12 = c .before .before .before .before .before .before .before .before .before .before .before .before in
-    let args = back12 .before .before .before .before .before .before .before .before .args in
+    let args = c .before .before .before .before .before .before .before .before .before .before .before .before .before .before .before .before .before .before .before .before .before .args in
     λ g. weight-made (args .w) g (show-root .ensures g) (ap shownOut (v .given .1)) (release .ensures (to-release (args .w) g (show-root .ensures g)
     (ap shownOut (v .given .1))))
 
@@ -53,6 +54,7 @@ pub weigh-root-spec : {M : Type 1} → statement M
 weigh-root-spec =
     tie.close
     (tie.spec
+    cast-count
     show-root-requires
     enum-known-e
     enum-known-v
