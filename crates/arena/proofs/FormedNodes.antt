@@ -15,28 +15,20 @@ use Rattle.arena.specs.Code.Stored.{isProduct, isSingle, isIdentity}
 use Rattle.arena.proofs.Accepted.{left-false, right-false, sound}
 use Rattle.arena.proofs.NodeRows.{both-true}
 
--- a node of which a test decides, beside tests that fail
+-- a test beside one that fails
+pub or-false : (t : Bool) → t ≡ (t || false)
+or-false true = refl
+or-false false = refl
+
 unless : (t : Bool) (x : PauliNode) → isMalformed x ≡ false → isMalformed (cond t x Malformed) ≡ not t
 unless true x e = e
 unless false x e = refl
 
-unless₁ : (t : Bool) (x : PauliNode) → isMalformed x ≡ false → isMalformed (cond t x Malformed) ≡ not (t || false)
-unless₁ true x e = e
-unless₁ false x e = refl
-
-unless₂ : (t : Bool) (x : PauliNode) → isMalformed x ≡ false → isMalformed (cond t x Malformed) ≡ not (t || false || false)
-unless₂ true x e = e
-unless₂ false x e = refl
-
-or-false : (t : Bool) → t ≡ (t || false)
-or-false true = refl
-or-false false = refl
-
 by-kind : (k n i rest b : ℕ) → isMalformed (decodeAs k n i rest b)
     ≡ not ((eqb k 2 && ltb (nodeIn rest) i && ltb (nodeIn b) i) || (eqb k 1 && leb 1 rest && leb rest 3 && ltb b n) || (eqb k 0 && eqb rest 0 && eqb b 0))
 by-kind zero n i rest b = unless (eqb rest 0 && eqb b 0) _ refl
-by-kind (suc zero) n i rest b = unless₁ (leb 1 rest && leb rest 3 && ltb b n) _ refl
-by-kind (suc (suc zero)) n i rest b = unless₂ (ltb (nodeIn rest) i && ltb (nodeIn b) i) _ refl
+by-kind (suc zero) n i rest b = let t = leb 1 rest && leb rest 3 && ltb b n in unless t _ refl ∙ ap not (or-false t)
+by-kind (suc (suc zero)) n i rest b = let t = ltb (nodeIn rest) i && ltb (nodeIn b) i in unless t _ refl ∙ ap not (or-false t ∙ or-false (t || false))
 by-kind (suc (suc (suc k))) n i rest b = rw (ne-eqb (suc (suc (suc k))) 2 (λ e. omega arith), ne-eqb (suc (suc (suc k))) 1 (λ e. omega arith), ne-eqb (suc (suc (suc k))) 0 (λ e. omega arith))
 
 pub malformed-words : (n i a b : ℕ) → isMalformed (decode n i a b) ≡ not (isProduct i a b || isSingle n a b || isIdentity a b)

@@ -14,6 +14,7 @@ use Rattle.arena.specs.Store.{Header, foreign, unknown, exceedsOperation
 use Rattle.arena.specs.Expansion.{opAt, isBadOp, isNoSource, weighedOf}
 use Rattle.arena.specs.Code.Roots.{weighedAt}
 use Rattle.arena.specs.Code.Stored.{isRotation, isMeasurement, isConditional, isSource}
+use Rattle.arena.proofs.FormedNodes.{or-false}
 
 source-word : (g : ℕ) → isNoSource (sourceOf g) ≡ not (isSource g)
 unfolding sourceOf
@@ -24,26 +25,25 @@ source-word g = go (ltb g maxGates) (eqb g handMark)
     go false true = refl
     go false false = refl
 
--- a formed operation is as bad as its axis, or as its axis and its measurement; beside tests that fail
-alone : (h : Header) (t v : Bool) (op : PbcOp) → isBadOp h op ≡ v → isBadOp h (cond t op Malformed) ≡ (not (t || false || false) || v)
+-- a formed operation is as bad as its axis, or as its axis and its measurement
+alone : (h : Header) (t v : Bool) (op : PbcOp) → isBadOp h op ≡ v → isBadOp h (cond t op Malformed) ≡ (not t || v)
 alone h true v op e = e
 alone h false v op e = refl
 
-with-one : (h : Header) (t u v : Bool) (op : PbcOp) → isBadOp h op ≡ (v || u) → isBadOp h (cond t op Malformed) ≡ (not ((t && not u) || false) || v)
-with-one h false u v op e = refl
-with-one h true true true op e = e
-with-one h true true false op e = e
-with-one h true false true op e = e
-with-one h true false false op e = e
-
-with-last : (h : Header) (t u v : Bool) (op : PbcOp) → isBadOp h op ≡ (v || u) → isBadOp h (cond t op Malformed) ≡ (not (t && not u) || v)
-with-last h false u v op e = refl
-with-last h true true true op e = e
-with-last h true true false op e = e
-with-last h true false true op e = e
-with-last h true false false op e = e
+with-outcome : (h : Header) (t u v : Bool) (op : PbcOp) → isBadOp h op ≡ (v || u) → isBadOp h (cond t op Malformed) ≡ (not (t && not u) || v)
+with-outcome h false u v op e = refl
+with-outcome h true true true op e = e
+with-outcome h true true false op e = e
+with-outcome h true false true op e = e
+with-outcome h true false false op e = e
 
 module _ (h : Header) (w m t : ℕ) where
+  abbrev foreign-axis : Bool
+  foreign-axis = leb (h .nodes) (nodeIn w)
+
+  abbrev not-given : Bool
+  not-given = leb (h .measurements) m
+
   own-axis : foreign h (record { owner = h .owner; word = w }) ≡ leb (h .nodes) (nodeIn w)
   unfolding foreign
   own-axis = rw (eq-eqb (h .owner) (h .owner) refl)
@@ -55,9 +55,13 @@ module _ (h : Header) (w m t : ℕ) where
   by-kind : (k angle : ℕ) → isBadOp h (decodeOpAs k (h .owner) (h .cbits) angle w m t)
       ≡ (not ((eqb k 0 && ltb angle 8 && eqb m 0 && eqb t 0) || (eqb k 1 && eqb angle 0 && leb t (h .cbits) && not (leb (h .measurements) m))
       || (eqb k 2 && ltb angle 8 && eqb t 0 && not (leb (h .measurements) m))) || leb (h .nodes) (nodeIn w))
-  by-kind zero angle = alone h (ltb angle 8 && eqb m 0 && eqb t 0) (leb (h .nodes) (nodeIn w)) _ own-axis
-  by-kind (suc zero) angle = with-one h (eqb angle 0 && leb t (h .cbits)) (leb (h .measurements) m) (leb (h .nodes) (nodeIn w)) _ (ap₂ _||_ own-axis own-outcome)
-  by-kind (suc (suc zero)) angle = with-last h (ltb angle 8 && eqb t 0) (leb (h .measurements) m) (leb (h .nodes) (nodeIn w)) _ (ap₂ _||_ own-axis own-outcome)
+  by-kind zero angle =
+      let tested = ltb angle 8 && eqb m 0 && eqb t 0 in
+      alone h tested foreign-axis _ own-axis ∙ ap (λ (x : Bool). not x || foreign-axis) (or-false tested ∙ or-false (tested || false))
+  by-kind (suc zero) angle =
+      let tested = eqb angle 0 && leb t (h .cbits) in
+      with-outcome h tested not-given foreign-axis _ (ap₂ _||_ own-axis own-outcome) ∙ ap (λ (x : Bool). not x || foreign-axis) (or-false (tested && not not-given))
+  by-kind (suc (suc zero)) angle = with-outcome h (ltb angle 8 && eqb t 0) not-given foreign-axis _ (ap₂ _||_ own-axis own-outcome)
   by-kind (suc (suc (suc k))) angle =
       rw (ne-eqb (suc (suc (suc k))) 0 (λ e. omega arith), ne-eqb (suc (suc (suc k))) 1 (λ e. omega arith), ne-eqb (suc (suc (suc k))) 2 (λ e. omega arith))
 

@@ -30,13 +30,19 @@ axis-word-requires c κs = search needs
 
 write-root-requires : tie.Need-write-root-requires Inv-loop μ-loop
 write-root-requires c κs =
-    let axis-word = c .before .before .before .axis-word in
-    let loop-test = c .before .before .before .before .loop-test in
-    let the-loop = c .before .before .before .before .before .loop in
-    let args = c .before .before .before .before .before .before .before .before .before .before .before .before .args in
-    let pre = c .before .before .before .before .before .before .before .before .before .before .before .before .pre in (
-      axis-rooted (pre .0) (the-loop .inv (pre .0) .rest) (loop-test .taken) (axis-word .ensures (c .before .before .before .before .before .before .before .before .before .before .before .before .args .header) (pre .0 .sound _ (loop-test .taken))),
-      row-fits (pre .0) (args .rows .now) (pre .1) (the-loop .inv (pre .0)) (loop-test .taken) (axis-word .ensures (c .before .before .before .before .before .before .before .before .before .before .before .before .args .header) (pre .0 .sound _ (loop-test .taken))) .0,
+    let the-axis-word = c .before .before .before .axis-word in
+    let the-loop-test = c .before .before .before .before .loop-test in
+    let the-loop′ = c .before .before .before .before .before .loop in
+    let the-args = c .before .before .before .before .before .before .before .before .before .before .before .before .args in
+    let the-pre = c .before .before .before .before .before .before .before .before .before .before .before .before .pre in
+    let axis-word = the-axis-word in
+    let loop-test = the-loop-test in
+    let the-loop = the-loop′ in
+    let args = the-args in
+    let pre = the-pre in (
+      axis-rooted (pre .0) (the-loop .inv (pre .0) .rest) (loop-test .taken) (axis-word .ensures (the-args .header) (pre .0 .sound _ (loop-test .taken))),
+      row-fits (pre .0) (args .rows .now) (pre .1) (the-loop .inv (pre .0)) (loop-test .taken) (axis-word .ensures (the-args .header) (pre .0 .sound _
+          (loop-test .taken))) .0,
     )
 
 enum-known-e : tie.Need-enum-known-e Inv-loop μ-loop
@@ -65,33 +71,60 @@ same-length-3 c =
 
 returns : tie.Need-returns Inv-loop μ-loop
 returns c =
-    let e = c .before .e in
-    let write-root = c .before .before .before .before .before .before .before .before .before .write-root in
-    let axis-word = c .before .before .before .before .before .before .before .before .before .before .before .before .before .axis-word in
-    let loop-test = c .before .before .before .before .before .before .before .before .before .before .before .before .before .before .loop-test in
-    let the-loop = c .before .before .before .before .before .before .before .before .before .before .before .before .before .before .before .loop in
-    let args = c .before .before .before .before .before .before .before .before .before .before .before .before .before .before .before .before .before .before .before .before .before .before .args in
-    let pre = c .before .before .before .before .before .before .before .before .before .before .before .before .before .before .before .before .before .before .before .before .before .before .pre in
-    λ g. write-refused g (args .rows .now) (pre .1) (the-loop .inv g) (loop-test .taken) (axis-word .ensures (c .before .before .before .before .before .before .before .before .before .before .before .before .before .before .before .before .before .before .before .before .before .before .args .header) (g .sound _ (loop-test .taken)))
-    (write-root .ensures (axis-rooted g (the-loop .inv g .rest) (loop-test .taken) (axis-word .ensures (c .before .before .before .before .before .before .before .before .before .before .before .before .before .before .before .before .before .before .before .before .before .before .args .header) (g .sound _ (loop-test .taken))))) (ap evaluatedOut (e .given .1))
+    let the-e = c .before .e in
+    let the-write-root = c .before .before .before .before .before .before .before .before .before .write-root in
+    let the-axis-word = c .before .before .before .before .before .before .before .before .before .before .before .before .before .axis-word in
+    let the-loop-test = c .before .before .before .before .before .before .before .before .before .before .before .before .before .before .loop-test in
+    let back12 = c .before .before .before .before .before .before .before .before .before .before .before .before in
+    let the-loop′ = back12 .before .before .before .loop in
+    let the-args = back12 .before .before .before .before .before .before .before .before .before .before .args in
+    let the-pre = back12 .before .before .before .before .before .before .before .before .before .before .pre in
+    let e = the-e in
+    let write-root = the-write-root in
+    let axis-word = the-axis-word in
+    let loop-test = the-loop-test in
+    let the-loop = the-loop′ in
+    let args = the-args in
+    let pre = the-pre in
+    λ g. write-refused g (args .rows .now) (pre .1) (the-loop .inv g) (loop-test .taken) (axis-word .ensures (the-args .header) (g .sound _
+    (loop-test .taken)))
+    (write-root .ensures (axis-rooted g (the-loop .inv g .rest) (loop-test .taken) (axis-word .ensures (the-args .header) (g .sound _
+    (loop-test .taken))))) (ap evaluatedOut (e .given .1))
 
 enum-known-rest : tie.Need-enum-known-rest Inv-loop μ-loop
 enum-known-rest c = search needs
 
 add-at : tie.Need-add-at Inv-loop μ-loop
 add-at c =
-    let axis-word = c .before .before .before .before .before .before .before .before .before .before .before .before .before .axis-word in
-    let loop-test = c .before .before .before .before .before .before .before .before .before .before .before .before .before .before .loop-test in
-    let the-loop = c .before .before .before .before .before .before .before .before .before .before .before .before .before .before .before .loop in
-    let args = c .before .before .before .before .before .before .before .before .before .before .before .before .before .before .before .before .before .before .before .before .before .before .args in
-    let pre = c .before .before .before .before .before .before .before .before .before .before .before .before .before .before .before .before .before .before .before .before .before .before .pre in
-    let good = c .before .before .before .before .before .before .before .before .before .before .before .before .before .before .before .before .before .before .before .before .before .before .good in
-    record { fits = omega (arith, row-fits (pre .0) (args .rows .now) (pre .1) (the-loop .inv (pre .0)) (loop-test .taken) (axis-word .ensures (c .before .before .before .before .before .before .before .before .before .before .before .before .before .before .before .before .before .before .before .before .before .before .args .header) (pre .0 .sound _ (loop-test .taken))) .1, good) }
+    let the-axis-word = c .before .before .before .before .before .before .before .before .before .before .before .before .before .axis-word in
+    let the-loop-test = c .before .before .before .before .before .before .before .before .before .before .before .before .before .before .loop-test in
+    let back12 = c .before .before .before .before .before .before .before .before .before .before .before .before in
+    let the-loop′ = back12 .before .before .before .loop in
+    let the-args = back12 .before .before .before .before .before .before .before .before .before .before .args in
+    let the-pre = back12 .before .before .before .before .before .before .before .before .before .before .pre in
+    let the-good = back12 .before .before .before .before .before .before .before .before .before .before .good in
+    let axis-word = the-axis-word in
+    let loop-test = the-loop-test in
+    let the-loop = the-loop′ in
+    let args = the-args in
+    let pre = the-pre in
+    let good = the-good in
+    record {
+      fits = omega (
+        arith,
+        row-fits (pre .0) (args .rows .now) (pre .1) (the-loop .inv (pre .0)) (loop-test .taken) (axis-word .ensures
+            (the-args .header) (pre .0 .sound _ (loop-test .taken))) .1,
+        good,
+      );
+    }
 
 add-i : tie.Need-add-i Inv-loop μ-loop
 add-i c =
-    let loop-test = c .before .before .before .before .before .before .before .before .before .before .before .before .before .before .loop-test in
-    let good = c .before .before .before .before .before .before .before .before .before .before .before .before .before .before .before .before .before .before .before .before .before .before .good in
+    let the-loop-test = c .before .before .before .before .before .before .before .before .before .before .before .before .before .before .loop-test in
+    let back12 = c .before .before .before .before .before .before .before .before .before .before .before .before in
+    let the-good = back12 .before .before .before .before .before .before .before .before .before .before .good in
+    let loop-test = the-loop-test in
+    let good = the-good in
     record { fits = omega (arith, loop-test .taken, good .0) }
 
 loop-less : tie.Need-loop-less Inv-loop μ-loop
@@ -99,16 +132,27 @@ loop-less c = omega (arith, c .before .before .before .before .before .before .b
 
 loop-again : tie.Need-loop-again Inv-loop μ-loop
 loop-again c =
-    let rest = c .before .rest in
-    let write-root = c .before .before .before .before .before .before .before .before .before .write-root in
-    let axis-word = c .before .before .before .before .before .before .before .before .before .before .before .before .before .axis-word in
-    let loop-test = c .before .before .before .before .before .before .before .before .before .before .before .before .before .before .loop-test in
-    let the-loop = c .before .before .before .before .before .before .before .before .before .before .before .before .before .before .before .loop in
-    let args = c .before .before .before .before .before .before .before .before .before .before .before .before .before .before .before .before .before .before .before .before .before .before .args in
-    let pre = c .before .before .before .before .before .before .before .before .before .before .before .before .before .before .before .before .before .before .before .before .before .before .pre in
-    λ g. write-turn g (args .rows .now) (pre .1) (the-loop .inv g) (loop-test .taken) (axis-word .ensures (c .before .before .before .before .before .before .before .before .before .before .before .before .before .before .before .before .before .before .before .before .before .before .args .header) (g .sound _ (loop-test .taken)))
-    (write-root .ensures (axis-rooted g (the-loop .inv g .rest) (loop-test .taken) (axis-word .ensures (c .before .before .before .before .before .before .before .before .before .before .before .before .before .before .before .before .before .before .before .before .before .before .args .header) (g .sound _ (loop-test .taken))))) (ap evaluatedOut (rest .given .1)) refl
-    (write-root .kept .1 .1 .0 ∙ the-loop .inv g .rows-long) (write-root .kept .1 .1 .1 .0 ∙ the-loop .inv g .long) (write-root .kept .1 .1 .1 .1 .0 ∙ the-loop .inv g .pool-long)
+    let the-rest = c .before .rest in
+    let the-write-root = c .before .before .before .before .before .before .before .before .before .write-root in
+    let the-axis-word = c .before .before .before .before .before .before .before .before .before .before .before .before .before .axis-word in
+    let the-loop-test = c .before .before .before .before .before .before .before .before .before .before .before .before .before .before .loop-test in
+    let back12 = c .before .before .before .before .before .before .before .before .before .before .before .before in
+    let the-loop′ = back12 .before .before .before .loop in
+    let the-args = back12 .before .before .before .before .before .before .before .before .before .before .args in
+    let the-pre = back12 .before .before .before .before .before .before .before .before .before .before .pre in
+    let rest = the-rest in
+    let write-root = the-write-root in
+    let axis-word = the-axis-word in
+    let loop-test = the-loop-test in
+    let the-loop = the-loop′ in
+    let args = the-args in
+    let pre = the-pre in
+    λ g. write-turn g (args .rows .now) (pre .1) (the-loop .inv g) (loop-test .taken) (axis-word .ensures (the-args .header) (g .sound _
+    (loop-test .taken)))
+    (write-root .ensures (axis-rooted g (the-loop .inv g .rest) (loop-test .taken) (axis-word .ensures (the-args .header) (g .sound _
+    (loop-test .taken))))) (ap evaluatedOut (rest .given .1)) refl
+    (write-root .kept .1 .1 .0 ∙ the-loop .inv g .rows-long) (write-root .kept .1 .1 .1 .0 ∙ the-loop .inv g .long) (write-root .kept .1 .1 .1 .1 .0
+    ∙ the-loop .inv g .pool-long)
 
 same-length-4 : tie.Need-same-length-4 Inv-loop μ-loop
 same-length-4 c = c .before .loop .inv (c .before .before .before .before .before .before .before .before .pre .0) .rows-long
@@ -120,7 +164,11 @@ same-length-6 : tie.Need-same-length-6 Inv-loop μ-loop
 same-length-6 c = c .before .loop .inv (c .before .before .before .before .before .before .before .before .pre .0) .pool-long
 
 returns-2 : tie.Need-returns-2 Inv-loop μ-loop
-returns-2 c = λ g. write-end g (c .before .before .before .before .before .before .before .before .args .rows .now) (c .before .before .before .before .before .before .before .before .pre .1) (c .before .loop .inv g) (c .loop-test .left)
+returns-2 c =
+    let the-loop′ = c .before .loop in
+    let the-args = c .before .before .before .before .before .before .before .before .args in
+    let the-pre = c .before .before .before .before .before .before .before .before .pre in
+    λ g. write-end g (the-args .rows .now) (the-pre .1) (the-loop′ .inv g) (c .loop-test .left)
 
 pub write-axes-spec : {M : Type 1} → statement M
 write-axes-spec =

@@ -20,7 +20,10 @@ returns c =
     (args .cells) (c .if1 .taken) in (sym (ap expansionOf low), sym (ap (λ o. lettersLeft o (args .letters .now)) low))
 
 walk-root-requires : tie.Need-walk-root-requires
-walk-root-requires c κs = ready-of (c .before .before .before .before .before .before .before .before .args .word) (c .before .before .before .before .before .before .before .before .pre .0) (c .before .before .before .before .before .before .before .before .pre .1)
+walk-root-requires c κs =
+    let the-args = c .before .before .before .before .before .before .before .before .args in
+    let the-pre = c .before .before .before .before .before .before .before .before .pre in
+    ready-of (the-args .word) (the-pre .0) (the-pre .1)
 
 enum-known-e : tie.Need-enum-known-e
 enum-known-e c = search needs
@@ -73,17 +76,26 @@ same-length-5 c = c .before .before .before .before .before .before .before .bef
 
 returns-3 : tie.Need-returns-3
 returns-3 c =
-    let show = c .before .before .before .before .show in
-    let v = c .before .before .before .before .before .before .before .before .v in
-    let walk-root = c .before .before .before .before .before .before .before .before .before .before .before .before .before .before .walk-root in
-    let if1 = c .before .before .before .before .before .before .before .before .before .before .before .before .before .before .before .before .before .if1 in
-    let args = c .before .before .before .before .before .before .before .before .before .before .before .before .before .before .before .before .before .before .before .before .before .before .before .args in
-    let pre = c .before .before .before .before .before .before .before .before .before .before .before .before .before .before .before .before .before .before .before .before .before .before .before .pre in (
+    let the-show = c .before .before .before .before .show in
+    let the-v = c .before .before .before .before .before .before .before .before .v in
+    let the-walk-root = c .before .before .before .before .before .before .before .before .before .before .before .before .before .before .walk-root in
+    let back12 = c .before .before .before .before .before .before .before .before .before .before .before .before in
+    let the-if1 = back12 .before .before .before .before .before .if1 in
+    let the-args = back12 .before .before .before .before .before .before .before .before .before .before .before .args in
+    let the-pre = back12 .before .before .before .before .before .before .before .before .before .before .before .pre in
+    let show = the-show in
+    let v = the-v in
+    let walk-root = the-walk-root in
+    let if1 = the-if1 in
+    let args = the-args in
+    let pre = the-pre in (
       expand-answer (args .header .qubits) (args .header .nodes) (args .nodes .now) (args .word) (capOf (length (args .pool .now)) - 1)
-          (args .cells - args .header .qubits) (walk-root .ensures (ready-of (args .word) (pre .0) (pre .1)) (args .header .nodes) (pre .1)) (ap shownOut (v .given .1)) (args .cells)
+          (args .cells - args .header .qubits) (walk-root .ensures (ready-of (args .word) (pre .0) (pre .1)) (args .header .nodes) (pre .1)) (ap shownOut
+          (v .given .1)) (args .cells)
           (if1 .left) refl (c .power .ensures),
       expand-letters (args .header .qubits) (args .header .nodes) (args .nodes .now) (args .word) (capOf (length
-          (args .pool .now)) - 1) (args .cells - args .header .qubits) (walk-root .ensures (ready-of (args .word) (pre .0) (pre .1)) (args .header .nodes) (pre .1)) (ap shownOut
+          (args .pool .now)) - 1) (args .cells - args .header .qubits) (walk-root .ensures (ready-of (args .word) (pre .0) (pre .1)) (args .header .nodes)
+          (pre .1)) (ap shownOut
           (v .given .1)) (args .cells) (args .letters .now) _ (if1 .left) refl (show .ensures (to-show (args .header .qubits) (args .header .nodes)
           (args .nodes .now) (args .word) (capOf (length (args .pool .now)) - 1) (args .cells - args .header .qubits) (walk-root .ensures (ready-of
           (args .word) (pre .0) (pre .1)) (args .header .nodes) (pre .1)) (ap shownOut (v .given .1)))),

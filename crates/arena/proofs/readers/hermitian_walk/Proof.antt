@@ -15,7 +15,10 @@ cast-walk-root : tie.Need-cast-walk-root
 cast-walk-root c = search needs
 
 walk-root-requires : tie.Need-walk-root-requires
-walk-root-requires c κs = ready-of (c .before .before .before .before .before .before .args .reference .word) (c .before .before .before .before .before .before .pre .0) (c .before .before .before .before .before .before .pre .1)
+walk-root-requires c κs =
+    let the-args = c .before .before .before .before .before .before .args in
+    let the-pre = c .before .before .before .before .before .before .pre in
+    ready-of (the-args .reference .word) (the-pre .0) (the-pre .1)
 
 enum-known-e : tie.Need-enum-known-e
 enum-known-e c = search needs

@@ -27,7 +27,12 @@ same-length : tie.Need-same-length
 same-length c = search needs
 
 returns-2 : tie.Need-returns-2
-returns-2 c = put-here _ _ _ (c .before .before .before .before .before .before .args .letters .now) (c .before .before .wide .ensures ∙ c .before .before .before .qubit-of .ensures) (c .letter-of .ensures) (c .before .if1 .left)
+returns-2 c =
+    let if1 = c .before .if1 in
+    let wide = c .before .before .wide in
+    let qubit-of = c .before .before .before .qubit-of in
+    let args = c .before .before .before .before .before .before .args in
+    put-here _ _ _ (args .letters .now) (wide .ensures ∙ qubit-of .ensures) (c .letter-of .ensures) (if1 .left)
 
 pub put-letter-spec : {M : Type 1} → statement M
 put-letter-spec =

@@ -18,13 +18,21 @@ loop-holds c = λ g. put-begin g (c .before .before .args .n) (c .before .before
 
 put-letter-requires : tie.Need-put-letter-requires Inv-loop μ-loop
 put-letter-requires c κs =
-    let at = c .before .before .loop .inv (c .before .before .before .before .before .pre .0) in
-    let next = put-next (c .before .before .before .before .before .pre .0) (c .before .before .before .before .before .args .n) (c .before .before .before .before .before .args .letters .now) at (c .before .loop-test .taken) in
-    (next .lendable, next .letter-low, omega (arith, at .long, c .before .before .before .before .before .pre .1))
+    let loop-test = c .before .loop-test in
+    let the-loop = c .before .before .loop in
+    let pre = c .before .before .before .before .before .pre in
+    let args = c .before .before .before .before .before .args in
+    let at = the-loop .inv (pre .0) in
+    let next = put-next (pre .0) (args .n) (args .letters .now) at (loop-test .taken) in
+    (next .lendable, next .letter-low, omega (arith, at .long, pre .1))
 
 next-of-requires : tie.Need-next-of-requires Inv-loop μ-loop
 next-of-requires c κs =
-    let next = put-next (c .before .before .before .before .before .before .before .before .pre .0) (c .before .before .before .before .before .before .before .before .args .n) (c .before .before .before .before .before .before .before .before .args .letters .now) (c .before .before .before .before .before .loop .inv (c .before .before .before .before .before .before .before .before .pre .0)) (c .before .before .before .before .loop-test .taken) in
+    let loop-test = c .before .before .before .before .loop-test in
+    let the-loop = c .before .before .before .before .before .loop in
+    let pre = c .before .before .before .before .before .before .before .before .pre in
+    let args = c .before .before .before .before .before .before .before .before .args in
+    let next = put-next (pre .0) (args .n) (args .letters .now) (the-loop .inv (pre .0)) (loop-test .taken) in
     (next .lendable .low, omega (arith, next .lendable .room))
 
 sub-left : tie.Need-sub-left Inv-loop μ-loop
@@ -34,7 +42,12 @@ loop-less : tie.Need-loop-less Inv-loop μ-loop
 loop-less c = omega (arith, c .before .before .before .before .before .loop-test .taken)
 
 loop-again : tie.Need-loop-again Inv-loop μ-loop
-loop-again c = λ g. put-turn g (c .before .before .before .before .before .before .before .before .before .args .n) (c .before .before .before .before .before .before .before .before .before .args .letters .now) (c .before .before .before .before .before .before .loop .inv g) (c .before .before .before .before .before .loop-test .taken) (c .before .before .before .put-letter .ensures) (c .next-of .ensures)
+loop-again c =
+    let put-letter = c .before .before .before .put-letter in
+    let loop-test = c .before .before .before .before .before .loop-test in
+    let the-loop = c .before .before .before .before .before .before .loop in
+    let args = c .before .before .before .before .before .before .before .before .before .args in
+    λ g. put-turn g (args .n) (args .letters .now) (the-loop .inv g) (loop-test .taken) (put-letter .ensures) (c .next-of .ensures)
 
 same-length : tie.Need-same-length Inv-loop μ-loop
 same-length c = (c .before .loop .inv (c .before .before .before .before .pre .0)) .long

@@ -25,8 +25,12 @@ same-length c = search needs
 
 returns : tie.Need-returns
 returns c =
-    let zeros = zero-front (c .before .before .before .before .before .before .before .before .before .before .args .letters .now) _ (c .before .before .before .before .before .before .before .before .before .before .args .n) (c .before .before .before .before .before .before .before .before .before .before .pre .1) (c .before .before .before .before .before .before .zero-bytes .ensures) in
-    λ g. c .before .before .put-letters .ensures g ∙ ap (lettersPut (c .before .before .before .before .before .before .before .before .before .before .args .n) (g .fs)) zeros ∙ shown-along g (c .before .before .before .before .before .before .before .before .before .before .args .n) (c .before .before .before .before .before .before .before .before .before .before .args .letters .now)
+    let put-letters = c .before .before .put-letters in
+    let zero-bytes = c .before .before .before .before .before .before .zero-bytes in
+    let args = c .before .before .before .before .before .before .before .before .before .before .args in
+    let pre = c .before .before .before .before .before .before .before .before .before .before .pre in
+    let zeros = zero-front (args .letters .now) _ (args .n) (pre .1) (zero-bytes .ensures) in
+    λ g. put-letters .ensures g ∙ ap (lettersPut (args .n) (g .fs)) zeros ∙ shown-along g (args .n) (args .letters .now)
 
 pub show-spec : {M : Type 1} → statement M
 show-spec =

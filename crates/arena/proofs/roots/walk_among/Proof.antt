@@ -13,7 +13,11 @@ add-use-requires : tie.Need-add-use-requires
 add-use-requires c κs = add-fits (c .before .before .before .before .before .before .before .before .pre) (c .before .before .before .zero-all .ensures)
 
 begin-requires : tie.Need-begin-requires
-begin-requires c κs = rootable (c .before .before .before .before .before .before .before .before .before .before .before .before .before .pre) (c .before .before .before .before .before .before .before .before .zero-all .ensures) (c .before .before .before .before .add-use .ensures)
+begin-requires c κs =
+    let the-add-use = c .before .before .before .before .add-use in
+    let the-zero-all = c .before .before .before .before .before .before .before .before .zero-all in
+    let the-pre = c .before .before .before .before .before .before .before .before .before .before .before .before .before .pre in
+    rootable the-pre (the-zero-all .ensures) (the-add-use .ensures)
 
 enum-known-e : tie.Need-enum-known-e
 enum-known-e c = search needs
@@ -65,7 +69,10 @@ same-length-3 c =
     show-root .kept .1 .0 ∙ begin .kept .1 .0 ∙ add-use .kept .0 ∙ zero-all .kept .0
 
 same-length-4 : tie.Need-same-length-4
-same-length-4 c = c .before .before .before .before .show-root .kept .1 .1 .0 ∙ c .before .before .before .before .before .before .before .before .before .before .before .before .before .before .begin .kept .1 .1 .0
+same-length-4 c =
+    let the-show-root = c .before .before .before .before .show-root in
+    let the-begin = c .before .before .before .before .before .before .before .before .before .before .before .before .before .before .begin in
+    the-show-root .kept .1 .1 .0 ∙ the-begin .kept .1 .1 .0
 
 returns-2 : tie.Need-returns-2
 returns-2 c =

@@ -19,7 +19,10 @@ slice-relend-prefix-walk-among : tie.Need-slice-relend-prefix-walk-among
 slice-relend-prefix-walk-among c = search needs
 
 slice-aggregate-walk-among : tie.Need-slice-aggregate-walk-among
-slice-aggregate-walk-among c = sym (part-long (c .before .before .before .before .args .s .now) (4 * (c .before .before .before .before .args .w / 4 + 1)) (omega (arith, c .before .before .before .before .pre .long)))
+slice-aggregate-walk-among c =
+    let the-args = c .before .before .before .before .args in
+    let pre = c .before .before .before .before .pre in
+    sym (part-long (the-args .s .now) (4 * (the-args .w / 4 + 1)) (omega (arith, pre .long)))
 
 walk-among-requires : tie.Need-walk-among-requires
 walk-among-requires c κs = ready-part (c .before .before .before .before .before .pre) refl
@@ -32,8 +35,11 @@ same-length-2 c = search needs
 
 returns : tie.Need-returns
 returns c =
-    let args = c .before .before .before .before .before .before .before .before .before .before .args in
-    λ g count named. whole-walk (args .limit) (capOf (length (args .pool .now)) - 1) (g .n) (args .nodes .now) (args .w) count named (c .before .before .before .before .walk-among .ensures (ready-part g refl))
+    let walk-among = c .before .before .before .before .walk-among in
+    let the-args = c .before .before .before .before .before .before .before .before .before .before .args in
+    let args = the-args in
+    λ g count named. whole-walk (args .limit) (capOf (length (args .pool .now)) - 1) (g .n) (args .nodes .now) (args .w) count named
+    (walk-among .ensures (ready-part g refl))
 
 pub walk-root-spec : {M : Type 1} → statement M
 walk-root-spec =

@@ -53,8 +53,13 @@ loop-less c = omega (arith, c .before .before .before .loop-test .taken)
 
 loop-again : tie.Need-loop-again Inv-loop μ-loop
 loop-again c =
-    let inv = c .before .before .before .before .loop .inv in
-    (omega (arith, c .before .before .before .loop-test .taken), omega (arith, inv .1), λ n. rw (add-one (c .before .before .before .before .loop .i)) (products-more n _ _ _ _ _ _ (inv .1) (inv .2 n) (c .is-product .ensures)))
+    let loop-test = c .before .before .before .loop-test in
+    let the-loop = c .before .before .before .before .loop in
+    let inv = the-loop .inv in (
+      omega (arith, loop-test .taken),
+      omega (arith, inv .1),
+      λ n. rw (add-one (the-loop .i)) (products-more n _ _ _ _ _ _ (inv .1) (inv .2 n) (c .is-product .ensures)),
+    )
 
 returns : tie.Need-returns Inv-loop μ-loop
 returns c =

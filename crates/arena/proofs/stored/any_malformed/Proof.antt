@@ -49,8 +49,13 @@ loop-less c = omega (arith, c .before .before .before .loop-test .taken)
 
 loop-again : tie.Need-loop-again Inv-loop μ-loop
 loop-again c =
-    let inv = c .before .before .before .before .loop .inv in
-    (omega (arith, c .before .before .before .loop-test .taken), omega (arith, inv .1), rw (add-one (c .before .before .before .before .loop .i)) (malformed-more _ _ _ _ _ _ (inv .1) (inv .2) (c .is-malformed .ensures)))
+    let loop-test = c .before .before .before .loop-test in
+    let the-loop = c .before .before .before .before .loop in
+    let inv = the-loop .inv in (
+      omega (arith, loop-test .taken),
+      omega (arith, inv .1),
+      rw (add-one (the-loop .i)) (malformed-more _ _ _ _ _ _ (inv .1) (inv .2) (c .is-malformed .ensures)),
+    )
 
 returns : tie.Need-returns Inv-loop μ-loop
 returns c =

@@ -27,7 +27,12 @@ any-malformed-requires c κs =
     omega (arith, lent .1, c .deciding .ensures .0)
 
 returns-2 : tie.Need-returns-2
-returns-2 c = (c .any-malformed .ensures ∙ c .before .deciding .ensures .1) ∙ or-on _ _ (sym (ap₂ _||_ (c .before .before .before .before .breaks-limit .ensures) (c .before .before .before .exceeds-nodes .ensures)) ∙ c .before .before .if1 .left)
+returns-2 c =
+    let deciding = c .before .deciding in
+    let if1 = c .before .before .if1 in
+    let exceeds-nodes = c .before .before .before .exceeds-nodes in
+    let breaks-limit = c .before .before .before .before .breaks-limit in
+    (c .any-malformed .ensures ∙ deciding .ensures .1) ∙ or-on _ _ (sym (ap₂ _||_ (breaks-limit .ensures) (exceeds-nodes .ensures)) ∙ if1 .left)
 
 pub bad-nodes-spec : {M : Type 1} → statement M
 bad-nodes-spec =

@@ -22,7 +22,14 @@ axis-word-requires : tie.Need-axis-word-requires Inv-loop μ-loop
 axis-word-requires c κs = search needs
 
 add-use-requires : tie.Need-add-use-requires Inv-loop μ-loop
-add-use-requires c κs = count-fits (c .before .before .before .before .before .before .pre) (c .before .before .before .loop .inv (c .before .before .before .before .before .before .args .header) refl (c .before .before .before .before .before .before .pre)) (c .before .before .loop-test .taken) (c .before .axis-word .ensures (c .before .before .before .before .before .before .args .header) (c .before .before .before .before .before .before .pre .sound (c .before .before .before .loop .i) (c .before .before .loop-test .taken)))
+add-use-requires c κs =
+    let axis-word = c .before .axis-word in
+    let loop-test = c .before .before .loop-test in
+    let the-loop = c .before .before .before .loop in
+    let pre = c .before .before .before .before .before .before .pre in
+    let args = c .before .before .before .before .before .before .args in
+    count-fits pre (the-loop .inv (args .header) refl pre) (loop-test .taken) (axis-word .ensures (args .header) (pre .sound (the-loop .i)
+    (loop-test .taken)))
 
 add-i : tie.Need-add-i Inv-loop μ-loop
 add-i c = search needs
@@ -31,15 +38,24 @@ loop-less : tie.Need-loop-less Inv-loop μ-loop
 loop-less c = omega (arith, c .before .before .before .before .before .loop-test .taken)
 
 loop-again : tie.Need-loop-again Inv-loop μ-loop
-loop-again c = λ h e g.
-    let lt : c .before .before .before .before .before .before .loop .i < h .operations = omega (arith, c .before .before .before .before .before .loop-test .taken, e) in
-    count-turn g (c .before .before .before .before .before .before .loop .inv h e g) lt (c .before .before .before .before .axis-word .ensures h (g .sound (c .before .before .before .before .before .before .loop .i) lt)) (c .before .before .add-use .ensures)
+loop-again c =
+    let add-use = c .before .before .add-use in
+    let axis-word = c .before .before .before .before .axis-word in
+    let loop-test = c .before .before .before .before .before .loop-test in
+    let the-loop = c .before .before .before .before .before .before .loop in
+    λ h e g.
+    let lt : the-loop .i < h .operations = omega (arith, loop-test .taken, e) in
+    count-turn g (the-loop .inv h e g) lt (axis-word .ensures h (g .sound (the-loop .i) lt)) (add-use .ensures)
 
 same-length : tie.Need-same-length Inv-loop μ-loop
 same-length c = (c .before .loop .inv (c .before .before .before .before .args .header) refl (c .before .before .before .before .pre)) .long
 
 returns : tie.Need-returns Inv-loop μ-loop
-returns c = count-end (c .before .before .before .before .pre) (c .before .loop .inv (c .before .before .before .before .args .header) refl (c .before .before .before .before .pre)) (c .loop-test .left)
+returns c =
+    let the-loop = c .before .loop in
+    let pre = c .before .before .before .before .pre in
+    let args = c .before .before .before .before .args in
+    count-end pre (the-loop .inv (args .header) refl pre) (c .loop-test .left)
 
 pub count-axes-spec : {M : Type 1} → statement M
 count-axes-spec =

@@ -23,11 +23,16 @@ axis-at-requires c κs = search needs
 
 weigh-root-requires : tie.Need-weigh-root-requires Inv-loop μ-loop
 weigh-root-requires c κs =
-    let axis-at = c .before .before .axis-at in
-    let loop-test = c .before .before .before .loop-test in
-    let the-loop = c .before .before .before .before .loop in
-    let pre = c .before .before .before .before .before .before .before .before .before .pre in
-    axis-rooted pre (the-loop .inv pre .rest) (loop-test .taken) (axis-at .ensures .0 (c .before .before .before .before .before .before .before .before .before .args .header) (pre .sound _ (loop-test .taken)))
+    let the-axis-at = c .before .before .axis-at in
+    let the-loop-test = c .before .before .before .loop-test in
+    let the-loop′ = c .before .before .before .before .loop in
+    let the-pre = c .before .before .before .before .before .before .before .before .before .pre in
+    let args = c .before .before .before .before .before .before .before .before .before .args in
+    let axis-at = the-axis-at in
+    let loop-test = the-loop-test in
+    let the-loop = the-loop′ in
+    let pre = the-pre in
+    axis-rooted pre (the-loop .inv pre .rest) (loop-test .taken) (axis-at .ensures .0 (args .header) (pre .sound _ (loop-test .taken)))
 
 enum-known-e : tie.Need-enum-known-e Inv-loop μ-loop
 enum-known-e c = search needs
@@ -48,13 +53,21 @@ same-length-2 c =
 
 returns : tie.Need-returns Inv-loop μ-loop
 returns c =
-    let e = c .before .e in
-    let weigh-root = c .before .before .before .before .before .before .before .weigh-root in
-    let axis-at = c .before .before .before .before .before .before .before .before .before .before .axis-at in
-    let loop-test = c .before .before .before .before .before .before .before .before .before .before .before .loop-test in
-    let the-loop = c .before .before .before .before .before .before .before .before .before .before .before .before .loop in
-    λ g. weigh-refused g (the-loop .inv g) (loop-test .taken) (axis-at .ensures .0 (c .before .before .before .before .before .before .before .before .before .before .before .before .before .before .before .before .before .args .header) (g .sound _ (loop-test .taken))) (weigh-root .ensures (axis-rooted g (the-loop .inv g .rest)
-    (loop-test .taken) (axis-at .ensures .0 (c .before .before .before .before .before .before .before .before .before .before .before .before .before .before .before .before .before .args .header) (g .sound _ (loop-test .taken))))) (ap axisWeightOut (e .given .1))
+    let the-e = c .before .e in
+    let the-weigh-root = c .before .before .before .before .before .before .before .weigh-root in
+    let the-axis-at = c .before .before .before .before .before .before .before .before .before .before .axis-at in
+    let the-loop-test = c .before .before .before .before .before .before .before .before .before .before .before .loop-test in
+    let the-loop′ = c .before .before .before .before .before .before .before .before .before .before .before .before .loop in
+    let back12 = c .before .before .before .before .before .before .before .before .before .before .before .before in
+    let args = back12 .before .before .before .before .before .args in
+    let e = the-e in
+    let weigh-root = the-weigh-root in
+    let axis-at = the-axis-at in
+    let loop-test = the-loop-test in
+    let the-loop = the-loop′ in
+    λ g. weigh-refused g (the-loop .inv g) (loop-test .taken) (axis-at .ensures .0 (args .header) (g .sound _ (loop-test .taken))) (weigh-root .ensures
+    (axis-rooted g (the-loop .inv g .rest)
+    (loop-test .taken) (axis-at .ensures .0 (args .header) (g .sound _ (loop-test .taken))))) (ap axisWeightOut (e .given .1))
 
 enum-known-k : tie.Need-enum-known-k Inv-loop μ-loop
 enum-known-k c = search needs
@@ -76,14 +89,24 @@ loop-less c = omega (arith, c .before .before .before .before .before .before .b
 
 loop-again : tie.Need-loop-again Inv-loop μ-loop
 loop-again c =
-    let raised = c .before .raised in
-    let k = c .before .before .before .before .k in
-    let weigh-root = c .before .before .before .before .before .before .before .before .before .before .weigh-root in
-    let axis-at = c .before .before .before .before .before .before .before .before .before .before .before .before .before .axis-at in
-    let loop-test = c .before .before .before .before .before .before .before .before .before .before .before .before .before .before .loop-test in
-    let the-loop = c .before .before .before .before .before .before .before .before .before .before .before .before .before .before .before .loop in
-    λ g. weigh-turn g (the-loop .inv g) (loop-test .taken) (axis-at .ensures .0 (c .before .before .before .before .before .before .before .before .before .before .before .before .before .before .before .before .before .before .before .before .args .header) (g .sound _ (loop-test .taken))) (weigh-root .ensures (axis-rooted g (the-loop .inv g .rest)
-    (loop-test .taken) (axis-at .ensures .0 (c .before .before .before .before .before .before .before .before .before .before .before .before .before .before .before .before .before .before .before .before .args .header) (g .sound _ (loop-test .taken))))) (ap axisWeightOut (k .given .1)) (axis-at .ensures .1 (c .before .before .before .before .before .before .before .before .before .before .before .before .before .before .before .before .before .before .before .before .args .header) (g .sound _ (loop-test .taken))) (weigh-root .kept .1 .1 .0 ∙ the-loop .inv g .long)
+    let the-raised = c .before .raised in
+    let the-k = c .before .before .before .before .k in
+    let the-weigh-root = c .before .before .before .before .before .before .before .before .before .before .weigh-root in
+    let the-axis-at = c .before .before .before .before .before .before .before .before .before .before .before .before .before .axis-at in
+    let the-loop-test = c .before .before .before .before .before .before .before .before .before .before .before .before .before .before .loop-test in
+    let back12 = c .before .before .before .before .before .before .before .before .before .before .before .before in
+    let the-loop′ = back12 .before .before .before .loop in
+    let args = back12 .before .before .before .before .before .before .before .before .args in
+    let raised = the-raised in
+    let k = the-k in
+    let weigh-root = the-weigh-root in
+    let axis-at = the-axis-at in
+    let loop-test = the-loop-test in
+    let the-loop = the-loop′ in
+    λ g. weigh-turn g (the-loop .inv g) (loop-test .taken) (axis-at .ensures .0 (args .header) (g .sound _ (loop-test .taken))) (weigh-root .ensures
+    (axis-rooted g (the-loop .inv g .rest)
+    (loop-test .taken) (axis-at .ensures .0 (args .header) (g .sound _ (loop-test .taken))))) (ap axisWeightOut (k .given .1)) (axis-at .ensures .1
+    (args .header) (g .sound _ (loop-test .taken))) (weigh-root .kept .1 .1 .0 ∙ the-loop .inv g .long)
     (weigh-root .kept .1 .1 .1 .0 ∙ the-loop .inv g .pool-long) (raised .ensures) (c .raised2 .ensures)
 
 same-length-3 : tie.Need-same-length-3 Inv-loop μ-loop

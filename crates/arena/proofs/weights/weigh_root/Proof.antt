@@ -33,13 +33,23 @@ same-length-2 : tie.Need-same-length-2
 same-length-2 c = c .before .before .before .before .before .before .before .show-root .kept .1 .1 .0
 
 returns : tie.Need-returns
-returns c = λ g. weight-refused (c .before .before .before .before .before .before .before .before .before .before .before .before .before .before .args .w) g (c .before .before .before .before .before .before .before .show-root .ensures g) (ap shownOut (c .before .e .given .1))
+returns c =
+    let e = c .before .e in
+    let the-show-root = c .before .before .before .before .before .before .before .show-root in
+    let the-args = c .before .before .before .before .before .before .before .before .before .before .before .before .before .before .args in
+    λ g. weight-refused (the-args .w) g (the-show-root .ensures g) (ap shownOut (e .given .1))
 
 same-length-3 : tie.Need-same-length-3
-same-length-3 c = c .before .before .before .before .release .kept .0 ∙ c .before .before .before .before .before .before .before .before .before .before .before .before .before .before .show-root .kept .1 .0
+same-length-3 c =
+    let the-release = c .before .before .before .before .release in
+    let the-show-root = c .before .before .before .before .before .before .before .before .before .before .before .before .before .before .show-root in
+    the-release .kept .0 ∙ the-show-root .kept .1 .0
 
 same-length-4 : tie.Need-same-length-4
-same-length-4 c = c .before .before .before .before .release .kept .1 .0 ∙ c .before .before .before .before .before .before .before .before .before .before .before .before .before .before .show-root .kept .1 .1 .0
+same-length-4 c =
+    let the-release = c .before .before .before .before .release in
+    let the-show-root = c .before .before .before .before .before .before .before .before .before .before .before .before .before .before .show-root in
+    the-release .kept .1 .0 ∙ the-show-root .kept .1 .1 .0
 
 returns-2 : tie.Need-returns-2
 returns-2 c =
