@@ -10,9 +10,10 @@ use crate::planes::heavy_by;
 use crate::planes::plane_record;
 use crate::planes::planes_by;
 use crate::planes::reset;
+use crate::planes::restore_since;
 ghost use mathlib.Core.Path.{_≡_};
-ghost use mathlib.Core.Bool.{true};
-ghost use Prim.Native.Nat.{ℕ, _+_, _*_, _/_, _<_, _≤_};
+ghost use mathlib.Core.Bool.{true, cond};
+ghost use Prim.Native.Nat.{ℕ, _+_, _-_, _*_, _/_, _<_, _≤_};
 ghost use lib.ListN.{length, getD};
 ghost use Rattle.pauli.specs.Table.{start};
 ghost use Rattle.convert.specs.Records.{GateKind, AtMost, lowerAs, AllProper, records};
@@ -20,6 +21,7 @@ ghost use Rattle.arena.specs.Limits.{maxQubits};
 ghost use Rattle.convert.specs.Conversion.{maxGateWords};
 ghost use Rattle.convert.specs.Planes.{partWords};
 ghost use Rattle.convert.specs.Code.Raw.{needed, costOf, costs, isCapped, refreshed, mayFlush, mostNeeded, planesFor, Decided, Fits, countFor, plainLast, needsLast};
+ghost use Rattle.convert.specs.Code.RawPlanes.{Since};
 ghost use Rattle.convert.specs.Code.Tables.{tableOf, packedCost, sumOver, formOf};
 
 /// Nodes and operations; and those that a flush of the pending gates writes, its joint nodes and its rotations.
@@ -116,7 +118,32 @@ fn decide_under(
     flushed
 }
 
-// Under a cap, by the record's form: no jump.
+// A refresh where only the records from one to another may have changed the planes: where they are few, only what they touch is restored.
+fn refresh_since(
+    planes: &mut [u64],
+    n: usize,
+    l: usize,
+    flushed: bool,
+    gates: &[u32],
+    from: usize,
+    to: usize,
+)
+    requires { ⌜ (l ≡ partWords n) × ((n + n) * (l + l) ≤ length (now planes)) × (n ≤ maxQubits) ⌝ }
+    requires { ⌜ (from ≤ to) × (to ≤ length (now gates) / 4) ⌝ }
+    requires { ⌜ Since n l (now planes) (now gates) from (to - from) ⌝ }
+    ensures { λ _. ⌜ now (planes .exit) ≡ refreshed flushed n l (now (planes .entry)) ⌝ }
+{
+    if !flushed {
+        return;
+    }
+    if n / 4 <= to - from {
+        reset(planes, n, l);
+        return;
+    }
+    restore_since(planes, n, l, gates, from, to);
+}
+
+// Under a cap, by the form of record `to`, where the last flush came before record `from`: no jump.
 fn tested_by(
     planes: &mut [u64],
     n: usize,
@@ -127,18 +154,24 @@ fn tested_by(
     a: usize,
     b: usize,
     d: usize,
+    gates: &[u32],
+    from: usize,
+    to: usize,
 ) -> bool
     requires { ⌜ AllProper n (b + 1) (lowerAs kind a b d) ⌝ }
     requires { ⌜ (l ≡ partWords n) × ((n + n) * (l + l) ≤ length (now planes)) × (n ≤ maxQubits) ⌝ }
     requires { ⌜ form ≡ formOf kind ⌝ }
+    requires { ⌜ (from ≤ to) × (to < length (now gates) / 4) × (a ≡ getD (now gates) (4 * to + 1) 0) × (b ≡ getD (now gates) (4 * to + 2) 0) ⌝ }
+    requires { ⌜ Since n l (now planes) (now gates) from (to - from) ⌝ }
     ensures { λ r. ⌜ Decided n (AtMost most) kind a b d (now (planes .entry)) r (now (planes .exit)) ⌝ }
+    ensures { λ r. ⌜ Since n l (now (planes .exit)) (now (gates .entry)) (cond r to from) (to + 1 - cond r to from) ⌝ }
 {
     if form & 7200 == 0 {
         planes_by(planes, n, l, form, kind, a, b);
         return false;
     }
     let flushed = heavy_by(planes, n, l, most, form, kind, a, b, d);
-    refresh(planes, n, l, flushed);
+    refresh_since(planes, n, l, flushed, gates, from, to);
     flushed
 }
 
@@ -153,15 +186,21 @@ pub(crate) fn decide_by(
     a: usize,
     b: usize,
     d: usize,
+    gates: &[u32],
+    from: usize,
+    to: usize,
 ) -> bool
     requires { ⌜ AllProper n (b + 1) (lowerAs kind a b d) ⌝ }
     requires { ⌜ (l ≡ partWords n) × (isCapped cap ≡ true → (n + n) * (l + l) ≤ length (now planes)) × (n ≤ maxQubits) ⌝ }
     requires { ⌜ form ≡ formOf kind ⌝ }
+    requires { ⌜ (from ≤ to) × (to < length (now gates) / 4) × (a ≡ getD (now gates) (4 * to + 1) 0) × (b ≡ getD (now gates) (4 * to + 2) 0) ⌝ }
+    requires { ⌜ (isCapped cap ≡ true → Since n l (now planes) (now gates) from (to - from)) ⌝ }
     ensures { λ r. ⌜ Decided n cap kind a b d (now (planes .entry)) r (now (planes .exit)) ⌝ }
+    ensures { λ r. ⌜ (isCapped cap ≡ true → Since n l (now (planes .exit)) (now (gates .entry)) (cond r to from) (to + 1 - cond r to from)) ⌝ }
 {
     match cap {
         Cap::None => false,
-        Cap::AtMost(most) => tested_by(planes, n, l, most, form, kind, a, b, d),
+        Cap::AtMost(most) => tested_by(planes, n, l, most, form, kind, a, b, d, gates, from, to),
     }
 }
 

@@ -3,11 +3,12 @@
 
 use crate::form::place_if;
 use crate::gate::GateKind;
+use crate::gate::operand_at;
 ghost use mathlib.Core.Path.{_≡_};
 ghost use mathlib.Core.List.{List, _++_};
-ghost use Prim.Native.Nat.{ℕ, suc, _+_, _*_, _/_, _%_, _<_, _≤_, _^_};
+ghost use Prim.Native.Nat.{ℕ, _+_, _-_, _*_, _/_, _<_, _≤_, _^_};
 ghost use lib.Bits.{bitOr};
-ghost use lib.ListN.{length, getD, set};
+ghost use lib.ListN.{length, getD};
 ghost use Rattle.pauli.specs.Gates.{AllValid, gateH, gateS};
 ghost use Rattle.pauli.specs.Rows.{Row};
 ghost use Rattle.convert.specs.Records.{AtMost, lowerAs, AllProper};
@@ -15,7 +16,7 @@ ghost use Rattle.arena.specs.Limits.{maxQubits};
 ghost use Rattle.convert.specs.Planes.{partWords, packed};
 ghost use Rattle.convert.specs.Code.Raw.{recordGates, testsOf, anyExceeds};
 ghost use Rattle.convert.specs.Code.Tables.{formOf, pairGate};
-ghost use Rattle.convert.specs.Code.RawPlanes.{Wide, planeRun, xorTo, swapTo, weightTo, anyOf, unionTo, picked, joined, planeStep, planeReset, clearTo, sevenAbove};
+ghost use Rattle.convert.specs.Code.RawPlanes.{Wide, planeRun, xorTo, swapTo, weightTo, anyOf, unionTo, picked, joined, planeStep, planeReset, clearTo, markAt, Restored, Since, sevenAbove};
 
 fn xor_into(planes: &mut [u64], l: usize, i: usize, j: usize)
     requires { ⌜ (i * (l + l) + (l + l) ≤ length (now planes)) × (j * (l + l) + (l + l) ≤ length (now planes)) ⌝ }
@@ -159,13 +160,13 @@ fn plane_pair(planes: &mut [u64], n: usize, l: usize, cz: bool, c: usize, t: usi
     xor_into(planes, l, place_if(cz, t + t, t + t + 1), c + c + 1);
 }
 
-fn clear(planes: &mut [u64], count: usize)
-    requires { ⌜ count ≤ length (now planes) ⌝ }
-    ensures { λ _. ⌜ now (planes .exit) ≡ clearTo (now (planes .entry)) count ⌝ }
+fn clear(planes: &mut [u64], first: usize, count: usize)
+    requires { ⌜ first + count ≤ length (now planes) ⌝ }
+    ensures { λ _. ⌜ now (planes .exit) ≡ clearTo (now (planes .entry)) first count ⌝ }
 {
     let mut k: usize = 0;
     while k < count {
-        planes[k] = 0;
+        planes[first + k] = 0;
         k += 1;
     }
 }
@@ -180,7 +181,7 @@ fn bit(k: usize) -> u64
 // X and Z of qubit q.
 fn mark(planes: &mut [u64], n: usize, l: usize, q: usize)
     requires { ⌜ (q < n) × (q / 64 < l) × ((n + n) * (l + l) ≤ length (now planes)) × (n ≤ maxQubits) ⌝ }
-    ensures { λ _. ⌜ now (planes .exit) ≡ set (set (now (planes .entry)) ((q + q) * (l + l) + q / 64) (2 ^ (q % 64))) (suc (q + q) * (l + l) + (l + q / 64)) (2 ^ (q % 64)) ⌝ }
+    ensures { λ _. ⌜ now (planes .exit) ≡ markAt (now (planes .entry)) l q ⌝ }
 {
     let w = bit(q % 64);
     let x = (q + q) * (l + l) + q / 64;
@@ -193,11 +194,46 @@ pub(crate) fn reset(planes: &mut [u64], n: usize, l: usize)
     requires { ⌜ ((n + 63) / 64 ≤ l) × (l ≤ 4) × ((n + n) * (l + l) ≤ length (now planes)) × (n ≤ maxQubits) ⌝ }
     ensures { λ _. ⌜ now (planes .exit) ≡ planeReset n l (now (planes .entry)) ⌝ }
 {
-    clear(planes, (n + n) * (l + l));
+    clear(planes, 0, (n + n) * (l + l));
     let mut q: usize = 0;
     while q < n {
         mark(planes, n, l, q);
         q += 1;
+    }
+}
+
+// The images of a qubit as at the start, if it is below n.
+fn restore(planes: &mut [u64], n: usize, l: usize, q: usize)
+    requires { ⌜ (l ≡ partWords n) × ((n + n) * (l + l) ≤ length (now planes)) × (n ≤ maxQubits) ⌝ }
+    ensures { λ _. ⌜ Restored n l q (now (planes .entry)) (now (planes .exit)) ⌝ }
+{
+    if n <= q {
+        return;
+    }
+    clear(planes, (q + q) * (l + l), (l + l) + (l + l));
+    mark(planes, n, l, q);
+}
+
+// All planes as at the start, where only the records from one to another may have changed them. Not every second operand is a qubit of the gate:
+// to restore one too many changes nothing.
+pub(crate) fn restore_since(
+    planes: &mut [u64],
+    n: usize,
+    l: usize,
+    gates: &[u32],
+    from: usize,
+    to: usize,
+)
+    requires { ⌜ (l ≡ partWords n) × ((n + n) * (l + l) ≤ length (now planes)) × (n ≤ maxQubits) ⌝ }
+    requires { ⌜ (from ≤ to) × (to ≤ length (now gates) / 4) ⌝ }
+    requires { ⌜ Since n l (now planes) (now gates) from (to - from) ⌝ }
+    ensures { λ _. ⌜ now (planes .exit) ≡ planeReset n l (now (planes .entry)) ⌝ }
+{
+    let mut i = from;
+    while i < to {
+        restore(planes, n, l, operand_at(gates, i, 1));
+        restore(planes, n, l, operand_at(gates, i, 2));
+        i += 1;
     }
 }
 

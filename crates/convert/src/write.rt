@@ -273,7 +273,7 @@ pub(crate) fn write_records(
         let d = operand_at(gates, i, 3);
         let number = number_at(gates, i);
         let form = table[number];
-        let flushed = decide_by(planes, n, l, cap, form, kind, a, b, d);
+        let flushed = decide_by(planes, n, l, cap, form, kind, a, b, d, gates, place, i);
         let w1 = flush_if(
             flushed,
             w,

@@ -15,9 +15,11 @@ use Rattle.convert.specs.Plain.{Plain, flushFrom, plainBegin, plainStep,
 use Rattle.convert.specs.Frame.{startArena, gateNodes, total}
 use Rattle.convert.specs.Words.{Words, startWords, flushWords, wordRun}
 use Rattle.convert.specs.Code.Needs.{Needs, writtenNodes, writtenOps, needStep, needRun}
-use Rattle.convert.specs.Code.RawPlanes.{Wide}
-use Rattle.convert.specs.Code.Raw.{recordGates, recordFrom, flushedNodes, flushedOps, planesFor, Decided, Fits, Small, FrameReady, Ran, FlushReady, FlushedIf, RecordReady, gatesOver, anyExceeds, costOf, loneNodes, measuresOf, needsOf, putRecord, putSeven, putFour, putRows, Writing, writing, plainLast, wordsLast, needsLast, Room}
+use Rattle.convert.specs.Planes.{partWords}
+use Rattle.convert.specs.Code.RawPlanes.{Wide, Since}
+use Rattle.convert.specs.Code.Raw.{isCapped, recordGates, recordFrom, flushedNodes, flushedOps, planesFor, Decided, Fits, Small, FrameReady, Ran, FlushReady, FlushedIf, RecordReady, gatesOver, anyExceeds, costOf, loneNodes, measuresOf, needsOf, putRecord, putSeven, putFour, putRows, Writing, writing, plainLast, wordsLast, needsLast, Room}
 use Rattle.convert.proofs.meaning.Words.{without-append, without-from, valid-append}
+use Rattle.convert.proofs.packed.Since.{since-start}
 use Rattle.convert.proofs.packed.Deciding.{valid-of, wide-start}
 use Rattle.convert.proofs.counts.RecordSteps.{unplaced, bare-unplaced, run-append, need-append, word-append, One, one-record, framed, writeRecord, needs-eq}
 use Rattle.convert.proofs.counts.Rest.{rest-more, rest-end, wide-went, restOf}
@@ -164,6 +166,7 @@ pub record WriteAt (n : ℕ) (cap : Cap) (gs ns₀ fs₀ os₀ ps₀ : List ℕ)
   pub few : given ≤ i
   pub pending : unplaced (plain .pending) ≡ gatesOver gs place (i - place)
   pub past : place ≤ i
+  pub since : isCapped cap ≡ true → Since n (partWords n) ps gs place (i - place)
   pub ends : plainRun flushFrom n cap (restOf gs i) plain ≡ plainLast n cap gs
   pub leads : wordRun n cap (restOf gs i) plain words ≡ wordsLast n cap gs
   pub totals : needRun n cap (restOf gs i) plain (needsOf c u) ≡ needsLast n cap gs
@@ -190,6 +193,7 @@ write-start n cap gs ns fs os ps h en ef ep = record {
   few = omega arith;
   pending = refl;
   past = omega arith;
+  since = since-start n cap ps gs 0 0 ep;
   ends = refl;
   leads = refl;
   totals = refl;
@@ -295,8 +299,9 @@ module _ (n : ℕ) (cap : Cap) (gs ns₀ fs₀ os₀ ps₀ : List ℕ) (c : ℕ)
       pub write-more : (c₃ : ℕ) (ns₃ : List ℕ) (u₃ : ℕ) (os₃ ps₃ : List ℕ) (given₃ place₃ : ℕ)
           → writing c₃ ns₃ u₃ os₃ ≡ putRecord n given i kindI aI bI dI fs₂ (writing c₂ ns₂ u₁ os₁)
           → ps₃ ≡ planesFor cap n (plainRun flushFrom n cap theseI (at .plain) .table) ps₀ → given₃ ≡ given + measuresOf kindI → place₃ ≡ cond f i place
+          → (isCapped cap ≡ true → Since n (partWords n) ps₃ gs (cond f i place) (i + 1 - cond f i place))
           → WriteAt n cap gs ns₀ fs₀ os₀ ps₀ c₃ ns₃ fs₂ u₃ os₃ ps₃ given₃ place₃ (i + 1)
-      write-more c₃ ns₃ u₃ os₃ ps₃ given₃ place₃ e₃ ep eg el =
+      write-more c₃ ns₃ u₃ os₃ ps₃ given₃ place₃ e₃ ep eg el es =
           let w = within in
           let k = counted₁ in
           let np = node-parts kindI aI bI in
@@ -322,6 +327,7 @@ module _ (n : ℕ) (cap : Cap) (gs ns₀ fs₀ os₀ ps₀ : List ℕ) (c : ℕ)
             few = omega (arith, eg, at .few, measures-few kindI);
             pending = oneI .went .pending ∙ rw (el, ef) (pending-more flushI gs i place (unplaced (at .plain .pending)) (at .past) (at .pending));
             past = place-past f;
+            since = λ on. rw el (es on);
             ends = sym (run-append n cap theseI (restOf gs (i + 1)) (at .plain)) ∙ ap (λ (l : List (Placed Elementary)). plainRun flushFrom n cap l (at .plain)) (sym rest) ∙ at .ends;
             leads = sym (word-append n cap theseI (restOf gs (i + 1)) (at .plain) (at .words)) ∙ ap (λ (l : List (Placed Elementary)). wordRun n cap l (at .plain) (at .words)) (sym rest) ∙ at .leads;
             totals = ap (needRun n cap (restOf gs (i + 1)) p) en ∙ sym (need-append n cap theseI (restOf gs (i + 1)) (at .plain) (needsOf c u))

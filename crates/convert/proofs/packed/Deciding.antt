@@ -115,11 +115,14 @@ pub decided-untested : (n l most : ℕ) (k : GateKind) (a b d : ℕ) (ps ps′ :
     → ps′ ≡ planeRun l (recordGates k a b) ps → Decided n (AtMost most) k a b d ps false ps′
 decided-untested n l most k a b d ps ps′ el w e planes = decided-by n l most k a b d ps false ps′ el w (λ t rest wd at. light n most t k a b d e) planes
 
+pub run-tested : (l : ℕ) (k : GateKind) (a b : ℕ) (ps : List ℕ) → (testsOf k ≡ 0 → ⊥) → ps ≡ planeRun l (recordGates k a b) ps
+unfolding planeRun
+run-tested l k a b ps e = rw (no-gates k a b e)
+
 pub decided-tested : (n l most : ℕ) (k : GateKind) (a b d : ℕ) (ps : List ℕ) (f : Bool) (ps′ : List ℕ) → l ≡ partWords n → AllProper n (b + 1) (lowerAs k a b d) → (testsOf k ≡ 0 → ⊥)
     → ((t : List Row) (rest : List ℕ) → Wide n t → ps ≡ packed n t ++ rest → f ≡ anyExceeds n (AtMost most) t (lowerAs k a b d)) → ps′ ≡ refreshed f n l ps
     → Decided n (AtMost most) k a b d ps f ps′
-unfolding planeRun
-decided-tested n l most k a b d ps f ps′ el w e flag planes = decided-by n l most k a b d ps f ps′ el w flag (planes ∙ rw (no-gates k a b e))
+decided-tested n l most k a b d ps f ps′ el w e flag planes = decided-by n l most k a b d ps f ps′ el w flag (planes ∙ run-tested l k a b (refreshed f n l ps) e)
 
 pub decided-uncapped : (n : ℕ) (k : GateKind) (a b d : ℕ) (ps : List ℕ) → Decided n NoCap k a b d ps false ps
 decided-uncapped n k a b d ps = record { same = λ t ps₀ wd at. (never n t (lowerAs k a b d), at) }

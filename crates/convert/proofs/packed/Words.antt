@@ -190,7 +190,7 @@ first-z n t q h = image-z n t 0 n q (identity n) h ∙ ap (λ (m : ℕ). zRow n 
 
 -- ---- the loops, word by word
 
-xor-out : (p : List ℕ) (t s k m : ℕ) → (m < t) ⊎ (t + k ≤ m) → getD (xorTo p t s k) m 0 ≡ getD p m 0
+pub xor-out : (p : List ℕ) (t s k m : ℕ) → (m < t) ⊎ (t + k ≤ m) → getD (xorTo p t s k) m 0 ≡ getD p m 0
 unfolding xorTo
 xor-out p t s zero m h = refl
 xor-out p t s (suc k) m h =
@@ -225,7 +225,7 @@ xor-in p t s (suc k) j fits apart h =
     ))
     (below j k)
 
-swap-out : (p : List ℕ) (a b k m : ℕ) → (m < a) ⊎ (a + k ≤ m) → (m < b) ⊎ (b + k ≤ m) → getD (swapTo p a b k) m 0 ≡ getD p m 0
+pub swap-out : (p : List ℕ) (a b k m : ℕ) → (m < a) ⊎ (a + k ≤ m) → (m < b) ⊎ (b + k ≤ m) → getD (swapTo p a b k) m 0 ≡ getD p m 0
 unfolding swapTo
 swap-out p a b zero m h g = refl
 swap-out p a b (suc k) m h g =
@@ -271,11 +271,11 @@ swap-in p a b (suc k) j apart fits h =
 -- ---- the loops on packed rows
 
 -- a place of the words of rows is a place in one row
-split-place : (k s m : ℕ) → 0 < s → m < k * s → (m / s < k) × (m % s < s) × (m / s * s + m % s ≡ m)
+pub split-place : (k s m : ℕ) → 0 < s → m < k * s → (m / s < k) × (m % s < s) × (m / s * s + m % s ≡ m)
 split-place k s m pos h = (lt-of-mul-lt-mul-right s (omega (arith, div-add-mod' m s)), mod-lt m pos, div-add-mod' m s)
 
 -- places of another row lie outside
-outside : (s i a b : ℕ) → b < s → a ≢ i → (a * s + b < i * s) ⊎ (i * s + s ≤ a * s + b)
+pub outside : (s i a b : ℕ) → b < s → a ≢ i → (a * s + b < i * s) ⊎ (i * s + s ≤ a * s + b)
 outside s i a b h ne = ⊎-elim
     (λ (lo : a < i). inl (omega (arith, suc-mul a s, mul-le-mul-right s (the-le a i lo))))
     (λ (hi : i ≤ a). ⊎-elim
@@ -299,13 +299,13 @@ apart-rows s i j ne = ⊎-elim
     the-le : (x y : ℕ) → x < y → suc x ≤ y
     the-le x y h = omega arith
 
-row-ends : (s i k : ℕ) → i < k → i * s + s ≤ k * s
+pub row-ends : (s i k : ℕ) → i < k → i * s + s ≤ k * s
 row-ends s i k h = omega (arith, suc-mul i s, mul-le-mul-right s (the-le i k h))
   where
     the-le : (x y : ℕ) → x < y → suc x ≤ y
     the-le x y h = omega arith
 
-same-or-not : (a b : ℕ) → (a ≡ b) ⊎ (a ≢ b)
+pub same-or-not : (a b : ℕ) → (a ≡ b) ⊎ (a ≢ b)
 same-or-not a b = ⊎-elim
     (λ (lo : a < b). inr (λ e. omega arith))
     (λ (hi : b ≤ a). ⊎-elim (λ (up : b < a). inr (λ e. omega arith)) (λ (e : a ≤ b). inl (omega arith)) (below b a))
@@ -650,10 +650,10 @@ pub room-xz : (z : Bool) (n l q m : ℕ) → q < n → (n + n) * (l + l) ≤ m �
 room-xz true = room-x
 room-xz false = room-z
 
-pub clear-length : (p : List ℕ) (k : ℕ) → length (clearTo p k) ≡ length p
+pub clear-length : (p : List ℕ) (first k : ℕ) → length (clearTo p first k) ≡ length p
 unfolding clearTo
-clear-length p zero = refl
-clear-length p (suc k) = rw (length-set, clear-length p k)
+clear-length p first zero = refl
+clear-length p first (suc k) = rw (length-set, clear-length p first k)
 
 pub mark-length : (p : List ℕ) (l k : ℕ) → length (markTo p l k) ≡ length p
 unfolding markTo
@@ -662,19 +662,23 @@ mark-length p l (suc k) = rw (length-set, length-set, mark-length p l k)
 
 -- ---- all planes as at the start
 
-clear-in : (p : List ℕ) (k m : ℕ) → m < k → k ≤ length p → getD (clearTo p k) m 0 ≡ 0
+pub clear-in : (p : List ℕ) (first k j : ℕ) → j < k → first + k ≤ length p → getD (clearTo p first k) (first + j) 0 ≡ 0
 unfolding clearTo
-clear-in p zero m h r = absurd (omega arith)
-clear-in p (suc k) m h r = ⊎-elim
-    (λ (lo : m < k). getD-set-other (clearTo p k) k m 0 0 (λ e. omega arith) ∙ clear-in p k m lo (omega arith))
-    (λ (hi : k ≤ m). let e : m ≡ k = omega arith in let len = clear-length p k in rw (e, getD-set-same (clearTo p k) k 0 0 (omega arith)))
-    (below m k)
+clear-in p first zero j h r = absurd (omega arith)
+clear-in p first (suc k) j h r = ⊎-elim
+    (λ (lo : j < k). getD-set-other (clearTo p first k) (first + k) (first + j) 0 0 (λ e. omega arith) ∙ clear-in p first k j lo (omega arith))
+    (λ (hi : k ≤ j). let e : j ≡ k = omega arith in let len = clear-length p first k in rw (e, getD-set-same (clearTo p first k) (first + k) 0 0 (omega arith)))
+    (below j k)
 
-clear-out : (p : List ℕ) (k m : ℕ) → getD (clearTo p k) (k + m) 0 ≡ getD p (k + m) 0
+pub clear-first : (p : List ℕ) (k m : ℕ) → m < k → k ≤ length p → getD (clearTo p 0 k) m 0 ≡ 0
+clear-first p k m h r = ap (λ (x : ℕ). getD (clearTo p 0 k) x 0) (sym (zero-add m)) ∙ clear-in p 0 k m h (omega arith)
+
+pub clear-out : (p : List ℕ) (first k m : ℕ) → (m < first) ⊎ (first + k ≤ m) → getD (clearTo p first k) m 0 ≡ getD p m 0
 unfolding clearTo
-clear-out p zero m = refl
-clear-out p (suc k) m = getD-set-other (clearTo p k) k (suc k + m) 0 0 (λ e. omega arith)
-    ∙ (let e : suc k + m ≡ k + suc m = omega arith in rw e (clear-out p k (suc m)))
+clear-out p first zero m h = refl
+clear-out p first (suc k) m h =
+    getD-set-other (clearTo p first k) (first + k) m 0 0 (λ e. ⊎-elim (λ (a : m < first). omega arith) (λ (b : first + suc k ≤ m). omega arith) h)
+    ∙ clear-out p first k m (⊎-elim (λ (a : m < first). inl a) (λ (b : first + suc k ≤ m). inr (omega arith)) h)
 
 mask-blank : (f : Pauli → Bool) → f I ≡ false → (n : ℕ) → mask f (replicate n I) ≡ 0
 unfolding mask
@@ -694,16 +698,16 @@ getD-rep (suc k) (suc i) P = getD-rep k i P
 
 -- cleared words are those of rows of I
 pub cleared : (n l : ℕ) (p : List ℕ) → 0 < l → (n + n) * (l + l) ≤ length p
-    → clearTo p ((n + n) * (l + l)) ≡ rowsWords l (replicate (n + n) (identity n)) ++ drop ((n + n) * (l + l)) p
+    → clearTo p 0 ((n + n) * (l + l)) ≡ rowsWords l (replicate (n + n) (identity n)) ++ drop ((n + n) * (l + l)) p
 cleared n l p pos fits =
     let K = (n + n) * (l + l) in
     let Ps = replicate (n + n) (identity n) in
     let len : length Ps ≡ n + n = length-replicate (n + n) (identity n) in
-    by-rows l (identity n) Ps (drop K p) (clearTo p K) pos (rw (clear-length p K, length-drop, len) (omega arith))
+    by-rows l (identity n) Ps (drop K p) (clearTo p 0 K) pos (rw (clear-length p 0 K, length-drop, len) (omega arith))
     (λ a b ha hb.
     let e = row-ends (l + l) a (n + n) (omega arith) in
-    clear-in p K (a * (l + l) + b) (omega arith) fits ∙ sym (ap (λ (P : Row). getD (rowWords l P) b 0) (getD-rep (n + n) a (identity n)) ∙ row-blank l n b hb))
-    (λ m. rw (len, clear-out p K m, getD-drop))
+    clear-first p K (a * (l + l) + b) (omega arith) fits ∙ sym (ap (λ (P : Row). getD (rowWords l P) b 0) (getD-rep (n + n) a (identity n)) ∙ row-blank l n b hb))
+    (λ m. rw (len, clear-out p 0 K (K + m) (inr (omega arith)), getD-drop))
 
 tally-once : (b : Bool) → tally b 0 ≡ tally b 0 * 1
 tally-once true = refl

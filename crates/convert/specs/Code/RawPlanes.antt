@@ -1,8 +1,9 @@
 -- What the loops over plane words do, word by word.
 use mathlib.Core.Path.{_≡_}
 use mathlib.Core.Bool.{Bool, _||_}
+use mathlib.Core.Logic.{_≢_}
 use mathlib.Core.List.{List, [], _∷_}
-use Prim.Native.Nat.{ℕ, zero, suc, _+_, _*_, _/_, _%_, _^_}
+use Prim.Native.Nat.{ℕ, zero, suc, _+_, _*_, _/_, _%_, _^_, _<_, _≤_}
 use lib.Dec.{ltb}
 use lib.ListN.{length, getD, set}
 use lib.Bits.{bitXor, bitOr}
@@ -20,15 +21,19 @@ unfoldable pub swapTo : List ℕ → ℕ → ℕ → ℕ → List ℕ
 swapTo p a b zero = p
 swapTo p a b (suc k) = set (set (swapTo p a b k) (a + k) (getD (swapTo p a b k) (b + k) 0)) (b + k) (getD (swapTo p a b k) (a + k) 0)
 
--- the first k words are 0
-unfoldable pub clearTo : List ℕ → ℕ → List ℕ
-clearTo p zero = p
-clearTo p (suc k) = set (clearTo p k) k 0
+-- the k words from `first` on are 0
+unfoldable pub clearTo : List ℕ → ℕ → ℕ → List ℕ
+clearTo p first zero = p
+clearTo p first (suc k) = set (clearTo p first k) (first + k) 0
 
--- the bits of qubit q in the two images of qubit q, for q below k
+-- the bits of qubit q in the two images of qubit q
+abbrev pub markAt : List ℕ → ℕ → ℕ → List ℕ
+markAt p l q = set (set p ((q + q) * (l + l) + q / 64) (2 ^ (q % 64))) (suc (q + q) * (l + l) + (l + q / 64)) (2 ^ (q % 64))
+
+-- the same for each qubit below k
 unfoldable pub markTo : List ℕ → ℕ → ℕ → List ℕ
 markTo p l zero = p
-markTo p l (suc q) = set (set (markTo p l q) ((q + q) * (l + l) + q / 64) (2 ^ (q % 64))) (suc (q + q) * (l + l) + (l + q / 64)) (2 ^ (q % 64))
+markTo p l (suc q) = markAt (markTo p l q) l q
 
 -- a word, if it is picked
 abbrev pub picked : ℕ → ℕ → ℕ
@@ -69,7 +74,26 @@ planeRun l (g ∷ gs) p = planeRun l gs (planeStep l g p)
 
 -- all planes as at the start
 unfoldable pub planeReset : ℕ → ℕ → List ℕ → List ℕ
-planeReset n l p = markTo (clearTo p ((n + n) * (l + l))) l n
+planeReset n l p = markTo (clearTo p 0 ((n + n) * (l + l))) l n
+
+-- the words of a qubit's two images
+abbrev pub qubitWords : ℕ → ℕ
+qubitWords l = (l + l) + (l + l)
+
+-- the images of qubit q, if it is below n, are as at the start; all other words stay
+pub record Restored (n l q : ℕ) (p p′ : List ℕ) : Type 0 where
+  pub size : length p′ ≡ length p
+  pub inside : (j : ℕ) → q < n → j < qubitWords l → getD p′ (q * qubitWords l + j) 0 ≡ getD (planeReset n l p) (q * qubitWords l + j) 0
+  pub others : (a j : ℕ) → a ≢ q → j < qubitWords l → getD p′ (a * qubitWords l + j) 0 ≡ getD p (a * qubitWords l + j) 0
+  pub past : (m : ℕ) → n * qubitWords l ≤ m → getD p′ m 0 ≡ getD p m 0
+
+-- none of `count` records from `first` on has q as its operand 1 or 2
+abbrev pub Untouched : List ℕ → ℕ → ℕ → ℕ → Type 0
+Untouched gs first count q = (k : ℕ) → k < count → (q ≢ getD gs (4 * (first + k) + 1) 0) × (q ≢ getD gs (4 * (first + k) + 2) 0)
+
+-- the images of qubits that these records leave alone are as at the start
+pub record Since (n l : ℕ) (p gs : List ℕ) (first count : ℕ) : Type 0 where
+  pub same : (q j : ℕ) → q < n → j < qubitWords l → Untouched gs first count q → getD p (q * qubitWords l + j) 0 ≡ getD (planeReset n l p) (q * qubitWords l + j) 0
 
 -- a table of n qubits: 2n rows of n letters
 pub record Wide (n : ℕ) (t : List Row) : Type 0 where

@@ -11,14 +11,17 @@ use Rattle.convert.proofs.planes.clear.Reads as reads
 use Rattle.convert.proofs.planes.clear.Lts as lts
 
 abbrev Inv-loop : tie.InvT-loop
-Inv-loop planes₀ count k₀ planes k = (k ≤ count) × (length planes ≡ length planes₀) × (planes ≡ clearTo planes₀ k)
+Inv-loop planes₀ first count k₀ planes k = (k ≤ count) × (length planes ≡ length planes₀) × (planes ≡ clearTo planes₀ first k)
 
 abbrev μ-loop : tie.MeasureT-loop
-μ-loop planes₀ count k₀ planes k = count - k
+μ-loop planes₀ first count k₀ planes k = count - k
 
 loop-holds : tie.Need-loop-holds Inv-loop μ-loop
 unfolding clearTo
 loop-holds c = (omega arith, refl, refl)
+
+add-planes : tie.Need-add-planes Inv-loop μ-loop
+add-planes c = search needs
 
 mul-planes : tie.Need-mul-planes Inv-loop μ-loop
 mul-planes c = search needs
@@ -54,6 +57,7 @@ clear-spec =
     Inv-loop
     μ-loop
     loop-holds
+    add-planes
     mul-planes
     slice-write-planes
     add-k

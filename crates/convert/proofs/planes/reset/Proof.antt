@@ -28,7 +28,7 @@ mul-clear : tie.Need-mul-clear Inv-loop μ-loop
 mul-clear c = search needs
 
 clear-requires : tie.Need-clear-requires Inv-loop μ-loop
-clear-requires c κs = c .before .before .pre .2
+clear-requires c κs = omega (arith, c .before .before .pre)
 
 loop-holds : tie.Need-loop-holds Inv-loop μ-loop
 unfolding markTo

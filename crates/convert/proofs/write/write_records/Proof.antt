@@ -106,8 +106,14 @@ decide-by-requires c κs =
       rw (the-kind-at .ensures, the-operand-at .ensures, the-operand-at2 .ensures, the-operand-at3 .ensures) f,
       (
         (p .0, (λ on. let r = p .1 on in omega (arith, the-prepare .kept, the-loop′ .inv .4)), p .2),
-        form-at formOf _ (the-args .gates .now) (the-loop′ .i) (number-at .result) (the-kind-at .result) (forms .ensures) (number-at .ensures)
-            (the-pre .0 .known (the-loop′ .i) (the-loop-test .taken)) (the-kind-at .ensures),
+        (
+          form-at formOf _ (the-args .gates .now) (the-loop′ .i) (number-at .result) (the-kind-at .result) (forms .ensures) (number-at .ensures)
+              (the-pre .0 .known (the-loop′ .i) (the-loop-test .taken)) (the-kind-at .ensures),
+          (
+            (the-loop′ .inv .5 .past, the-loop-test .taken, the-operand-at .ensures, the-operand-at2 .ensures),
+            λ on. rw (p .0) (the-loop′ .inv .5 .since on),
+          ),
+        ),
       ),
     )
 
@@ -144,7 +150,7 @@ flush-if-requires c κs =
       operand-at .ensures,
       operand-at2 .ensures,
       operand-at3 .ensures,
-    ) at (decide-by .ensures)) in (
+    ) at (decide-by .ensures .0)) in (
       (λ on. write-flush (a .n) (a .cap) (a .gates .now) _ _ _ _ _ _ _ _ _ _ _ _ (the-loop .i) at h (pre .0) (pre .1 .1 .0 .2) (pre .1 .0)
           (the-loop .inv .1, the-loop .inv .2, omega (arith, the-loop .inv .3, pre .1 .1 .0 .4)) (decide-by .result) (pl .0) on),
       (
@@ -190,7 +196,7 @@ frame-by-requires c κs =
       operand-at .ensures,
       operand-at2 .ensures,
       operand-at3 .ensures,
-    ) at (decide-by .ensures)) in (
+    ) at (decide-by .ensures .0)) in (
       rw (
         kind-at .ensures,
         operand-at .ensures,
@@ -268,7 +274,7 @@ write-by-requires c κs =
       operand-at .ensures,
       operand-at2 .ensures,
       operand-at3 .ensures,
-    ) at (decide-by .ensures)) in
+    ) at (decide-by .ensures .0)) in
     let d₂ = rw (kind-at .ensures, operand-at .ensures, operand-at2 .ensures) at (frame-by .ensures) in (
       rw (kind-at .ensures, operand-at .ensures, operand-at2 .ensures, operand-at3 .ensures, made2 .ensures .0, made2 .ensures .1)
           (write-ready (a .n) (a .cap) (a .gates .now) _ _ _ _ _ _ _ _ _ _ _ _ (the-loop .i) at h (pre .0) (pre .1 .1 .0 .2) (pre .1 .0) (
@@ -376,7 +382,7 @@ loop-again c =
       operand-at .ensures,
       operand-at2 .ensures,
       operand-at3 .ensures,
-    ) at (decide-by .ensures)) in
+    ) at (decide-by .ensures .0)) in
     let the-form = form-at formOf _ (a .gates .now) (the-loop .i) (number-at .result) (kind-at .result) (forms .ensures) (number-at .ensures)
     (pre .0 .known (the-loop .i) h) (kind-at .ensures) in
     let d₂ = rw (kind-at .ensures, operand-at .ensures, operand-at2 .ensures) at (frame-by .ensures) in
@@ -410,7 +416,8 @@ loop-again c =
           arith,
           frame-by .kept,
         ),
-      ) _ _ _ _ _ _ _ e₃ (pl .1) (rw (measures .ensures ∙ bits-measures (kind-at .result) _ the-form, kind-at .ensures)) (c .later .ensures),
+      ) _ _ _ _ _ _ _ e₃ (pl .1) (rw (measures .ensures ∙ bits-measures (kind-at .result) _ the-form, kind-at .ensures)) (c .later .ensures)
+          (λ on. rw (pre .1 .1 .0 .0) at (decide-by .ensures .1 on)),
     )
 
 same-length : tie.Need-same-length Inv-loop μ-loop
