@@ -1,6 +1,7 @@
 //! What a conversion needs: the most of it by sums; under a cap counted, with the planes of its end.
 
 use crate::cap::Cap;
+use crate::form::WRITES;
 use crate::gate::GateKind;
 use crate::gate::kind_at;
 use crate::gate::number_at;
@@ -166,7 +167,7 @@ fn tested_by(
     ensures { λ r. ⌜ Decided n (AtMost most) kind a b d (now (planes .entry)) r (now (planes .exit)) ⌝ }
     ensures { λ r. ⌜ Since n l (now (planes .exit)) (now (gates .entry)) (cond r to from) (to + 1 - cond r to from) ⌝ }
 {
-    if form & 7200 == 0 {
+    if form & WRITES == 0 {
         planes_by(planes, n, l, form, kind, a, b);
         return false;
     }

@@ -1,6 +1,14 @@
 //! Frame gates on node words and frame words, from frame.rs and mod.rs. The count of nodes goes by value.
 
 use crate::checks::check_clifford;
+use crate::form::CZ;
+use crate::form::H;
+use crate::form::MOVES;
+use crate::form::PAIR;
+use crate::form::PHASE;
+use crate::form::SDG;
+use crate::form::WRITES;
+use crate::form::X;
 use crate::form::place_if;
 use crate::form::word_if;
 use crate::gate::GateKind;
@@ -327,17 +335,17 @@ pub(crate) fn frame_by(
     requires { ⌜ form ≡ formOf kind ⌝ }
     ensures { λ r. ⌜ Ran n (recordGates kind a b) count (now (nodes .entry)) (now (frame .entry)) r (now (nodes .exit)) (now (frame .exit)) ⌝ }
 {
-    if form & 7200 != 0 {
+    if form & WRITES != 0 {
         return count;
     }
-    if form & 768 != 0 {
-        return gate_pair(count, nodes, frame, n, form & 512 != 0, a, b);
+    if form & PAIR != 0 {
+        return gate_pair(count, nodes, frame, n, form & CZ != 0, a, b);
     }
-    if form & 24 != 0 {
-        return gate_phase(count, nodes, frame, n, form & 16 != 0, a);
+    if form & PHASE != 0 {
+        return gate_phase(count, nodes, frame, n, form & SDG != 0, a);
     }
-    if form & 7 != 0 {
-        return move_images(count, nodes, frame, n, form & 1 != 0, form & 2 != 0, a);
+    if form & MOVES != 0 {
+        return move_images(count, nodes, frame, n, form & H != 0, form & X != 0, a);
     }
     frame_record(count, nodes, frame, n, kind, a, b)
 }

@@ -1,6 +1,13 @@
 //! Planes (document 01): for each image l words of x bits and l of z bits. Image 2q is the x image of qubit q, image 2q + 1 its z image.
 //! What the words stand for: specs/Planes.antt; what each loop does to them: specs/Code/RawPlanes.antt.
 
+use crate::form::CCZ;
+use crate::form::CZ;
+use crate::form::H;
+use crate::form::LONE;
+use crate::form::PAIR;
+use crate::form::PHASE;
+use crate::form::SIGNS;
 use crate::form::place_if;
 use crate::gate::GateKind;
 use crate::gate::operand_at;
@@ -302,10 +309,10 @@ pub(crate) fn heavy_by(
     requires { ⌜ (form ≡ formOf kind) × (testsOf kind ≡ 0 → ⊥) ⌝ }
     ensures { λ r. ⌜ ((t : List Row) (rest : List ℕ) → Wide n t → now (planes .entry) ≡ packed n t ++ rest → r ≡ anyExceeds n (AtMost cap) t (lowerAs kind a b d)) ⌝ }
 {
-    if form & 4128 != 0 {
+    if form & LONE != 0 {
         return cap < weigh_one(planes, l, a + a + 1);
     }
-    let third = place_if(form & 2048 != 0, d + d + 1, d + d);
+    let third = place_if(form & CCZ != 0, d + d + 1, d + d);
     seven(planes, l, cap, a + a + 1, b + b + 1, third)
 }
 
@@ -372,19 +379,19 @@ pub(crate) fn planes_by(
     requires { ⌜ form ≡ formOf kind ⌝ }
     ensures { λ _. ⌜ now (planes .exit) ≡ planeRun l (recordGates kind a b) (now (planes .entry)) ⌝ }
 {
-    if form & 768 != 0 {
-        plane_pair(planes, n, l, form & 512 != 0, a, b);
+    if form & PAIR != 0 {
+        plane_pair(planes, n, l, form & CZ != 0, a, b);
         return;
     }
-    if form & 1 != 0 {
+    if form & H != 0 {
         plane_h(planes, n, l, a);
         return;
     }
-    if form & 24 != 0 {
+    if form & PHASE != 0 {
         plane_s(planes, n, l, a);
         return;
     }
-    if form & 6 != 0 {
+    if form & SIGNS != 0 {
         return;
     }
     plane_record(planes, n, l, kind, a, b);

@@ -7,6 +7,10 @@ use crate::flush::Used;
 use crate::flush::flush_records;
 use crate::flush::made;
 use crate::flush::put_rotation;
+use crate::form::CCZ;
+use crate::form::LONE;
+use crate::form::MEASURE;
+use crate::form::WRITES;
 use crate::form::forms;
 use crate::form::place_if;
 use crate::form::word_if;
@@ -159,11 +163,11 @@ fn write_by(
     ensures { λ r. ⌜ writing (r .nodes) (now (nodes .exit)) (r .operations) (now (operations .exit))
         ≡ putRecord n given gate kind a b d (now (frame .entry)) (writing (w .nodes) (now (nodes .entry)) (w .operations) (now (operations .entry))) ⌝ }
 {
-    if form & 7200 == 0 {
+    if form & WRITES == 0 {
         return w;
     }
-    if form & 4128 != 0 {
-        let measured = form & 4096 != 0;
+    if form & LONE != 0 {
+        let measured = form & MEASURE != 0;
         put_operation(
             operations,
             w.operations,
@@ -181,7 +185,7 @@ fn write_by(
         operations,
         frame[n + a],
         frame[n + b],
-        frame[place_if(form & 2048 != 0, n + d, d)],
+        frame[place_if(form & CCZ != 0, n + d, d)],
         gate,
     )
 }
@@ -231,7 +235,7 @@ fn later(flushed: bool, i: usize, place: usize) -> usize
 fn measures(form: u64) -> u32
     ensures { λ r. ⌜ r ≡ form / 4096 % 2 ⌝ }
 {
-    (form / 4096 % 2) as u32
+    (form / MEASURE % 2) as u32
 }
 
 // The whole list, where the nodes and the frame are those of the start and the needs fit.
