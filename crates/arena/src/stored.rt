@@ -10,6 +10,7 @@ ghost use mathlib.Core.Path.{_≡_};
 ghost use mathlib.Core.Bool.{true, false, _||_};
 ghost use Prim.Native.Nat.{ℕ, _+_, _*_, _≤_, _<_};
 ghost use lib.ListN.{length, getD};
+ghost use Rattle.arena.specs.Limits.{maxQubits, nodeWords, operationWords};
 ghost use Rattle.arena.specs.Nodes.{decode, nodeAt};
 ghost use Rattle.arena.specs.Expansion.{isMalformed, anyMalformed, badNodes, opAt, isBadOp, isNoSource, isBadAt, anyBadOp, badOperations};
 ghost use Rattle.arena.specs.Operations.{decodeOp, sourceOf};
@@ -55,7 +56,7 @@ fn is_malformed(qubits: u32, i: u32, first: u32, second: u32) -> bool
 
 // Whether one of the first nodes is malformed.
 fn any_malformed(qubits: u32, nodes: &[u32], count: u32) -> bool
-    requires { ⌜ 2 * count ≤ length (now nodes) ⌝ }
+    requires { ⌜ nodeWords * count ≤ length (now nodes) ⌝ }
     ensures { λ r. ⌜ r ≡ anyMalformed (nodeAt qubits (now (nodes .entry))) count ⌝ }
 {
     let mut any = false;
@@ -71,7 +72,7 @@ fn any_malformed(qubits: u32, nodes: &[u32], count: u32) -> bool
 
 // Whether all nodes from one on are products: then those before it decide.
 fn all_products(nodes: &[u32], from: u32, count: u32) -> bool
-    requires { ⌜ (from ≤ count) × (2 * count ≤ length (now nodes)) ⌝ }
+    requires { ⌜ (from ≤ count) × (nodeWords * count ≤ length (now nodes)) ⌝ }
     ensures { λ r. ⌜ ((n : ℕ) → r ≡ true → anyMalformed (nodeAt n (now (nodes .entry))) from ≡ anyMalformed (nodeAt n (now (nodes .entry))) count) ⌝ }
 {
     let mut all = true;
@@ -87,7 +88,7 @@ fn all_products(nodes: &[u32], from: u32, count: u32) -> bool
 
 // How many of the first nodes decide. In a circuit that was converted those are the ones of `Header::new`, since all later ones are products.
 fn deciding(qubits: u32, nodes: &[u32], count: u32) -> u32
-    requires { ⌜ (qubits ≤ 256) × (2 * count ≤ length (now nodes)) ⌝ }
+    requires { ⌜ (qubits ≤ maxQubits) × (nodeWords * count ≤ length (now nodes)) ⌝ }
     ensures { λ r. ⌜ (r ≤ count) × (anyMalformed (nodeAt qubits (now (nodes .entry))) r ≡ anyMalformed (nodeAt qubits (now (nodes .entry))) count) ⌝ }
 {
     let start = 1 + 2 * qubits;
@@ -141,7 +142,7 @@ fn is_source(gate: u32) -> bool
     (gate < MAX_GATES) | (gate == HAND_MARK)
 }
 
-// The words of an operation that is malformed, names an unused node or measurement, or came from nowhere.
+// Whether the words of an operation are malformed, name an unused node or measurement, or end in no gate and no mark.
 fn is_bad_op(
     header: Header,
     first: u32,
@@ -159,7 +160,7 @@ fn is_bad_op(
 }
 
 fn is_bad_at(header: Header, operations: &[u32], index: u32) -> bool
-    requires { ⌜ 5 * index + 4 < length (now operations) ⌝ }
+    requires { ⌜ operationWords * index + 4 < length (now operations) ⌝ }
     ensures { λ r. ⌜ r ≡ isBadAt header (now (operations .entry)) index ⌝ }
 {
     let at = OPERATION_WORDS * (index as usize);
@@ -174,7 +175,7 @@ fn is_bad_at(header: Header, operations: &[u32], index: u32) -> bool
 }
 
 fn any_bad_op(header: Header, operations: &[u32]) -> bool
-    requires { ⌜ 5 * header .operations ≤ length (now operations) ⌝ }
+    requires { ⌜ operationWords * header .operations ≤ length (now operations) ⌝ }
     ensures { λ r. ⌜ r ≡ anyBadOp header (now (operations .entry)) (header .operations) ⌝ }
 {
     let mut any = false;
