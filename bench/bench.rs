@@ -2,8 +2,8 @@
 //! how both grow as the work doubles, and how many times as long as writing its words once (one copy of them) a conversion takes; at the end, for
 //! each kind of workload, how many meet the ratio that it is to have, the median and those that miss it.
 //! A random workload is run twice: on one list again and again, and on sixteen lists in turn, so that none is learnt by heart; its time is then
-//! the mean over the lists. Times are the least of several rounds. The library's buffers are made before timing and not cleared between runs; the
-//! Rust makes its own at each call, with an allocator that keeps its pages, and dropping them is not timed.
+//! the mean over the lists. Times are the least of several rounds, of each list by itself. The library's buffers are made before timing and not
+//! cleared between runs; the Rust makes its own at each call, with an allocator that keeps its pages, and dropping them is not timed.
 //! `crate` is the time of `to_pbc` of bindings/rust, which owns its buffers, as the Rust does.
 //! A report or expansion clears the scratch and the pool that it is lent. It is lent what a caller who keeps buffers would have after growing
 //! them as they are needed: four words of scratch a used node, and the least power of two of records, from 1,024 on, with which all calls are accepted.
@@ -232,20 +232,24 @@ fn random(qubits: u32, gates: usize, lists: usize, cap: Option<u32>) -> Workload
     Workload { family: "random circuits", name: format!("{form} {gates} gates"), form, qubits, cbits: 1, cap, lists }
 }
 
-/// The least of the times of some rounds, after one that is not counted.
-fn best(mut round: impl FnMut() -> Duration) -> f64 {
-    round();
-    let (mut least, begun, mut rounds) = (f64::MAX, Instant::now(), 0);
+/// Each thing is run in turn, in some rounds after one that is not counted: the mean over the things of each one's least time.
+fn best_of<T>(things: &[T], mut run: impl FnMut(&T) -> Duration) -> f64 {
+    for thing in things {
+        run(thing);
+    }
+    let mut least = vec![f64::MAX; things.len()];
+    let (begun, mut rounds) = (Instant::now(), 0);
     while rounds < 5 && begun.elapsed() < Duration::from_secs(2) || begun.elapsed() < Duration::from_millis(300) && rounds < 2000 {
-        least = least.min(round().as_secs_f64());
+        for (thing, least) in things.iter().zip(&mut least) {
+            *least = least.min(run(thing).as_secs_f64());
+        }
         rounds += 1;
     }
-    least
+    least.iter().sum::<f64>() / things.len() as f64
 }
 
-/// The same over things taken in turn; the mean of a round.
-fn best_of<T>(things: &[T], mut run: impl FnMut(&T) -> Duration) -> f64 {
-    best(|| things.iter().map(&mut run).sum()) / things.len() as f64
+fn best(mut run: impl FnMut() -> Duration) -> f64 {
+    best_of(&[()], |_| run())
 }
 
 fn timed<T>(f: impl FnOnce() -> T) -> (Duration, T) {
