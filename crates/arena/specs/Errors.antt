@@ -1,9 +1,9 @@
--- The refusals of document 01 ("Turning back"): the number, gate index and operand of each, and the order of a call's checks.
+-- The refusals of document 01 ("Turning back") and of document 02: the number, gate index and operand of each, and the order of a call's checks.
 use mathlib.Core.Bool.{Bool, true, false}
 use Prim.Native.Nat.{ℕ}
 pub use Rattle.arena.specs.declared.error.PbcError.the-variants.{the-data as PbcError, TooManyQubits, BrokenGateList, BadStore, ForeignPauli, UnsupportedGate, NonCliffordFrameGate}
 pub use Rattle.arena.specs.declared.error.PbcError.the-variants.{QubitOutOfRange, RepeatedOperand, ClassicalBitOutOfRange, UnknownMeasurement, CapTooSmall, NoPlanes, NoFrame, NoNodes}
-pub use Rattle.arena.specs.declared.error.PbcError.the-variants.{NoOperations, NoScratch, ExpansionLimit, NoPool, NonHermitianAxis}
+pub use Rattle.arena.specs.declared.error.PbcError.the-variants.{NoOperations, NoScratch, ExpansionLimit, NoPool, NonHermitianAxis, BadText, NoGateRoom}
 pub use Rattle.arena.specs.declared.error.Refusal.{Refusal}
 pub use Rattle.arena.specs.declared.error.Checked.the-variants.{the-data as Checked, Fine, Wrong}
 
@@ -11,7 +11,7 @@ infixl 10 _⟫_⇒_
 abbrev pub refusalOf : ℕ → ℕ → ℕ → Refusal
 refusalOf number index operand = record { number = number; index = index; operand = operand }
 
--- number, the offending gate's place in the list (0 where no gate of a list is at fault), and the kind for 5 and 6, the qubit or bit for 7 to 9
+-- number, the offending gate's place in the list (0 where no gate of a list is at fault), and the kind for 5 and 6, the qubit or bit for 7 to 9, the place in the text for 20
 abbrev pub refusalIn : PbcError → Refusal
 refusalIn TooManyQubits = refusalOf 1 0 0
 refusalIn BrokenGateList = refusalOf 2 0 0
@@ -32,6 +32,8 @@ refusalIn NoScratch = refusalOf 16 0 0
 refusalIn ExpansionLimit = refusalOf 17 0 0
 refusalIn NoPool = refusalOf 18 0 0
 refusalIn NonHermitianAxis = refusalOf 19 0 0
+refusalIn (BadText place) = refusalOf 20 0 place
+refusalIn NoGateRoom = refusalOf 21 0 0
 
 -- the checks so far, then one more: the first test that holds decides
 unfoldable pub _⟫_⇒_ : Checked → Bool → PbcError → Checked

@@ -1,4 +1,4 @@
-//! The refusals of document 01 ("Turning back"). The Rust's names where it has one. Every function is O(1).
+//! The refusals of document 01 ("Turning back") and of document 02. The Rust's names where it has one. Every function is O(1).
 
 ghost use mathlib.Core.Path.{_≡_};
 ghost use Rattle.arena.specs.Errors.{refusalOf, refusalIn, _⟫_⇒_};
@@ -24,6 +24,8 @@ pub enum PbcError {
     ExpansionLimit,
     NoPool,
     NonHermitianAxis,
+    BadText(u64),
+    NoGateRoom,
 }
 
 /// What a refusal returns.
@@ -44,7 +46,7 @@ fn made(number: u32, index: u64, operand: u64) -> Refusal
 }
 
 impl PbcError {
-    /// The refusal as document 01 lists it: its number, the offending gate's index and the operand. Promise: `refusalIn`.
+    /// The refusal as the documents list it: its number, the offending gate's index and the operand. Promise: `refusalIn`.
     pub fn refusal(self) -> Refusal
         ensures { λ r. ⌜ r ≡ refusalIn self ⌝ }
     {
@@ -68,6 +70,8 @@ impl PbcError {
             PbcError::ExpansionLimit => made(17, 0, 0),
             PbcError::NoPool => made(18, 0, 0),
             PbcError::NonHermitianAxis => made(19, 0, 0),
+            PbcError::BadText(place) => made(20, 0, place),
+            PbcError::NoGateRoom => made(21, 0, 0),
         }
     }
 
@@ -85,7 +89,7 @@ impl PbcError {
         self.refusal().index
     }
 
-    /// The offending kind, qubit or bit, or 0.
+    /// The offending kind, qubit, bit or place, or 0.
     pub fn operand(self) -> u64
         ensures { λ r. ⌜ r ≡ refusalIn self .operand ⌝ }
     {

@@ -119,6 +119,18 @@ enum-told-14 c = search needs
 made-requires-19 : tie.Need-made-requires-19
 made-requires-19 c κs = search needs
 
+enum-known-self-6 : tie.Need-enum-known-self-6
+enum-known-self-6 c = search needs
+
+made-requires-20 : tie.Need-made-requires-20
+made-requires-20 c κs = search needs
+
+enum-told-15 : tie.Need-enum-told-15
+enum-told-15 c = search needs
+
+made-requires-21 : tie.Need-made-requires-21
+made-requires-21 c κs = search needs
+
 returns : tie.Need-returns
 returns c = c .made .ensures ∙ sym (ap refusalIn (c .before .enum-told .given .1))
 
@@ -176,6 +188,12 @@ returns-18 c = c .made18 .ensures ∙ sym (ap refusalIn (c .before .enum-told13 
 returns-19 : tie.Need-returns-19
 returns-19 c = c .made19 .ensures ∙ sym (ap refusalIn (c .before .enum-told14 .given .1))
 
+returns-20 : tie.Need-returns-20
+returns-20 c = c .made20 .ensures ∙ sym (ap refusalIn (c .before .before .self6 .given .1))
+
+returns-21 : tie.Need-returns-21
+returns-21 c = c .made21 .ensures ∙ sym (ap refusalIn (c .before .enum-told15 .given .1))
+
 pub refusal-spec : {M : Type 1} → statement M
 refusal-spec =
     tie.close
@@ -218,6 +236,10 @@ refusal-spec =
     made-requires-18
     enum-told-14
     made-requires-19
+    enum-known-self-6
+    made-requires-20
+    enum-told-15
+    made-requires-21
     returns
     returns-2
     returns-3
@@ -236,4 +258,6 @@ refusal-spec =
     returns-16
     returns-17
     returns-18
-    returns-19)
+    returns-19
+    returns-20
+    returns-21)
