@@ -1,19 +1,23 @@
 -- Laws of the words that a caller passes.
 use mathlib.Core.Path.{_≡_, refl, ap}
 use mathlib.Core.Bool.{false}
-use mathlib.Core.Logic.{_≢_}
+use mathlib.Core.Logic.{_≢_, inl, inr}
+use mathlib.Core.List.{List, [], _∷_}
 use Prim.Native.Nat.{ℕ, zero, suc, _-_, _≤_, _<_}
 use native.Mathlib.Omega.{arith}
 use borrow.Author.Tests.{ltb-false}
 use lib.IntN.{ℤ}
 use lib.Dec.{ltb}
+use types.Run.{OneOf}
+use denote.Enum.Declared.{tagOf}
 use Rattle.pauli.specs.Angle.{remainder8, eighthsOf}
 use Rattle.pauli.specs.Letters.{phaseOf, _·_, pauliOf, numberProduct}
 use Rattle.pauli.proofs.Remainder.{below-8}
 use Rattle.pauli.proofs.Numbers.{phaseNumber-small, pauliNumber-small}
 use Rattle.arena.proofs.Accepted.{left-false, right-false}
 use Rattle.exports.specs.Types.{PauliAngle, NumberProduct, Bit}
-use Rattle.exports.specs.Words.{fieldIn, angleIn, targetIn, tooShort}
+use Rattle.exports.specs.Words.{fieldIn, angleIn, targetIn, tooShort, Reply, Accepted, Values, Refused, headerLeft}
+use Rattle.exports.proofs.words.Reply.{the-type}
 
 -- ---- enough words
 
@@ -24,6 +28,15 @@ header-enough header answer e = ltb-false header 6 (left-false (ltb header 6) (l
 pub answer-enough : (header answer : ℕ) → tooShort header answer ≡ false → 4 ≤ answer
 unfolding tooShort
 answer-enough header answer e = ltb-false answer 4 (right-false (ltb header 6) (ltb answer 4) e)
+
+-- ---- replies without a header
+
+pub headerless : (reply : Reply) (words : List ℕ) → OneOf (1 ∷ 2 ∷ []) (tagOf the-type reply) → words ≡ headerLeft reply words
+unfolding headerLeft
+headerless (Accepted h a b c) words (inl e) = absurd (omega (arith, e))
+headerless (Accepted h a b c) words (inr e) = absurd (omega (arith, e))
+headerless (Values a b c) words o = refl
+headerless (Refused e) words o = refl
 
 -- ---- targets
 

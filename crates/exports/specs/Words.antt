@@ -10,7 +10,7 @@ use Rattle.pauli.specs.Angle.{remainder8}
 use Rattle.pauli.specs.Letters.{pauliOf}
 use Rattle.arena.specs.Errors.{refusalIn}
 use Rattle.exports.specs.Types.{Pauli, PauliAngle, Header, PauliRef, PauliAxis, Target, Bit, NoTarget}
-pub use Rattle.exports.specs.declared.words.Reply.the-variants.{the-data as Reply, Accepted, Refused}
+pub use Rattle.exports.specs.declared.words.Reply.the-variants.{the-data as Reply, Accepted, Values, Refused}
 
 -- ---- what is read
 
@@ -58,6 +58,7 @@ tooShort header answer = ltb header 6 || ltb answer 4
 -- what a function returns: 0, or the refusal's number
 unfoldable pub numberIn : Reply → ℕ
 numberIn (Accepted h a b c) = 0
+numberIn (Values a b c) = 0
 numberIn (Refused e) = refusalIn e .number
 
 abbrev pub headerWords : Header → List ℕ
@@ -66,11 +67,13 @@ headerWords h = h .qubits ∷ h .cbits ∷ h .owner ∷ h .nodes ∷ h .operatio
 -- the new header, where the call is accepted
 unfoldable pub headerLeft : Reply → List ℕ → List ℕ
 headerLeft (Accepted h a b c) ws = sets ws 0 (headerWords h)
+headerLeft (Values a b c) ws = ws
 headerLeft (Refused e) ws = ws
 
 -- the values, and 0 for the rest; or the refusal's index and operand
 unfoldable pub answerLeft : Reply → List ℕ → List ℕ
 answerLeft (Accepted h a b c) ws = sets ws 0 (a ∷ b ∷ c ∷ 0 ∷ [])
+answerLeft (Values a b c) ws = sets ws 0 (a ∷ b ∷ c ∷ 0 ∷ [])
 answerLeft (Refused e) ws = sets ws 0 (refusalIn e .index ∷ refusalIn e .operand ∷ 0 ∷ 0 ∷ [])
 
 -- ---- what a function for C returns, and leaves in the slices lent

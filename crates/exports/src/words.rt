@@ -14,9 +14,10 @@ ghost use lib.ListN.{length};
 ghost use lib.Seq.{sets};
 ghost use Rattle.exports.specs.Words.{fieldIn, headerIn, handleIn, handleAxis, letterIn, angleIn, targetIn, tooShort, headerWords, numberIn, headerLeft, answerLeft};
 
-/// What a call has to say: the new header and up to three values, or why it was refused.
+/// What a call has to say: the new header and up to three values; values alone, where there is no header; or why it was refused.
 pub(crate) enum Reply {
     Accepted(Header, u64, u64, u64),
+    Values(u64, u64, u64),
     Refused(PbcError),
 }
 
@@ -127,6 +128,10 @@ pub(crate) fn write_answer(words: &mut [u64], reply: Reply) -> u32
 {
     match reply {
         Reply::Accepted(_, first, second, third) => {
+            put_answer(words, first, second, third);
+            0
+        }
+        Reply::Values(first, second, third) => {
             put_answer(words, first, second, third);
             0
         }

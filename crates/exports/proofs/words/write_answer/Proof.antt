@@ -16,14 +16,20 @@ put-answer-requires c κs = search needs
 enum-known-reply-2 : tie.Need-enum-known-reply-2
 enum-known-reply-2 c = search needs
 
+put-answer-requires-2 : tie.Need-put-answer-requires-2
+put-answer-requires-2 c κs = search needs
+
+enum-known-reply-3 : tie.Need-enum-known-reply-3
+enum-known-reply-3 c = search needs
+
 index-requires : tie.Need-index-requires
 index-requires c κs = search needs
 
 operand-requires : tie.Need-operand-requires
 operand-requires c κs = search needs
 
-put-answer-requires-2 : tie.Need-put-answer-requires-2
-put-answer-requires-2 c κs = search needs
+put-answer-requires-3 : tie.Need-put-answer-requires-3
+put-answer-requires-3 c κs = search needs
 
 number-requires : tie.Need-number-requires
 number-requires c κs = search needs
@@ -40,15 +46,22 @@ same-length-2 c = search needs
 
 returns-2 : tie.Need-returns-2
 unfolding numberIn answerLeft
-returns-2 c =
-    let put-answer2 = c .before .before .before .put-answer2 in
+returns-2 c = rw (c .before .before .before .before .before .reply2 .given .1) (refl, c .before .before .put-answer2 .ensures)
+
+same-length-3 : tie.Need-same-length-3
+same-length-3 c = search needs
+
+returns-3 : tie.Need-returns-3
+unfolding numberIn answerLeft
+returns-3 c =
+    let put-answer3 = c .before .before .before .put-answer3 in
     let operand = c .before .before .before .before .operand in
     let index = c .before .before .before .before .before .index in
-    let reply2 = c .before .before .before .before .before .before .before .before .reply2 in
+    let reply3 = c .before .before .before .before .before .before .before .before .reply3 in
     let args = c .before .before .before .before .before .before .before .before .before .before .before .args in
-    rw (reply2 .given .1) (
+    rw (reply3 .given .1) (
       c .number .ensures,
-      put-answer2 .ensures ∙ ap₂ (λ i o. sets (args .words .now) 0 (i ∷ o ∷ 0 ∷ 0 ∷ [])) (index .ensures) (operand .ensures),
+      put-answer3 .ensures ∙ ap₂ (λ i o. sets (args .words .now) 0 (i ∷ o ∷ 0 ∷ 0 ∷ [])) (index .ensures) (operand .ensures),
     )
 
 pub write-answer-spec : {M : Type 1} → statement M
@@ -58,11 +71,15 @@ write-answer-spec =
     enum-known-reply
     put-answer-requires
     enum-known-reply-2
+    put-answer-requires-2
+    enum-known-reply-3
     index-requires
     operand-requires
-    put-answer-requires-2
+    put-answer-requires-3
     number-requires
     same-length
     returns
     same-length-2
-    returns-2)
+    returns-2
+    same-length-3
+    returns-3)

@@ -1,18 +1,15 @@
 -- `write_header` meets its contract.
 use borrow.Author.Needs.{needs}
 use Rattle.exports.specs.Words.{headerLeft}
+use Rattle.exports.proofs.CallerWords.{headerless}
 use Rattle.exports.proofs.words.write_header.Statement.{statement}
 use Rattle.exports.proofs.words.write_header.Tie as tie
 
 enum-known-reply : tie.Need-enum-known-reply
 enum-known-reply c = search needs
 
-enum-told : tie.Need-enum-told
-enum-told c = search needs
-
 returns : tie.Need-returns
-unfolding headerLeft
-returns c = rw (c .enum-told .given .1)
+returns c = headerless (c .before .before .args .reply) (c .before .before .args .words .now) (c .match .keys2)
 
 put-header-requires : tie.Need-put-header-requires
 put-header-requires c κs = search needs
@@ -29,7 +26,6 @@ write-header-spec =
     tie.close
     (tie.spec
     enum-known-reply
-    enum-told
     returns
     put-header-requires
     same-length
