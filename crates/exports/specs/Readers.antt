@@ -6,26 +6,26 @@ use lib.ListN.{length}
 use Rattle.pauli.specs.Letters.{phaseNumber}
 use Rattle.arena.specs.Walk.{Out}
 use Rattle.arena.specs.Expansion.{ExpandStep, WalkStep, AxesStep, expansionOf, hermitianOf, maxWeightsOf, expandedAxesOf, expandStep, hermitianStep, reportStep, axesStep}
-use Rattle.exports.specs.Types.{Header, Expansion, ExpansionMade, ExpansionRefused, HermitianAxis, HermitianMade, HermitianRefused, MaxAxisWeights, WeightsMade, WeightsRefused, ExpandedAxes, AxesMade, AxesRefused}
-use Rattle.exports.specs.Words.{headerIn, handleIn, tooShort, Reply, Accepted, Refused, Returned, replied}
+use Rattle.exports.specs.Types.{Expansion, ExpansionMade, ExpansionRefused, HermitianAxis, HermitianMade, HermitianRefused, MaxAxisWeights, WeightsMade, WeightsRefused, ExpandedAxes, AxesMade, AxesRefused}
+use Rattle.exports.specs.Words.{headerIn, handleIn, tooShort, Reply, Values, Refused, Returned, replied}
 
 -- ---- replies: phase and work, word and work, two weights and work, the work
 
-unfoldable pub expandedReply : Header → Expansion → Reply
-expandedReply h (ExpansionMade phase work) = Accepted h (phaseNumber phase) work 0
-expandedReply h (ExpansionRefused e) = Refused e
+unfoldable pub expandedReply : Expansion → Reply
+expandedReply (ExpansionMade phase work) = Values (phaseNumber phase) work 0
+expandedReply (ExpansionRefused e) = Refused e
 
-unfoldable pub hermitianReply : Header → HermitianAxis → Reply
-hermitianReply h (HermitianMade axis work) = Accepted h (axis .0 .word) work 0
-hermitianReply h (HermitianRefused e) = Refused e
+unfoldable pub hermitianReply : HermitianAxis → Reply
+hermitianReply (HermitianMade axis work) = Values (axis .0 .word) work 0
+hermitianReply (HermitianRefused e) = Refused e
 
-unfoldable pub weightsReply : Header → MaxAxisWeights → Reply
-weightsReply h (WeightsMade nonClifford clifford work) = Accepted h nonClifford clifford work
-weightsReply h (WeightsRefused e) = Refused e
+unfoldable pub weightsReply : MaxAxisWeights → Reply
+weightsReply (WeightsMade nonClifford clifford work) = Values nonClifford clifford work
+weightsReply (WeightsRefused e) = Refused e
 
-unfoldable pub axesReply : Header → ExpandedAxes → Reply
-axesReply h (AxesMade work) = Accepted h work 0 0
-axesReply h (AxesRefused e) = Refused e
+unfoldable pub axesReply : ExpandedAxes → Reply
+axesReply (AxesMade work) = Values work 0 0
+axesReply (AxesRefused e) = Refused e
 
 -- ---- expand
 
@@ -38,14 +38,14 @@ pub record ExpandLent : Type 0 where
 abbrev pub expandWords : (letters scratch pool : List ℕ) → ExpandLent
 expandWords letters scratch pool = record { letters = letters; scratch = scratch; pool = pool }
 
-abbrev pub expandedWith : Header → (letters scratch pool answer : List ℕ) → (short : Bool) → ExpandStep → Returned ExpandLent
-expandedWith h letters scratch pool answer short step =
-    replied short answer (expandWords letters scratch pool) (expandedReply h (expansionOf (step .answer)))
+abbrev pub expandedWith : (letters scratch pool answer : List ℕ) → (short : Bool) → ExpandStep → Returned ExpandLent
+expandedWith letters scratch pool answer short step =
+    replied short answer (expandWords letters scratch pool) (expandedReply (expansionOf (step .answer)))
     (expandWords (step .letters) (step .scratch) (step .pool))
 
 unfoldable pub expandCall : (header nodes letters scratch pool : List ℕ) → (owner word cells : ℕ) → (answer : List ℕ) → Returned ExpandLent
 expandCall header nodes letters scratch pool owner word cells answer =
-    expandedWith (headerIn header) letters scratch pool answer (tooShort (length header) (length answer))
+    expandedWith letters scratch pool answer (tooShort (length header) (length answer))
     (expandStep (headerIn header) nodes letters scratch pool (handleIn owner word) cells)
 
 -- ---- hermitian_axis and max_axis_weights
@@ -63,12 +63,12 @@ walkedWith scratch pool answer short reply step =
 
 unfoldable pub hermitianCall : (header nodes scratch pool : List ℕ) → (owner word limit : ℕ) → (answer : List ℕ) → Returned WalkLent
 hermitianCall header nodes scratch pool owner word limit answer =
-    walkedWith scratch pool answer (tooShort (length header) (length answer)) (λ o. hermitianReply (headerIn header) (hermitianOf (handleIn owner word) o))
+    walkedWith scratch pool answer (tooShort (length header) (length answer)) (λ o. hermitianReply (hermitianOf (handleIn owner word) o))
     (hermitianStep (headerIn header) nodes scratch pool (handleIn owner word) limit)
 
 unfoldable pub weightsCall : (header nodes operations scratch pool : List ℕ) → (limit : ℕ) → (answer : List ℕ) → Returned WalkLent
 weightsCall header nodes operations scratch pool limit answer =
-    walkedWith scratch pool answer (tooShort (length header) (length answer)) (λ o. weightsReply (headerIn header) (maxWeightsOf o))
+    walkedWith scratch pool answer (tooShort (length header) (length answer)) (λ o. weightsReply (maxWeightsOf o))
     (reportStep (headerIn header) nodes operations scratch pool limit)
 
 -- ---- expand_axes
@@ -81,12 +81,12 @@ pub record AxesLent : Type 0 where
 abbrev pub axesWords : (rows scratch pool : List ℕ) → AxesLent
 axesWords rows scratch pool = record { rows = rows; scratch = scratch; pool = pool }
 
-abbrev pub axesWith : Header → (rows scratch pool answer : List ℕ) → (short : Bool) → AxesStep → Returned AxesLent
-axesWith h rows scratch pool answer short step =
-    replied short answer (axesWords rows scratch pool) (axesReply h (expandedAxesOf (step .answer)))
+abbrev pub axesWith : (rows scratch pool answer : List ℕ) → (short : Bool) → AxesStep → Returned AxesLent
+axesWith rows scratch pool answer short step =
+    replied short answer (axesWords rows scratch pool) (axesReply (expandedAxesOf (step .answer)))
     (axesWords (step .rows) (step .scratch) (step .pool))
 
 unfoldable pub expandAxesCall : (header nodes operations rows scratch pool : List ℕ) → (limit : ℕ) → (answer : List ℕ) → Returned AxesLent
 expandAxesCall header nodes operations rows scratch pool limit answer =
-    axesWith (headerIn header) rows scratch pool answer (tooShort (length header) (length answer))
+    axesWith rows scratch pool answer (tooShort (length header) (length answer))
     (axesStep (headerIn header) nodes operations rows scratch pool limit)

@@ -7,7 +7,6 @@ use crate::words::too_short;
 use crate::words::write_answer;
 use arena::ExpandedAxes;
 use arena::Expansion;
-use arena::Header;
 use arena::HermitianAxis;
 use arena::MaxAxisWeights;
 ghost use mathlib.Core.Path.{_≡_};
@@ -15,44 +14,42 @@ ghost use Rattle.exports.specs.Words.{returned};
 ghost use Rattle.exports.specs.Readers.{expandedReply, hermitianReply, weightsReply, axesReply};
 ghost use Rattle.exports.specs.Readers.{expandWords, walkWords, axesWords, expandCall, hermitianCall, weightsCall, expandAxesCall};
 
-fn expanded(header: Header, answer: Expansion) -> Reply
-    ensures { λ r. ⌜ r ≡ expandedReply header answer ⌝ }
+fn expanded(answer: Expansion) -> Reply
+    ensures { λ r. ⌜ r ≡ expandedReply answer ⌝ }
 {
     match answer {
-        Expansion::Made(phase, work) => {
-            Reply::Accepted(header, phase.number() as u64, work as u64, 0)
-        }
+        Expansion::Made(phase, work) => { Reply::Values(phase.number() as u64, work as u64, 0) }
         Expansion::Refused(error) => Reply::Refused(error),
     }
 }
 
-fn hermitian(header: Header, answer: HermitianAxis) -> Reply
-    ensures { λ r. ⌜ r ≡ hermitianReply header answer ⌝ }
+fn hermitian(answer: HermitianAxis) -> Reply
+    ensures { λ r. ⌜ r ≡ hermitianReply answer ⌝ }
 {
     match answer {
         HermitianAxis::Made(axis, work) => {
-            Reply::Accepted(header, axis.as_ref().word as u64, work as u64, 0)
+            Reply::Values(axis.as_ref().word as u64, work as u64, 0)
         }
         HermitianAxis::Refused(error) => Reply::Refused(error),
     }
 }
 
-fn weights(header: Header, answer: MaxAxisWeights) -> Reply
-    ensures { λ r. ⌜ r ≡ weightsReply header answer ⌝ }
+fn weights(answer: MaxAxisWeights) -> Reply
+    ensures { λ r. ⌜ r ≡ weightsReply answer ⌝ }
 {
     match answer {
         MaxAxisWeights::Made(non_clifford, clifford, work) => {
-            Reply::Accepted(header, non_clifford as u64, clifford as u64, work as u64)
+            Reply::Values(non_clifford as u64, clifford as u64, work as u64)
         }
         MaxAxisWeights::Refused(error) => Reply::Refused(error),
     }
 }
 
-fn axes(header: Header, answer: ExpandedAxes) -> Reply
-    ensures { λ r. ⌜ r ≡ axesReply header answer ⌝ }
+fn axes(answer: ExpandedAxes) -> Reply
+    ensures { λ r. ⌜ r ≡ axesReply answer ⌝ }
 {
     match answer {
-        ExpandedAxes::Made(work) => Reply::Accepted(header, work as u64, 0, 0),
+        ExpandedAxes::Made(work) => Reply::Values(work as u64, 0, 0),
         ExpandedAxes::Refused(error) => Reply::Refused(error),
     }
 }
@@ -79,7 +76,7 @@ pub extern "C" fn pbc_expand(
     let was = read_header(header);
     let expression = handle(owner, word);
     let made = was.expand(nodes, letters, scratch, pool, expression, cells as usize);
-    let reply = expanded(was, made);
+    let reply = expanded(made);
     write_answer(answer, reply)
 }
 
@@ -104,7 +101,7 @@ pub extern "C" fn pbc_hermitian_axis(
     let was = read_header(header);
     let expression = handle(owner, word);
     let made = was.hermitian_axis(nodes, scratch, pool, expression, limit as usize);
-    let reply = hermitian(was, made);
+    let reply = hermitian(made);
     write_answer(answer, reply)
 }
 
@@ -127,7 +124,7 @@ pub extern "C" fn pbc_max_axis_weights(
     }
     let was = read_header(header);
     let made = was.max_axis_weights(nodes, operations, scratch, pool, limit as usize);
-    let reply = weights(was, made);
+    let reply = weights(made);
     write_answer(answer, reply)
 }
 
@@ -151,6 +148,6 @@ pub extern "C" fn pbc_expand_axes(
     }
     let was = read_header(header);
     let made = was.expand_axes(nodes, operations, rows, scratch, pool, limit as usize);
-    let reply = axes(was, made);
+    let reply = axes(made);
     write_answer(answer, reply)
 }

@@ -14,7 +14,7 @@ ghost use lib.ListN.{length};
 ghost use lib.Seq.{sets};
 ghost use Rattle.exports.specs.Words.{fieldIn, headerIn, handleIn, handleAxis, letterIn, angleIn, targetIn, tooShort, headerWords, numberIn, headerLeft, answerLeft};
 
-/// What a call has to say: the new header and up to three values; values alone, where there is no header; or why it was refused.
+/// What a call has to say: the new header and up to three values; values alone, where no header changes; or why it was refused.
 pub(crate) enum Reply {
     Accepted(Header, u64, u64, u64),
     Values(u64, u64, u64),

@@ -10,8 +10,8 @@ enum-known-answer c = search needs
 number-requires : tie.Need-number-requires
 number-requires c κs = search needs
 
-cast-t8 : tie.Need-cast-t8
-cast-t8 c = search needs
+cast-t7 : tie.Need-cast-t7
+cast-t7 c = search needs
 
 enum-known-answer-2 : tie.Need-enum-known-answer-2
 enum-known-answer-2 c = search needs
@@ -30,7 +30,7 @@ expanded-spec =
     (tie.spec
     enum-known-answer
     number-requires
-    cast-t8
+    cast-t7
     enum-known-answer-2
     returns
     returns-2)

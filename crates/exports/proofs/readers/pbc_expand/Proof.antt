@@ -55,7 +55,7 @@ returns-2 c =
     let too-short = back12 .before .before .before .before .before .before .too-short in
     let args = back12 .before .before .before .before .before .before .before .before .before .before .before .before .before .args in
     rw (sym (too-short .ensures) ∙ if1 .left, ← read-header .ensures, ← handle .ensures)
-    (replied-is (args .answer .now) (expanded .ensures ∙ ap (expandedReply (read-header .result)) (expand .ensures .0)) (write-answer .ensures .0) (write-answer .ensures .1)
+    (replied-is (args .answer .now) (expanded .ensures ∙ ap expandedReply (expand .ensures .0)) (write-answer .ensures .0) (write-answer .ensures .1)
     (same-expand (expand .ensures .1 .0) (expand .ensures .1 .1 .0) (expand .ensures .1 .1 .1)))
 
 pub pbc-expand-spec : {M : Type 1} → statement M

@@ -51,7 +51,7 @@ returns-2 c =
     let too-short = back12 .before .before .before .before .before .too-short in
     let args = back12 .before .before .before .before .before .before .before .before .before .before .before .before .before .args in
     rw (sym (too-short .ensures) ∙ if1 .left, ← read-header .ensures)
-    (replied-is (args .answer .now) (axes .ensures ∙ ap (axesReply (read-header .result)) (expand-axes .ensures .0)) (write-answer .ensures .0) (write-answer .ensures .1)
+    (replied-is (args .answer .now) (axes .ensures ∙ ap axesReply (expand-axes .ensures .0)) (write-answer .ensures .0) (write-answer .ensures .1)
     (same-axes (expand-axes .ensures .1 .0) (expand-axes .ensures .1 .1 .0) (expand-axes .ensures .1 .1 .1)))
 
 pub pbc-expand-axes-spec : {M : Type 1} → statement M

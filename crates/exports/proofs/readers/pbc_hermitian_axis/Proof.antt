@@ -52,7 +52,7 @@ returns-2 c =
     let too-short = back12 .before .before .before .too-short in
     let args = back12 .before .before .before .before .before .before .before .before .before .args in
     rw (sym (too-short .ensures) ∙ if1 .left, ← read-header .ensures, ← handle .ensures)
-    (replied-is (args .answer .now) (hermitian .ensures ∙ ap (hermitianReply (read-header .result)) (hermitian-axis .ensures .0)) (write-answer .ensures .0) (write-answer .ensures .1)
+    (replied-is (args .answer .now) (hermitian .ensures ∙ ap hermitianReply (hermitian-axis .ensures .0)) (write-answer .ensures .0) (write-answer .ensures .1)
     (same-walk (hermitian-axis .ensures .1 .0) (hermitian-axis .ensures .1 .1)))
 
 pub pbc-hermitian-axis-spec : {M : Type 1} → statement M

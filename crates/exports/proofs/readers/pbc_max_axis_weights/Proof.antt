@@ -48,7 +48,7 @@ returns-2 c =
     let back12 = c .before .before .before .before .before .before .before .before .before .before .before .before in
     let args = back12 .before .before .before .before .before .before .before .before .before .args in
     rw (sym (too-short .ensures) ∙ if1 .left, ← read-header .ensures)
-    (replied-is (args .answer .now) (weights .ensures ∙ ap (weightsReply (read-header .result)) (max-axis-weights .ensures .0)) (write-answer .ensures .0) (write-answer .ensures .1)
+    (replied-is (args .answer .now) (weights .ensures ∙ ap weightsReply (max-axis-weights .ensures .0)) (write-answer .ensures .0) (write-answer .ensures .1)
     (same-walk (max-axis-weights .ensures .1 .0) (max-axis-weights .ensures .1 .1)))
 
 pub pbc-max-axis-weights-spec : {M : Type 1} → statement M
