@@ -1,6 +1,6 @@
 -- Each function for C, computed: called once where it accepts and once where it refuses, with the number that it returns and every word that it leaves.
 use mathlib.Core.Path.{_≡_, refl}
-use mathlib.Core.List.{List, [], _∷_, map}
+use mathlib.Core.List.{List, [], _∷_, _++_, map}
 use Prim.Native.Nat.{ℕ}
 use lib.IntN.{pos, negsuc}
 use lib.ListN.{replicate}
@@ -22,11 +22,16 @@ use Rattle.convert.specs.Frame.{startArena, pushed, multiplied, frameStep, qubi
 use Rattle.convert.specs.Words.{startWords, flushGate, flushGates, flushWords, writeSeven, write, wordStep, wordRun}
 use Rattle.convert.specs.Planes.{mask, digits, rowWords, rowsWords, images, packed}
 use Rattle.convert.specs.Conversion.{gatesIn, plainEnd, tableEnd, wordEnd, recordChecked, recordsChecked, gatesCheck, gatesChecked, roomChecked, convertCheck, convertWithin, convertStep}
+use Rattle.qasm.specs.Reading.{andThen, blank, takeSign, takeWord, takeNumber, takeThis, takeIndex, takeBit, takeRegister, takeVersion, takeInclude}
+use Rattle.qasm.specs.Reading.{takeEnd, takeOne, takeTwo, takeThree, takeMeasure, gateBy, takeGate, fromGates, fromCreg, fromQreg, fromInclude, reading}
+use Rattle.qasm.specs.Answers.{answerOf, leftIn}
+use Rattle.qasm.specs.Position.{positionIn}
 use Rattle.exports.specs.Words.{fieldIn, headerIn, letterIn, angleIn, targetIn, tooShort, numberIn, headerLeft, answerLeft, returned}
 use Rattle.exports.specs.Exports.{createdReply, singledReply, multipliedReply, pushedReply, measuredReply, headed, lentWords}
 use Rattle.exports.specs.Exports.{newCall, singleCall, productCall, rotateCall, measureCall, conditionalCall, timesNumber}
 use Rattle.exports.specs.Readers.{expandedReply, hermitianReply, weightsReply, axesReply, expandWords, walkWords, axesWords, expandCall, hermitianCall, weightsCall, expandAxesCall}
 use Rattle.exports.specs.Conversion.{framePushedReply, convertedReply, capIn, cliffordCall, convertWords, convertCall}
+use Rattle.exports.specs.Texts.{programReply, readQasmCall, positionReply, textPositionCall}
 
 -- a header of two qubits, three classical bits, owner 7, six nodes, two operations and one measurement, and a word more; five words for the answer
 header : List ℕ
@@ -287,3 +292,47 @@ wide-header : singleCall (2 ∷ 3 ∷ 7 ∷ 4294967302 ∷ 2 ∷ 1 ∷ []) nodes
     ≡ returned 3 (0 ∷ 0 ∷ 0 ∷ 0 ∷ 9 ∷ []) (headed (2 ∷ 3 ∷ 7 ∷ 4294967302 ∷ 2 ∷ 1 ∷ []) nodes)
 unfolding header
 wide-header = refl
+
+-- ---- pbc_read_qasm
+
+-- OPENQASM 2.0; include "qelib1.inc"; qreg q[3]; creg c[2]; each on its line, 58 bytes, then these
+lines : List ℕ → List ℕ
+unfolding andThen blank takeSign takeWord takeNumber takeThis takeIndex takeBit takeRegister takeVersion takeInclude takeEnd takeOne takeTwo takeThree takeMeasure gateBy takeGate
+    fromGates fromCreg fromQreg fromInclude reading answerOf leftIn positionIn numberIn answerLeft programReply readQasmCall positionReply textPositionCall
+lines rest = (79 ∷ 80 ∷ 69 ∷ 78 ∷ 81 ∷ 65 ∷ 83 ∷ 77 ∷ 32 ∷ 50 ∷ 46 ∷ 48 ∷ 59 ∷ 10 ∷ 105 ∷ 110 ∷ 99 ∷ 108 ∷ 117 ∷ 100 ∷ 101 ∷ 32 ∷ 34 ∷ 113 ∷ 101 ∷ 108 ∷ 105 ∷ 98 ∷ 49 ∷ 46
+    ∷ 105 ∷ 110 ∷ 99 ∷ 34 ∷ 59 ∷ 10 ∷ 113 ∷ 114 ∷ 101 ∷ 103 ∷ 32 ∷ 113 ∷ 91 ∷ 51 ∷ 93 ∷ 59 ∷ 10 ∷ 99 ∷ 114 ∷ 101 ∷ 103 ∷ 32 ∷ 99 ∷ 91 ∷ 50 ∷ 93 ∷ 59 ∷ 10 ∷ []) ++ rest
+
+-- h q[0];cx q[1],q[2];
+abbrev two : List ℕ
+two = lines (104 ∷ 32 ∷ 113 ∷ 91 ∷ 48 ∷ 93 ∷ 59 ∷ 99 ∷ 120 ∷ 32 ∷ 113 ∷ 91 ∷ 49 ∷ 93 ∷ 44 ∷ 113 ∷ 91 ∷ 50 ∷ 93 ∷ 59 ∷ [])
+
+-- into nine words: the values are two gates, three qubits and two classical bits
+read-accepted : readQasmCall two (replicate 9 7) answer ≡ returned 0 (2 ∷ 3 ∷ 2 ∷ 0 ∷ 9 ∷ []) (0 ∷ 0 ∷ 0 ∷ 0 ∷ 8 ∷ 1 ∷ 2 ∷ 0 ∷ 7 ∷ [])
+unfolding header lines
+read-accepted = refl
+
+-- h q[0]; h q[01]; is 20 at the place of its second statement, and no word is written
+read-refused : readQasmCall (lines (104 ∷ 32 ∷ 113 ∷ 91 ∷ 48 ∷ 93 ∷ 59 ∷ 32 ∷ 104 ∷ 32 ∷ 113 ∷ 91 ∷ 48 ∷ 49 ∷ 93 ∷ 59 ∷ [])) (replicate 9 7) answer
+    ≡ returned 20 (0 ∷ 66 ∷ 0 ∷ 0 ∷ 9 ∷ []) (7 ∷ 7 ∷ 7 ∷ 7 ∷ 7 ∷ 7 ∷ 7 ∷ 7 ∷ 7 ∷ [])
+unfolding header lines
+read-refused = refl
+
+-- one word too few: 21
+read-no-room : readQasmCall two (replicate 7 7) answer ≡ returned 21 (0 ∷ 0 ∷ 0 ∷ 0 ∷ 9 ∷ []) (7 ∷ 7 ∷ 7 ∷ 7 ∷ 7 ∷ 7 ∷ 7 ∷ [])
+unfolding header lines
+read-no-room = refl
+
+-- an answer of three words: 255
+read-short-answer : readQasmCall two (replicate 8 7) (9 ∷ 9 ∷ 9 ∷ []) ≡ returned 255 (9 ∷ 9 ∷ 9 ∷ []) (7 ∷ 7 ∷ 7 ∷ 7 ∷ 7 ∷ 7 ∷ 7 ∷ 7 ∷ [])
+unfolding header lines
+read-short-answer = refl
+
+-- ---- pbc_text_position: the values are line and column; of the last byte of h; and h; on two lines
+
+position-found : textPositionCall (104 ∷ 59 ∷ 10 ∷ 104 ∷ 59 ∷ []) 4 answer ≡ returned 0 (2 ∷ 2 ∷ 0 ∷ 0 ∷ 9 ∷ []) tt
+unfolding header lines
+position-found = refl
+
+position-short-answer : textPositionCall (104 ∷ 59 ∷ 10 ∷ 104 ∷ 59 ∷ []) 4 (9 ∷ 9 ∷ 9 ∷ []) ≡ returned 255 (9 ∷ 9 ∷ 9 ∷ []) tt
+unfolding header lines
+position-short-answer = refl

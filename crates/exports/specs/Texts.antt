@@ -5,7 +5,8 @@ use lib.Dec.{ltb}
 use lib.ListN.{length}
 use Rattle.qasm.specs.Reading.{Read, reading}
 use Rattle.qasm.specs.Answers.{answerOf, leftIn}
-use Rattle.exports.specs.Types.{QasmRead, Program, QasmRefused}
+use Rattle.qasm.specs.Position.{positionIn}
+use Rattle.exports.specs.Types.{QasmRead, Program, QasmRefused, TextPosition}
 use Rattle.exports.specs.Words.{Reply, Values, Refused, Returned, replied}
 
 -- ---- read_qasm: the values are the number of gate records, of qubits and of classical bits
@@ -19,3 +20,11 @@ readWith read gates answer = replied (ltb (length answer) 4) answer gates (progr
 
 unfoldable pub readQasmCall : (text gates answer : List ℕ) → Returned (List ℕ)
 readQasmCall text gates answer = readWith (reading text) gates answer
+
+-- ---- text_position: the values are the line and the column; nothing is lent but the answer
+
+unfoldable pub positionReply : TextPosition → Reply
+positionReply p = Values (p .line) (p .column) 0
+
+unfoldable pub textPositionCall : (text : List ℕ) → (place : ℕ) → (answer : List ℕ) → Returned (Unit {0})
+textPositionCall text place answer = replied (ltb (length answer) 4) answer tt (positionReply (positionIn text place)) tt

@@ -21,3 +21,4 @@ pub use Rattle.convert.specs.declared.frame.FramePushed.the-variants.{the-data 
 pub use Rattle.convert.specs.declared.convert.Converted.the-variants.{the-data as Converted, Made as ConvertedMade, Refused as ConvertedRefused}
 pub use Rattle.convert.specs.declared.cap.Cap.the-variants.{the-data as Cap, None as NoCap, AtMost}
 pub use Rattle.qasm.specs.declared.program.QasmRead.the-variants.{the-data as QasmRead, Program, Refused as QasmRefused}
+pub use Rattle.qasm.specs.declared.position.TextPosition.{TextPosition}

@@ -32,3 +32,4 @@ pub use readers::pbc_expand_axes;
 pub use readers::pbc_hermitian_axis;
 pub use readers::pbc_max_axis_weights;
 pub use text::pbc_read_qasm;
+pub use text::pbc_text_position;
