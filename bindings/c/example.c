@@ -1,22 +1,33 @@
-/* Converts a 2-bit ripple-carry adder (Cuccaro, Draper, Kutin and Moulton) with measured sums, and prints each operation with its gate and
- * the letters of its axis. Exits with 1 where a call answers something else than expected. */
+/* Reads the OpenQASM 2 text of a 2-bit ripple-carry adder (Cuccaro, Draper, Kutin and Moulton) with measured sums, converts it, and prints each
+ * operation with its gate and the letters of its axis. Exits with 1 where a call answers something else than expected. */
 #include "pbc.h"
 
 #include <stdio.h>
 #include <stdlib.h>
 
-enum { CNOT = PBC_GATE_CNOT, CCX = PBC_GATE_CCX, MEASURE = PBC_GATE_MEASURE };
+static const char adder[] = "OPENQASM 2.0;\n"
+                            "include \"qelib1.inc\";\n"
+                            "qreg q[6]; // carry in, b_0, a_0, b_1, a_1, carry out\n"
+                            "creg c[3];\n"
+                            "cx q[2],q[1]; cx q[2],q[0]; ccx q[0],q[1],q[2];\n"
+                            "cx q[4],q[3]; cx q[4],q[2]; ccx q[2],q[3],q[4];\n"
+                            "cx q[4],q[5];\n"
+                            "ccx q[2],q[3],q[4]; cx q[4],q[2]; cx q[2],q[3];\n"
+                            "ccx q[0],q[1],q[2]; cx q[2],q[0]; cx q[0],q[1];\n"
+                            "measure q[1] -> c[0]; measure q[3] -> c[1]; measure q[5] -> c[2];\n";
 
-/* Qubit 0 is the carry in, then b_0, a_0, b_1, a_1, and the carry out. */
-static const uint32_t gates[] = {
-    CNOT, 2, 1, 0, CNOT, 2, 0, 0, CCX, 0, 1, 2, CNOT, 4, 3, 0, CNOT, 4, 2, 0, CCX,     2, 3, 4, CNOT,    4, 5, 0, CCX,     2, 3, 4,
-    CNOT, 4, 2, 0, CNOT, 2, 3, 0, CCX, 0, 1, 2, CNOT, 2, 0, 0, CNOT, 0, 1, 0, MEASURE, 1, 0, 0, MEASURE, 3, 1, 0, MEASURE, 5, 2, 0,
-};
+/* A swap is a gate of the library's, but none of the text's. */
+static const char wrong[] = "OPENQASM 2.0;\n"
+                            "include \"qelib1.inc\";\n"
+                            "qreg q[2];\n"
+                            "creg c[1];\n"
+                            "h q[0]; swap q[0],q[1];\n";
 
 /* Room for the gates, and for what is added by hand below. */
-enum { QUBITS = 6, CBITS = 3, OWNER = 11, LIMIT = 100000, GATES = sizeof gates / sizeof *gates / PBC_GATE_WORDS };
+enum { QUBITS = 6, CBITS = 3, OWNER = 11, LIMIT = 100000, GATES = PBC_GATES_FOR_TEXT(sizeof adder) };
 enum { NODES = PBC_NODES_FOR(QUBITS, GATES) + 2, OPERATIONS = PBC_OPERATIONS_FOR(GATES) + 1, RECORDS = PBC_RECORDS_FOR(QUBITS, NODES) };
 
+static uint32_t gates[PBC_GATES_WORDS(GATES)];
 static uint32_t nodes[PBC_NODES_WORDS(NODES)], operations[PBC_OPERATIONS_WORDS(OPERATIONS)], frame[PBC_FRAME_WORDS(QUBITS)];
 static uint32_t scratch[PBC_SCRATCH_WORDS(NODES)], pool[PBC_POOL_WORDS(RECORDS)];
 static uint64_t header[PBC_HEADER_WORDS], answer[PBC_ANSWER_WORDS];
@@ -31,9 +42,14 @@ static void expect(const char *what, uint32_t number, uint32_t wanted)
     }
 }
 
-static uint32_t convert(size_t nodes_len, size_t operations_len, size_t header_len)
+static uint32_t read_qasm(const char *text, size_t text_len)
 {
-    return pbc_convert(QUBITS, CBITS, OWNER, PBC_NO_CAP, gates, PBC_GATE_WORDS * GATES, nodes, nodes_len, operations, operations_len, frame,
+    return pbc_read_qasm(text, text_len, gates, PBC_GATES_WORDS(GATES), answer, PBC_ANSWER_WORDS);
+}
+
+static uint32_t convert(size_t count, size_t nodes_len, size_t operations_len, size_t header_len)
+{
+    return pbc_convert(QUBITS, CBITS, OWNER, PBC_NO_CAP, gates, PBC_GATES_WORDS(count), nodes, nodes_len, operations, operations_len, frame,
                        PBC_FRAME_WORDS(QUBITS), NULL, 0, header, header_len, answer, PBC_ANSWER_WORDS);
 }
 
@@ -69,10 +85,18 @@ static void print_operation(uint64_t i)
 int main(void)
 {
     uint8_t letters[QUBITS];
-    expect("short header", convert(PBC_NODES_WORDS(NODES), PBC_OPERATIONS_WORDS(OPERATIONS), 5), PBC_TOO_SHORT);
-    expect("few nodes", convert(2 * 13, PBC_OPERATIONS_WORDS(OPERATIONS), PBC_HEADER_WORDS), PBC_NO_NODES);
-    expect("few operations", convert(PBC_NODES_WORDS(NODES), 0, PBC_HEADER_WORDS), PBC_NO_OPERATIONS);
-    expect("convert", convert(PBC_NODES_WORDS(NODES), PBC_OPERATIONS_WORDS(OPERATIONS), PBC_HEADER_WORDS), 0);
+    expect("wrong text", read_qasm(wrong, sizeof wrong - 1), PBC_BAD_TEXT);
+    expect("position", pbc_text_position(wrong, sizeof wrong - 1, answer[1], answer, PBC_ANSWER_WORDS), 0);
+    printf("line %llu, column %llu: no statement of the subset begins here\n", (unsigned long long)answer[0], (unsigned long long)answer[1]);
+
+    expect("read", read_qasm(adder, sizeof adder - 1), 0);
+    expect("qubits", (uint32_t)answer[1], QUBITS);
+    expect("classical bits", (uint32_t)answer[2], CBITS);
+    size_t count = (size_t)answer[0];
+    expect("short header", convert(count, PBC_NODES_WORDS(NODES), PBC_OPERATIONS_WORDS(OPERATIONS), 5), PBC_TOO_SHORT);
+    expect("few nodes", convert(count, 2 * 13, PBC_OPERATIONS_WORDS(OPERATIONS), PBC_HEADER_WORDS), PBC_NO_NODES);
+    expect("few operations", convert(count, PBC_NODES_WORDS(NODES), 0, PBC_HEADER_WORDS), PBC_NO_OPERATIONS);
+    expect("convert", convert(count, PBC_NODES_WORDS(NODES), PBC_OPERATIONS_WORDS(OPERATIONS), PBC_HEADER_WORDS), 0);
     printf("%llu nodes, %llu operations, %llu measurements\n", (unsigned long long)header[PBC_NODES], (unsigned long long)header[PBC_OPERATIONS],
            (unsigned long long)header[PBC_MEASUREMENTS]);
     expect("axes", expand_axes(LIMIT), 0);

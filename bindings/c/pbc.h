@@ -1,6 +1,6 @@
 /* Pauli-based circuits: the functions of libexports.a (rt staticlib exports writes it to target/staticlib).
  *
- * Every function here is proved to return the number and to leave the words that crates/exports/specs/Exports.antt defines,
+ * Every function here is proved to return the number and to leave the words that crates/exports/specs defines,
  * whatever numbers it is passed. What stays with the caller: each pointer leads to as many words as the length beside it says,
  * aligned, and no two slices of one call overlap unless both are const. A null pointer with length 0 is an empty slice; that it is never
  * read or written through is tested (test.c), not proved.
@@ -15,12 +15,12 @@
  *            written where the call is accepted and changes it. A word over 4294967295 counts as 4294967295, which breaks a limit
  *            (the call answers PBC_BAD_STORE); the owner has 64 bits.
  *   answer   PBC_ANSWER_WORDS words. Accepted: the values named at each function, then zeros. Refused: the offending gate's index (or 0),
- *            the offending kind, qubit or bit (or 0), 0, 0.
+ *            the offending kind, qubit, bit or place (or 0), 0, 0.
  *   handle   owner and word; a word is 4 * node + phase (enum pbc_phase).
  *   letter   enum pbc_pauli; a larger number counts modulo 4.
  *   angle    k stands for exp(-i k pi/8 P); any number, which counts modulo 8.
- *   Words past the fourth of the answer and past the sixth of the header are left alone. A refusal leaves nodes, operations, frame and letters;
- *   rows are zero after 17 and 18.
+ *   Words past the fourth of the answer and past the sixth of the header are left alone. A refusal leaves gates, nodes, operations, frame and
+ *   letters; rows are zero after 17 and 18.
  */
 #ifndef PBC_H
 #define PBC_H
@@ -51,13 +51,16 @@ extern "C" {
 /* What always suffices, with any cap or none, as constant expressions where the arguments are. Where a limit cuts one of the three that are
  * counts (nodes, operations, records), the call can still be refused (14, 15, 18), and more would not help. */
 #define PBC_LEAST_(a, b) ((a) < (b) ? (a) : (b))
+/* Gates of a text of so many bytes: the shortest are of 7, as `h a[0];`. */
+#define PBC_GATES_FOR_TEXT(bytes) ((size_t)(bytes) / 7)
 /* Nodes of a circuit of so many qubits and gates; of a new circuit with 0 gates. A swap pushes 6, and a flush of it 3. */
 #define PBC_NODES_FOR(qubits, gates) PBC_LEAST_((size_t)PBC_MAX_NODES, 1 + 2 * (size_t)(qubits) + 9 * (size_t)(gates))
 /* Operations of so many gates. A flush of a swap writes 9, a ccx 7. */
 #define PBC_OPERATIONS_FOR(gates) PBC_LEAST_((size_t)PBC_MAX_OPERATIONS, 9 * (size_t)(gates))
 /* Records of a walk over so many nodes: a node holds a factor a qubit at the most, and record 0 is never lent. */
 #define PBC_RECORDS_FOR(qubits, nodes) PBC_LEAST_((size_t)PBC_MAX_RECORDS, 1 + (size_t)(qubits) * (size_t)(nodes))
-/* Words of nodes, operations and pool, for so many of them. */
+/* Words of gates, nodes, operations and pool, for so many of them. */
+#define PBC_GATES_WORDS(gates) (PBC_GATE_WORDS * (size_t)(gates))
 #define PBC_NODES_WORDS(nodes) (PBC_NODE_WORDS * (size_t)(nodes))
 #define PBC_OPERATIONS_WORDS(operations) (PBC_OPERATION_WORDS * (size_t)(operations))
 #define PBC_POOL_WORDS(records) (PBC_RECORD_WORDS * (size_t)(records))
@@ -129,6 +132,8 @@ enum pbc_refusal {
     PBC_EXPANSION_LIMIT = 17,           /* the work is above the limit */
     PBC_NO_POOL = 18,                   /* more factors at once than the pool has records besides record 0 */
     PBC_NON_HERMITIAN_AXIS = 19,        /* the phase is i or -i */
+    PBC_BAD_TEXT = 20,                  /* operand: the byte, from 0, where no statement of the subset begins */
+    PBC_NO_GATE_ROOM = 21,              /* more gates in the text than lent */
     PBC_TOO_SHORT = 255                 /* header below 6 words, or answer below 4 */
 };
 
@@ -156,6 +161,8 @@ static inline const char *pbc_refusal_name(uint32_t number)
         "ExpansionLimit",
         "NoPool",
         "NonHermitianAxis",
+        "BadText",
+        "NoGateRoom",
     };
     if (number < sizeof names / sizeof *names)
         return names[number];
@@ -221,6 +228,19 @@ uint32_t pbc_max_axis_weights(const uint64_t *header, size_t header_len, const u
 uint32_t pbc_expand_axes(const uint64_t *header, size_t header_len, const uint32_t *nodes, size_t nodes_len, const uint32_t *operations,
                          size_t operations_len, uint8_t *rows, size_t rows_len, uint32_t *scratch, size_t scratch_len, uint32_t *pool,
                          size_t pool_len, uint64_t limit, uint64_t *answer, size_t answer_len);
+
+/* ---- text */
+
+/* The gates of an OpenQASM 2 text, for pbc_convert: OPENQASM 2.0; include "qelib1.inc"; one qreg, then one creg, then h, x, y, z, s, sdg, t, tdg,
+ * cx, cy, cz, ccx on bits of the first, and measure from one of them to one of the second. Their words, unused ones 0, come to stand at the front
+ * of the slice. That operands are in range and differ is for the conversion to test. Values: number of gates, qubits, classical bits. Refuses with
+ * 20, its operand the place of the first statement that is none of these, or the text's length where it ends before the creg; then with 21, never
+ * where PBC_GATES_FOR_TEXT(text_len) gates are lent. */
+uint32_t pbc_read_qasm(const char *text, size_t text_len, uint32_t *gates, size_t gates_len, uint64_t *answer, size_t answer_len);
+
+/* A byte of a text, as the operand of PBC_BAD_TEXT is one, by line and column; past the text, where its next byte would stand. Values: line,
+ * column, both from 1; a column counts bytes, and a line feed ends a line. Refuses nothing. */
+uint32_t pbc_text_position(const char *text, size_t text_len, uint64_t place, uint64_t *answer, size_t answer_len);
 
 /* ---- conversion */
 

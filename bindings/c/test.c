@@ -1,5 +1,5 @@
 /* Tests of what pbc.h says beside the calls' own answers: sizes that suffice, names, null pointers, targets past 32 bits, caps, the gates of
- * operations, rows, threads.
+ * operations, rows, texts, threads. The argument is the folder of the adders (examples).
  * Exits with 1 at the first call that answers something else than expected. */
 #include "pbc.h"
 
@@ -225,6 +225,136 @@ static void rows_are_the_axes(void)
     expect("a bad operation", expand_axes(sizeof rows, LENGTH(pool), work), PBC_BAD_STORE);
 }
 
+/* 58 bytes, on four lines. */
+#define LINES "OPENQASM 2.0;\ninclude \"qelib1.inc\";\nqreg q[3];\ncreg c[2];\n"
+
+static uint32_t read_qasm(const char *text, size_t gates_len) { return pbc_read_qasm(text, strlen(text), gates, gates_len, LENT(answer)); }
+
+static void texts_are_gates(void)
+{
+    static const char text[] = LINES "h q[0];x q[1];y q[2];z q[0];s q[1];sdg q[2];t q[0];tdg q[1];cx q[0],q[1];cy q[1],q[2];cz q[2],q[0];\n"
+                                     "ccx q[2],q[1],q[0]; // all but the last\n measure q[2]->c[1];";
+    static const uint32_t wanted[] = {PBC_GATE_H,       0, 0, 0, PBC_GATE_X,   1, 0, 0, PBC_GATE_Y,  2, 0, 0, PBC_GATE_Z,   0, 0, 0,
+                                      PBC_GATE_S,       1, 0, 0, PBC_GATE_SDG, 2, 0, 0, PBC_GATE_T,  0, 0, 0, PBC_GATE_TDG, 1, 0, 0,
+                                      PBC_GATE_CNOT,    0, 1, 0, PBC_GATE_CY,  1, 2, 0, PBC_GATE_CZ, 2, 0, 0, PBC_GATE_CCX, 2, 1, 0,
+                                      PBC_GATE_MEASURE, 2, 1, 0};
+    memset(gates, 9, sizeof gates);
+    expect("no room", read_qasm(text, LENGTH(wanted) - 1), PBC_NO_GATE_ROOM);
+    expect("a word after 21", gates[0], 0x09090909);
+    expect("read", read_qasm(text, LENGTH(wanted)), PBC_ACCEPTED);
+    expect("gates", answer[0], LENGTH(wanted) / PBC_GATE_WORDS);
+    expect("qubits", answer[1], 3);
+    expect("classical bits", answer[2], 2);
+    expect("their words", (uint64_t)memcmp(gates, wanted, sizeof wanted), 0);
+    expect("a word past them", gates[LENGTH(wanted)], 0x09090909);
+    expect("a short answer", pbc_read_qasm(text, strlen(text), LENT(gates), answer, PBC_ANSWER_WORDS - 1), PBC_TOO_SHORT);
+}
+
+/* The shortest gates after the shortest lines before them, as many as the slice holds. */
+static void gates_for_text_suffice(void)
+{
+    static const char lines[] = "OPENQASM 2.0;include\"qelib1.inc\";qreg a[1];creg b[1];", gate[] = "h a[0];";
+    static char text[sizeof lines + GATES * sizeof gate];
+    strcpy(text, lines);
+    for (size_t i = 0; i <= GATES; i++) {
+        size_t most = PBC_GATES_FOR_TEXT(strlen(text));
+        expect("read", read_qasm(text, PBC_GATES_WORDS(most < GATES ? most : GATES)), PBC_ACCEPTED);
+        expect("gates", answer[0], i);
+        if (i)
+            expect("a gate less", read_qasm(text, PBC_GATES_WORDS(i - 1)), PBC_NO_GATE_ROOM);
+        strcat(text, i < GATES ? gate : "");
+    }
+}
+
+static void expect_position(const char *text, size_t text_len, uint64_t place, uint64_t line, uint64_t column)
+{
+    expect("position", pbc_text_position(text, text_len, place, LENT(answer)), PBC_ACCEPTED);
+    expect("line", answer[0], line);
+    expect("column", answer[1], column);
+}
+
+static void places_are_lines_and_columns(void)
+{
+    static const struct {
+        const char *text;
+        uint64_t place, line, column;
+    } bad[] = {
+        {"", 0, 1, 1},
+        {"// nothing", 10, 1, 11},
+        {"OPENQASM2.0;", 0, 1, 1},
+        {"OPENQASM 2.0;include \"qelib1.inc\";qreg q[1]; // end", 51, 1, 52},
+        {LINES "h q[0];\n\t swap q[0],q[1];\n", 68, 6, 3},
+        {LINES "h//\rq[0];", 58, 5, 1},
+        {LINES "h q[4294967295]; h q[4294967296];", 75, 5, 18},
+    };
+    for (size_t i = 0; i < LENGTH(bad); i++) {
+        expect("bad text", read_qasm(bad[i].text, LENGTH(gates)), PBC_BAD_TEXT);
+        expect("index", answer[0], 0);
+        expect("place", answer[1], bad[i].place);
+        expect_position(bad[i].text, strlen(bad[i].text), bad[i].place, bad[i].line, bad[i].column);
+    }
+    expect_position("h;\r\nh;", 6, 3, 1, 4);
+    expect_position("h;\r\nh;", 6, 6, 2, 3);
+    expect_position("h;\r\nh;", 6, UINT64_MAX, 2, 3);
+    expect("a short answer", pbc_text_position("\n", 1, 0, answer, PBC_ANSWER_WORDS - 1), PBC_TOO_SHORT);
+}
+
+/* A file of the adders, ended by a zero. */
+static const char *load(const char *folder, const char *name, const char *ending)
+{
+    static char bytes[10000], path[1000];
+    snprintf(path, sizeof path, "%s/%s.%s", folder, name, ending);
+    FILE *file = fopen(path, "rb");
+    if (!file) {
+        perror(path);
+        exit(1);
+    }
+    bytes[fread(bytes, 1, sizeof bytes - 1, file)] = 0;
+    fclose(file);
+    return bytes;
+}
+
+static uint64_t next_number(const char **rest)
+{
+    char *end;
+    uint64_t number = strtoull(*rest, &end, 10);
+    *rest = end;
+    return number;
+}
+
+static void expect_words(const char **rest, const uint32_t *words, uint64_t count)
+{
+    expect("how many words", next_number(rest), count);
+    for (uint64_t i = 0; i < count; i++)
+        expect("a word", words[i], next_number(rest));
+}
+
+/* Their texts convert to what the command answers to their lines. */
+static void adders_convert_alike(const char *folder)
+{
+    static const char *const names[] = {"cuccaro-2", "cuccaro-4", "ladder-2", "ladder-4"};
+    enum { WIDEST = 10 };
+    static uint32_t images[PBC_FRAME_WORDS(WIDEST)];
+    for (size_t i = 0; i < LENGTH(names); i++) {
+        expect("read", read_qasm(load(folder, names[i], "qasm"), LENGTH(gates)), PBC_ACCEPTED);
+        size_t count = (size_t)answer[0];
+        uint32_t qubits = (uint32_t)answer[1], cbits = (uint32_t)answer[2];
+        expect("convert",
+               pbc_convert(qubits, cbits, OWNER, PBC_NO_CAP, gates, PBC_GATES_WORDS(count), LENT(nodes), LENT(operations), LENT(images), NONE,
+                           LENT(header), LENT(answer)),
+               PBC_ACCEPTED);
+        const char *rest = load(folder, names[i], "out");
+        expect("the answer", (uint64_t)strncmp(rest, "ok ", 3), 0);
+        rest += 3;
+        expect("qubits", next_number(&rest), qubits);
+        expect("classical bits", next_number(&rest), cbits);
+        expect("measurements", next_number(&rest), header[PBC_MEASUREMENTS]);
+        expect_words(&rest, nodes, PBC_NODE_WORDS * header[PBC_NODES]);
+        expect_words(&rest, operations, PBC_OPERATION_WORDS * header[PBC_OPERATIONS]);
+        expect_words(&rest, images, PBC_FRAME_WORDS(qubits));
+    }
+}
+
 /* Null slices, alone and together, are answered as empty ones. */
 static void null_is_empty(void)
 {
@@ -260,6 +390,13 @@ static void null_is_empty(void)
     expect("conditional", pbc_conditional_rotate(LENT(header), NONE, OWNER, 4, 1, OWNER, 0, LENT(answer)), PBC_UNKNOWN_MEASUREMENT);
     expect("frame gate", pbc_push_output_clifford(LENT(header), LENT(nodes), NONE, PBC_GATE_H, 0, 0, LENT(answer)), PBC_NO_FRAME);
     expect("frame gate", pbc_push_output_clifford(LENT(header), NONE, NONE, PBC_GATE_H, 0, 0, LENT(answer)), PBC_BAD_STORE);
+    expect("read", pbc_read_qasm(NONE, NONE, NONE), PBC_TOO_SHORT);
+    expect("read", pbc_read_qasm(NONE, NONE, LENT(answer)), PBC_BAD_TEXT);
+    expect("read", pbc_read_qasm(LINES "h q[0];", sizeof LINES + 6, NONE, LENT(answer)), PBC_NO_GATE_ROOM);
+    expect("read", pbc_read_qasm(LINES, sizeof LINES - 1, NONE, LENT(answer)), PBC_ACCEPTED);
+    expect("position", pbc_text_position(NONE, 7, LENT(answer)), PBC_ACCEPTED);
+    expect("line", answer[0], 1);
+    expect("position", pbc_text_position(NONE, 7, NONE), PBC_TOO_SHORT);
 }
 
 static void names(void)
@@ -267,9 +404,10 @@ static void names(void)
     static const char *const some[] = {"Accepted", "TooManyQubits", "BrokenGateList"};
     for (uint32_t number = 0; number < LENGTH(some); number++)
         expect("name", (uint64_t)strcmp(pbc_refusal_name(number), some[number]), 0);
-    expect("the last name", (uint64_t)strcmp(pbc_refusal_name(PBC_NON_HERMITIAN_AXIS), "NonHermitianAxis"), 0);
+    expect("the last but one", (uint64_t)strcmp(pbc_refusal_name(PBC_BAD_TEXT), "BadText"), 0);
+    expect("the last name", (uint64_t)strcmp(pbc_refusal_name(PBC_NO_GATE_ROOM), "NoGateRoom"), 0);
     expect("too short", (uint64_t)strcmp(pbc_refusal_name(PBC_TOO_SHORT), "TooShort"), 0);
-    expect("unknown", (uint64_t)strcmp(pbc_refusal_name(20), "Unknown"), 0);
+    expect("unknown", (uint64_t)strcmp(pbc_refusal_name(22), "Unknown"), 0);
     expect("i", pbc_times(PBC_PAULI_X, PBC_PAULI_Y), 4 * PBC_PHASE_I + PBC_PAULI_Z);
     expect("-i", pbc_times(PBC_PAULI_Y, PBC_PAULI_X), 4 * PBC_PHASE_MINUS_I + PBC_PAULI_Z);
 }
@@ -311,7 +449,7 @@ static void threads_read_one_circuit(void)
         expect("letters", sum[i], sum[THREADS]);
 }
 
-int main(void)
+int main(int count, char **arguments)
 {
     sizes_suffice();
     less_does_not_suffice();
@@ -320,6 +458,10 @@ int main(void)
     operations_name_their_gates();
     hand_is_marked();
     rows_are_the_axes();
+    texts_are_gates();
+    gates_for_text_suffice();
+    places_are_lines_and_columns();
+    adders_convert_alike(count > 1 ? arguments[1] : "examples");
     null_is_empty();
     names();
     threads_read_one_circuit();

@@ -1,12 +1,18 @@
-"""Converts a 2-bit ripple-carry adder with measured sums and prints each operation with its gate and the letters of its axis, then makes a few
-calls by hand."""
+"""Reads the OpenQASM 2 text of a 2-bit ripple-carry adder with measured sums, converts it, and prints each operation with its gate and the letters
+of its axis, then makes a few calls by hand."""
 import pbc
 
-# Qubit 0 is the carry in, then b_0, a_0, b_1, a_1, and the carry out.
-ADDER = [
-    ("cnot", 2, 1), ("cnot", 2, 0), ("ccx", 0, 1, 2), ("cnot", 4, 3), ("cnot", 4, 2), ("ccx", 2, 3, 4), ("cnot", 4, 5), ("ccx", 2, 3, 4),
-    ("cnot", 4, 2), ("cnot", 2, 3), ("ccx", 0, 1, 2), ("cnot", 2, 0), ("cnot", 0, 1), ("measure", 1, 0), ("measure", 3, 1), ("measure", 5, 2),
-]
+ADDER = """OPENQASM 2.0;
+include "qelib1.inc";
+qreg q[6]; // carry in, b_0, a_0, b_1, a_1, carry out
+creg c[3];
+cx q[2],q[1]; cx q[2],q[0]; ccx q[0],q[1],q[2];
+cx q[4],q[3]; cx q[4],q[2]; ccx q[2],q[3],q[4];
+cx q[4],q[5];
+ccx q[2],q[3],q[4]; cx q[4],q[2]; cx q[2],q[3];
+ccx q[0],q[1],q[2]; cx q[2],q[0]; cx q[0],q[1];
+measure q[1] -> c[0]; measure q[3] -> c[1]; measure q[5] -> c[2];
+"""
 
 
 def show(circuit):
@@ -16,11 +22,13 @@ def show(circuit):
         print(f"{source}:", operation.kind, operation.angle or 0, f"{axis}{into}")
 
 
-circuit = pbc.to_pbc(6, 3, ADDER)
+program = pbc.read_qasm(ADDER)
+print(program.qubits, "qubits,", program.cbits, "classical bits,", len(program.gates), "gates, the first", program.gates[0])
+circuit = program.to_pbc()
 print(len(circuit.pauli_nodes), "nodes,", len(circuit.operations), "operations,", circuit.measurement_count, "measurements")
 show(circuit)
 print(circuit.max_axis_weights(100000))
-print("under a cap of 3:", pbc.to_pbc(6, 3, ADDER, max_weight=3).max_axis_weights(100000))
+print("under a cap of 3:", program.to_pbc(max_weight=3).max_axis_weights(100000))
 
 small = pbc.PbcCircuit(2, 1)
 x, z = small.single(0, pbc.X), small.single(0, pbc.Z)
@@ -50,3 +58,4 @@ refused(small.expand, product, 7)
 refused(small.push_output_clifford, "t", 0)
 refused(pbc.to_pbc, 2, 0, [("h", 0), ("cnot", 1, 1)])
 refused(pbc.to_pbc, 3, 0, [("ccz", 0, 1, 2)], 2)
+refused(pbc.read_qasm, ADDER.replace("cx q[4],q[5]", "swap q[4],q[5]"))

@@ -3,6 +3,7 @@ import collections
 import copy
 import doctest
 import faulthandler
+import pathlib
 import pickle
 import random
 import sys
@@ -11,7 +12,7 @@ import time
 import unittest
 
 import pbc
-from pbc import _circuit, _gates, _library, _values
+from pbc import _circuit, _gates, _library, _qasm, _values
 
 NAMES = ["h", "x", "z", "s", "sdg", "t", "tdg", "cnot", "cz", "ccx", "ccz", "measure", "y", "sx", "swap", "cy"]
 
@@ -182,6 +183,86 @@ class Gates(unittest.TestCase):
             self.assertEqual(len(pbc.to_pbc(2, 0, gates, max_weight=cap).operations), 1)
 
 
+class Texts(unittest.TestCase):
+    LINES = 'OPENQASM 2.0;\ninclude "qelib1.inc";\nqreg q[3];\ncreg c[2];\n'
+    EXAMPLES = pathlib.Path(__file__).resolve().parent / "../../examples"
+
+    def refused(self, text, place, line, column):
+        with self.assertRaises(pbc.PbcError) as raised:
+            pbc.read_qasm(text)
+        refusal = raised.exception
+        again = pickle.loads(pickle.dumps(refusal))
+        for it in (refusal, again):
+            self.assertEqual((it.number, it.name, it.index, it.operand), (20, "BadText", 0, place))
+            self.assertEqual((it.place, it.line, it.column), (place, line, column))
+            self.assertEqual(str(it), f"line {line}, column {column}: no statement of the subset begins here")
+
+    def test_every_gate_is_read(self):
+        text = self.LINES + """h q[0];x q[1];y q[2];z q[0];s q[1];sdg q[2];t q[0];tdg q[1];cx q[0],q[1];cy q[1],q[2];cz q[2],q[0];
+            ccx q[2],q[1],q[0]; // all but the last
+            measure q[2]->c[1];"""
+        gates = [
+            ("h", 0), ("x", 1), ("y", 2), ("z", 0), ("s", 1), ("sdg", 2), ("t", 0), ("tdg", 1), ("cnot", 0, 1), ("cy", 1, 2), ("cz", 2, 0),
+            ("ccx", 2, 1, 0), ("measure", 2, 1),
+        ]
+        self.assertEqual(pbc.read_qasm(text), pbc.Program(3, 2, gates))
+        self.assertEqual(pbc.read_qasm(text), (3, 2, gates))
+        self.assertEqual(pbc.read_qasm(self.LINES).gates, [])
+
+    def test_text_is_str_or_bytes(self):
+        text = self.LINES + "h q[0];// \u03c0"
+        self.assertEqual(pbc.read_qasm(text), pbc.read_qasm(text.encode()))
+        self.assertEqual(pbc.read_qasm(self.LINES.encode() + b"h q[0];//\xff\0").gates, [("h", 0)])
+        for other in (None, 7, ["OPENQASM"], pathlib.Path("adder.qasm")):
+            self.assertRaisesRegex(TypeError, "not a str or bytes", pbc.read_qasm, other)
+
+    def test_refusals_have_line_and_column(self):
+        self.refused("", 0, 1, 1)
+        self.refused(b"// nothing", 10, 1, 11)
+        self.refused("OPENQASM2.0;", 0, 1, 1)
+        self.refused('OPENQASM 2.0;include "qelib1.inc";qreg q[1]; // end', 51, 1, 52)
+        self.refused(self.LINES + "h q[0];\n\t swap q[0],q[1];\n", 68, 6, 3)
+        self.refused(self.LINES + "// \u03c0\nh q[0]; qreg r[1];", 72, 6, 9)
+        self.refused(self.LINES.encode() + b"h q[0];\0", 65, 5, 8)
+        self.refused(self.LINES + "h q[4294967295]; h q[4294967296];", 75, 5, 18)
+
+    def test_other_refusals_have_none(self):
+        with self.assertRaises(pbc.PbcError) as raised:
+            pbc.PbcCircuit(1, 0).single(1, pbc.X)
+        self.assertEqual((raised.exception.place, raised.exception.line, raised.exception.column), (None, None, None))
+
+    def test_operands_are_the_conversions_to_refuse(self):
+        program = pbc.read_qasm(self.LINES + "h q[0]; cx q[7],q[7];")
+        self.assertEqual(program.gates, [("h", 0), ("cnot", 7, 7)])
+        self.assertRaisesRegex(pbc.PbcError, "gate 1: qubit 7 is out of range", program.to_pbc)
+        wide = pbc.read_qasm(self.LINES.replace("q[3]", "q[4294967295]"))
+        self.assertRaisesRegex(pbc.PbcError, "over 256 qubits", wide.to_pbc)
+
+    def test_long_texts_have_room(self):
+        program = pbc.read_qasm(self.LINES + 70000 * "t q[0];")
+        self.assertEqual(program.gates, 70000 * [("t", 0)])
+        self.assertRaisesRegex(pbc.PbcError, "over 65,536 gates", program.to_pbc)
+
+    def test_adders_convert_alike(self):
+        # To what the command answers to their lines: sizes and measurements, then nodes, operations and frame, each with its number of words.
+        for name in ("cuccaro-2", "cuccaro-4", "ladder-2", "ladder-4"):
+            program = pbc.read_qasm_file(self.EXAMPLES / f"{name}.qasm")
+            line = (self.EXAMPLES / f"{name}.pbc").read_text().split("\n")[0].split()
+            answer = (self.EXAMPLES / f"{name}.out").read_text().split("\n")[0].split()
+            listed = _gates.gates_in([int(word) for word in line[4:]])
+            self.assertEqual((line[0], program), ("convert", pbc.Program(int(line[1]), int(line[2]), listed)))
+            for circuit in (program.to_pbc(), pbc.to_pbc(*program), pbc.to_pbc(*program[:2], listed)):
+                numbers = [circuit.num_qubits, circuit.num_cbits, circuit.measurement_count]
+                for words in (circuit._nodes, circuit._operations, circuit._frame):
+                    numbers += [len(words), *words]
+                self.assertEqual(["ok", *map(str, numbers)], answer, name)
+
+    def test_files(self):
+        path = self.EXAMPLES / "ladder-2.qasm"
+        self.assertEqual(pbc.read_qasm_file(str(path)), pbc.read_qasm(path.read_text()))
+        self.assertRaises(FileNotFoundError, pbc.read_qasm_file, self.EXAMPLES / "none.qasm")
+
+
 class Sources(unittest.TestCase):
     def named(self, *arguments):
         return [operation.gate for operation in pbc.to_pbc(*arguments).operations]
@@ -322,7 +403,7 @@ class Owners(unittest.TestCase):
 
 
 def load_tests(loader, tests, pattern):
-    for module in (pbc, _circuit, _gates, _library, _values):
+    for module in (pbc, _circuit, _gates, _library, _qasm, _values):
         tests.addTests(doctest.DocTestSuite(module))
     return tests
 

@@ -12,12 +12,19 @@ Letters are 0 to 3 (I, X, Y, Z), phases 0 to 3 (powers of i); an angle k stands 
 ...     print(operation.gate, operation.kind, operation.angle, axis)
 2 rotate 1 +XZI
 3 measure None +IIZ
+
+A gate list may come from OpenQASM 2 text, or from a file of it (read_qasm_file):
+
+>>> program = pbc.read_qasm('OPENQASM 2.0; include "qelib1.inc"; qreg q[2]; creg c[1]; cx q[0],q[1]; t q[1]; measure q[0] -> c[0];')
+>>> [str(axis) for axis in program.to_pbc(max_weight=3).axes(1000)]
+['+ZZ', '+ZI']
 """
 from ._circuit import (
     MAX_CBITS, MAX_NODES, MAX_OPERATIONS, MAX_QUBITS, NO_NODES, NO_OPERATIONS, NO_POOL, NODE_WORDS, OPERATION_WORDS, POOL_WORDS, PbcCircuit,
     to_pbc,
 )
 from ._gates import GATES
+from ._qasm import Program, read_qasm, read_qasm_file
 from ._values import (
     I, MINUS_I, MINUS_ONE, ONE, PLUS_I, REFUSALS, X, Y, Z, ExpandedPauli, MaxAxisWeights, MeasId, PauliRef, PbcError, PbcOp, angle, times,
 )
@@ -25,5 +32,6 @@ from ._values import (
 __all__ = [
     "GATES", "I", "MAX_CBITS", "MAX_NODES", "MAX_OPERATIONS", "MAX_QUBITS", "MINUS_I", "MINUS_ONE", "NODE_WORDS", "NO_NODES",
     "NO_OPERATIONS", "NO_POOL", "ONE", "OPERATION_WORDS", "PLUS_I", "POOL_WORDS", "REFUSALS", "X", "Y", "Z", "ExpandedPauli",
-    "MaxAxisWeights", "MeasId", "PauliRef", "PbcCircuit", "PbcError", "PbcOp", "angle", "times", "to_pbc",
+    "MaxAxisWeights", "MeasId", "PauliRef", "PbcCircuit", "PbcError", "PbcOp", "Program", "angle", "read_qasm", "read_qasm_file", "times",
+    "to_pbc",
 ]

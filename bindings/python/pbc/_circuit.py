@@ -18,7 +18,7 @@ _OF_GATES = (5, 7, 8, 9)
 _owners = itertools.count()
 
 
-def _until_room(attempt, grow, place=""):
+def _until_room(attempt, grow, where=""):
     """Calls until no refusal is left that more words cure. The refusals of a gate list name the gate."""
     while True:
         answer = answer_words()
@@ -26,7 +26,7 @@ def _until_room(attempt, grow, place=""):
         if not refusal:
             return list(answer)
         if not grow(refusal):
-            raise PbcError(refusal, answer[0], answer[1], place.format(answer[0]) if refusal in _OF_GATES else "")
+            raise PbcError(refusal, answer[0], answer[1], where.format(answer[0]) if refusal in _OF_GATES else "")
 
 
 def _no_growth(refusal):

@@ -50,6 +50,13 @@ def name_of(kind):
     return _NAMES.get(kind, f"kind {kind}")
 
 
+def gates_in(words):
+    """The gates of so many words."""
+    listed = iter(words)
+    named = ((name_of(kind), operands) for kind, *operands in zip(*[listed] * GATE_WORDS))
+    return [(name, *operands[:_KINDS[name].operands]) for name, operands in named]
+
+
 def _kind_of(name, place):
     kind = _KINDS.get(name) if isinstance(name, str) else None
     if kind is None:

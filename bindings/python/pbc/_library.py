@@ -18,6 +18,8 @@ _SIGNATURES = {
     "pbc_hermitian_axis": "wuuuQIQw",
     "pbc_max_axis_weights": "wuuuuQw",
     "pbc_expand_axes": "wuubuuQw",
+    "pbc_read_qasm": "buw",
+    "pbc_text_position": "bQw",
     "pbc_push_output_clifford": "wuuIIIw",
     "pbc_convert": "IIQQuuuuwww",
 }

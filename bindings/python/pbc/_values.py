@@ -11,7 +11,7 @@ ONE, PLUS_I, MINUS_ONE, MINUS_I = range(4)
 REFUSALS = [
     None, "TooManyQubits", "BrokenGateList", "BadStore", "ForeignPauli", "UnsupportedGate", "NonCliffordFrameGate", "QubitOutOfRange",
     "RepeatedOperand", "ClassicalBitOutOfRange", "UnknownMeasurement", "CapTooSmall", "NoPlanes", "NoFrame", "NoNodes", "NoOperations",
-    "NoScratch", "ExpansionLimit", "NoPool", "NonHermitianAxis",
+    "NoScratch", "ExpansionLimit", "NoPool", "NonHermitianAxis", "BadText", "NoGateRoom",
 ]
 
 _MESSAGES = [
@@ -20,12 +20,14 @@ _MESSAGES = [
     "qubit {operand} is out of range", "qubit {operand} is repeated", "classical bit {operand} is out of range",
     "measurement is not defined in this circuit", "the cap is 0, or below 3 with a ccx or ccz", "too few plane words",
     "too few frame words", "over 65,536 nodes", "over 65,536 operations", "too few scratch words", "the work is above the limit",
-    "over 65,535 factors at once", "rotation and measurement axes must be Hermitian",
+    "over 65,535 factors at once", "rotation and measurement axes must be Hermitian", "no statement of the subset begins here",
+    "too few gate words",
 ]
 
 
 class PbcError(Exception):
-    """A refusal: its number, its name, the offending gate's index (or 0) and the offending kind, qubit or bit (or 0).
+    """A refusal: its number, its name, the offending gate's index (or 0) and the offending kind, qubit, bit or place (or 0).
+    A refusal of a text has its place (from 0), line and column (from 1), all in bytes; for others they are None.
 
     >>> import pbc
     >>> try:
@@ -33,16 +35,31 @@ class PbcError(Exception):
     ... except pbc.PbcError as refusal:
     ...     print(refusal.number, refusal.name, refusal.index, refusal.operand, "-", refusal)
     8 RepeatedOperand 1 1 - gate 1: qubit 1 is repeated
+    >>> try:
+    ...     pbc.read_qasm("OPENQASM 2.0;\\n include 'qelib1.inc';")
+    ... except pbc.PbcError as refusal:
+    ...     print(refusal.number, refusal.name, refusal.place, refusal.line, refusal.column, "-", refusal)
+    20 BadText 15 2 2 - line 2, column 2: no statement of the subset begins here
     """
 
     __module__ = "pbc"
 
-    def __init__(self, number: int, index: int = 0, operand: int = 0, place: str = "") -> None:
-        super().__init__(place + _MESSAGES[number].format(operand=operand, name=name_of(operand)))
-        self.number, self.name, self.index, self.operand, self._place = number, REFUSALS[number], index, operand, place
+    number: int
+    name: str
+    index: int
+    operand: int
+    place: Optional[int]
+    line: Optional[int]
+    column: Optional[int]
+
+    def __init__(self, number: int, index: int = 0, operand: int = 0, where: str = "", position: Optional[tuple[int, int]] = None) -> None:
+        super().__init__(where + _MESSAGES[number].format(operand=operand, name=name_of(operand)))
+        self.number, self.name, self.index, self.operand = number, REFUSALS[number], index, operand
+        self.place, (self.line, self.column) = (None, (None, None)) if position is None else (operand, position)
+        self._made = number, index, operand, where, position
 
     def __reduce__(self):
-        return PbcError, (self.number, self.index, self.operand, self._place)
+        return PbcError, self._made
 
 
 class _Handle:

@@ -74,6 +74,30 @@ impl Gate {
         }
     }
 
+    /// The gate of such words.
+    pub(crate) fn read(words: &[u32]) -> Self {
+        let (a, b, c) = (words[1], words[2], words[3]);
+        match words[0] {
+            0 => Self::H(a),
+            1 => Self::X(a),
+            2 => Self::Z(a),
+            3 => Self::S(a),
+            4 => Self::Sdg(a),
+            5 => Self::T(a),
+            6 => Self::Tdg(a),
+            8 => Self::Cnot(a, b),
+            9 => Self::Cz(a, b),
+            10 => Self::Ccx(a, b, c),
+            11 => Self::Ccz(a, b, c),
+            12 => Self::Measure(a, b),
+            15 => Self::Y(a),
+            16 => Self::Sx(a),
+            19 => Self::Swap(a, b),
+            20 => Self::Cy(a, b),
+            other => unreachable!("the library wrote a gate of kind {other}"),
+        }
+    }
+
     /// The nodes and operations that it writes, then those that a flush of it writes.
     fn needs(self) -> [u8; 4] {
         match self {
@@ -174,13 +198,22 @@ mod tests {
 
     const CLIFFORDS: [Gate; 11] = [H(0), X(0), Z(0), S(0), Sdg(0), Cnot(0, 1), Cz(0, 1), Y(0), Sx(0), Swap(0, 1), Cy(0, 1)];
 
+    const OTHERS: [Gate; 5] = [T(0), Tdg(0), Ccx(0, 1, 2), Ccz(0, 1, 2), Measure(0, 0)];
+
     fn used(circuit: &PbcCircuit) -> (usize, usize) {
         (circuit.header[3] as usize - 1 - 2 * circuit.num_qubits(), circuit.header[4] as usize)
     }
 
     #[test]
+    fn words_are_read_back() {
+        for gate in CLIFFORDS.into_iter().chain(OTHERS) {
+            assert_eq!(Gate::read(&gate.words()), gate);
+        }
+    }
+
+    #[test]
     fn without_a_cap_the_needs_are_exact() {
-        for gate in CLIFFORDS.into_iter().chain([T(0), Tdg(0), Ccx(0, 1, 2), Ccz(0, 1, 2), Measure(0, 0)]) {
+        for gate in CLIFFORDS.into_iter().chain(OTHERS) {
             let gates = [gate, H(2), gate];
             assert_eq!(used(&to_pbc(3, 1, &gates, None).unwrap()), needs(&gates, false), "{gate:?}");
         }

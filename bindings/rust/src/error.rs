@@ -1,5 +1,6 @@
 //! Refusals.
 
+use crate::ffi;
 use std::fmt;
 
 /// Why a call was refused. `index` is a gate's place in the list of a conversion, 0 elsewhere.
@@ -74,10 +75,21 @@ pub enum PbcError {
     NoPool,
     /// The phase in front is i or -i.
     NonHermitianAxis,
+    /// A text goes on with no statement of the subset that [`read_qasm`](crate::read_qasm) reads, or ends too early.
+    BadText {
+        /// The byte, from 0, where that statement would begin.
+        place: u64,
+        /// Its line, from 1.
+        line: u64,
+        /// Its column, from 1, in bytes.
+        column: u64,
+    },
+    /// As `NoPlanes`, of the gates of a text.
+    NoGateRoom,
 }
 
 impl PbcError {
-    /// The refusal with this number, gate index and operand.
+    /// The refusal with this number, gate index and operand. What has a place in a text is still to be [`located`](Self::located).
     pub(crate) fn of(number: u32, answer: [u64; 4]) -> Self {
         let [index, operand, ..] = answer;
         match number {
@@ -100,7 +112,20 @@ impl PbcError {
             17 => Self::ExpansionLimit,
             18 => Self::NoPool,
             19 => Self::NonHermitianAxis,
+            20 => Self::BadText { place: operand, line: 0, column: 0 },
+            21 => Self::NoGateRoom,
             other => unreachable!("the library returned {other}"),
+        }
+    }
+
+    /// With the line and column of its place in the text.
+    pub(crate) fn located(self, text: &[u8]) -> Self {
+        match self {
+            Self::BadText { place, .. } => match ffi::pbc_text_position(text, place) {
+                Ok([line, column, ..]) => Self::BadText { place, line, column },
+                Err(refusal) => unreachable!("a position was refused: {refusal}"),
+            },
+            other => other,
         }
     }
 }
@@ -127,6 +152,8 @@ impl fmt::Display for PbcError {
             Self::ExpansionLimit => f.write_str("the work is above the limit"),
             Self::NoPool => f.write_str("over 65,535 factors at once"),
             Self::NonHermitianAxis => f.write_str("rotation and measurement axes must be Hermitian"),
+            Self::BadText { line, column, .. } => write!(f, "line {line}, column {column}: no statement of the subset begins here"),
+            Self::NoGateRoom => f.write_str("too few gate words"),
         }
     }
 }

@@ -66,6 +66,8 @@ library! {
     fn pbc_expand_axes(
         header: &[u64], nodes: &[u32], operations: &[u32], rows: &mut [u8], scratch: &mut [u32], pool: &mut [u32], limit: u64
     );
+    fn pbc_read_qasm(text: &[u8], gates: &mut [u32]);
+    fn pbc_text_position(text: &[u8], place: u64);
     fn pbc_push_output_clifford(header: &mut [u64], nodes: &mut [u32], frame: &mut [u32], kind: u32, a: u32, b: u32);
     fn pbc_convert(
         qubits: u32, cbits: u32, owner: u64, cap: u64, gates: &[u32], nodes: &mut [u32], operations: &mut [u32], frame: &mut [u32],

@@ -48,6 +48,7 @@ mod error;
 mod ffi;
 mod letters;
 mod op;
+mod qasm;
 mod readers;
 mod reference;
 
@@ -56,6 +57,7 @@ pub use convert::{Gate, to_pbc};
 pub use error::PbcError;
 pub use letters::{Pauli, PauliAngle, Phase};
 pub use op::{AxisKind, MeasId, PbcOp};
+pub use qasm::{Program, read_qasm};
 pub use readers::{ExpandedPauli, MaxAxisWeights};
 pub use reference::{PauliAxis, PauliNode, PauliRef};
 

@@ -18,6 +18,7 @@ fn every_type_is_send_and_sync() {
     send_and_sync::<ExpandedPauli>();
     send_and_sync::<MaxAxisWeights>();
     send_and_sync::<Gate>();
+    send_and_sync::<Program>();
     send_and_sync::<Pauli>();
     send_and_sync::<Phase>();
     send_and_sync::<PauliAngle>();
