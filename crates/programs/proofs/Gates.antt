@@ -2,18 +2,18 @@
 use mathlib.Core.Path.{_≡_, refl, ap, sym, _∙_}
 use mathlib.Core.Bool.{Bool, true, _&&_, not}
 use mathlib.Core.List.{List, [], _∷_, _++_, map}
-use Prim.Native.Nat.{ℕ, zero, suc, _*_, _≤_, _<_}
+use Prim.Native.Nat.{ℕ, zero, suc, _*_, _<_}
 use native.Mathlib.Omega.{arith}
 use lib.ListN.{length, take, getD}
 use lib.Seq.{take-append-seam}
 use Rattle.qasm.specs.Names.{Named, gateNames}
 use Rattle.qasm.specs.Tokens.{Token}
-use Rattle.qasm.specs.Text.{Record, Stage, Statement, Statements, Says, versionLine, includeLine, qregLine, cregLine, measureLine, oneLine, twoLine, threeLine, none-more, one-more}
+use Rattle.qasm.specs.Text.{Record, Stage, Statement, Statements, versionLine, includeLine, qregLine, cregLine, measureLine, oneLine, twoLine, threeLine, none-more, one-more}
 use Rattle.qasm.specs.Answers.{wordsOf}
 use Rattle.qasm.proofs.Truth.{and-left, and-right}
 use Rattle.convert.specs.Records.{records, kindOf}
 use Rattle.convert.specs.Conversion.{isUnsupported}
-use Rattle.programs.specs.Programs.{gateRecord, supported}
+use Rattle.programs.specs.Programs.{gateRecord}
 
 -- ---- words and records
 
@@ -30,6 +30,11 @@ pub first-words : (gs : List Record) (rest : List ℕ) → take (4 * length gs) 
 first-words gs rest = ap (λ k. take k (wordsOf gs ++ rest)) (sym (words-long gs)) ∙ take-append-seam (wordsOf gs) rest
 
 -- ---- kinds
+
+-- every gate is of a kind that the conversion has
+abbrev pub supported : List Record → Bool
+supported [] = true
+supported (g ∷ gs) = not (isUnsupported (kindOf (g .kind))) && supported gs
 
 -- the conversion has the kind
 abbrev known : Named → Bool

@@ -7,7 +7,7 @@ use native.Mathlib.Numerals.{add-one}
 use lib.ListN.{length, getD, take, drop, drop-of-length-le}
 use lib.Seq.{drop-cons, take-all}
 use borrow.Author.Tests.{ne-eqb}
-use Rattle.qasm.specs.Position.{TextPosition, positionFrom}
+use Rattle.qasm.specs.Position.{positionFrom}
 
 feed : (line column b : ℕ) (r : List ℕ) → b ≡ 10 → positionFrom line column (b ∷ r) ≡ positionFrom (line + 1) 1 r
 feed line column b r e = rw e
