@@ -32,7 +32,7 @@ static double best(size_t length, uint64_t count)
     double least = 1e9, begun = seconds();
     for (int round = 0; round < 5 || seconds() - begun < 0.5; round++) {
         double from = seconds();
-        uint32_t refused = pbc_read_qasm((const uint8_t *)text, length, gates, sizeof gates / sizeof *gates, answer, PBC_ANSWER_WORDS);
+        uint32_t refused = pbc_read_qasm(text, length, gates, sizeof gates / sizeof *gates, answer, PBC_ANSWER_WORDS);
         double took = seconds() - from;
         if (refused != 0 || answer[0] != count) {
             fprintf(stderr, "bench/qasm: %s at %llu, %llu gates of %llu\n", pbc_refusal_name(refused), (unsigned long long)answer[1],

@@ -4,6 +4,8 @@
 //! the library asks its caller to lend are owned here and grow as they are needed, up to the library's limits.
 //! Rotation angles use `exp(-i k π/8 P)`, unlike QASM's half-angle convention.
 //!
+//! A circuit is built call by call ([`PbcCircuit`]), or converted from a list of gates ([`to_pbc`]) or from OpenQASM 2 text ([`read_qasm`]).
+//!
 //! # Threads
 //!
 //! Every type here is `Send` and `Sync`: the library has no state of its own, and a walk has scratch of its own. Threads may read one

@@ -1,6 +1,6 @@
-//! A conversion allocates its words once, and keeps those in use.
+//! A conversion and a text's reading allocate their words once, and keep those in use.
 
-use pbc::{Gate, Gate::*, to_pbc};
+use pbc::{Gate, Gate::*, read_qasm, to_pbc};
 use std::alloc::{GlobalAlloc, Layout, System};
 use std::cell::Cell;
 use std::num::NonZeroU32;
@@ -60,4 +60,15 @@ fn a_conversion_allocates_once() {
         let in_use = 8 * circuit.pauli_nodes().len() + 20 * circuit.operations().len() + 4 * 128;
         assert_eq!(HELD.get().wrapping_sub(held), in_use);
     }
+}
+
+#[test]
+fn a_text_is_read_at_once() {
+    let text = format!("OPENQASM 2.0;include \"qelib1.inc\";qreg q[2];creg c[1];{}", "cx q[0],q[1];\n".repeat(1_000));
+    let (made, grown, held) = (MADE.get(), GROWN.get(), HELD.get());
+    let program = read_qasm(&text).unwrap();
+    // The gates' words, and the gates.
+    assert_eq!((MADE.get() - made, GROWN.get() - grown), (2, 0));
+    assert_eq!(HELD.get().wrapping_sub(held), 1_000 * size_of::<Gate>());
+    drop(program);
 }
