@@ -74,7 +74,10 @@ static void print(const char *name, const double *took, const size_t *length)
 {
     printf("%-44s", name);
     for (int i = 0; i < LENGTHS; i++)
-        printf(" %8.0f", (double)length[i] / took[i] / 1e6);
+        if (length[i] > 0)
+            printf(" %8.0f", (double)length[i] / took[i] / 1e6);
+        else
+            printf(" %8s", "");
     printf("\n");
 }
 
@@ -95,7 +98,7 @@ static void random_texts(const char *name, const char *q, const char *c, const c
     print(name, took, length);
 }
 
-/* A file's text: the gates behind its fourth line repeated. */
+/* A file's text, its gates behind the fourth line repeated; none where the file is longer. */
 static void repeated(const char *path)
 {
     static char file[LONGEST];
@@ -113,6 +116,9 @@ static void repeated(const char *path)
     for (int i = 0; i < LENGTHS; i++) {
         uint64_t times = 1;
         size_t at = size;
+        length[i] = 0;
+        if (lengths[i] < size)
+            continue;
         memcpy(text, file, size);
         for (; at + size - head <= lengths[i] + SLACK; times++, at += size - head)
             memcpy(text + at, file + head, size - head);
