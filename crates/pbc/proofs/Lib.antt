@@ -3,3 +3,4 @@ pub mod BufferWords
 pub mod LentCalls
 pub mod LineNumbers
 pub mod NameNumbers
+pub mod TextBytes
