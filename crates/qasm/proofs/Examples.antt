@@ -8,6 +8,7 @@ use Rattle.qasm.specs.Text.{recordOf}
 use Rattle.qasm.specs.Reading.{Read, program, badText, andThen, blank, takeSign, takeWord, takeNumber, takeThis, takeIndex, takeBit}
 use Rattle.qasm.specs.Reading.{takeRegister, takeVersion, takeInclude, takeEnd, takeOne, takeTwo, takeThree, takeMeasure, gateBy, takeGate}
 use Rattle.qasm.specs.Reading.{fromGates, fromCreg, fromQreg, fromInclude, reading}
+use Rattle.qasm.specs.Position.{TextPosition, positionIn}
 
 result : List ℕ → Read
 unfolding reading fromInclude fromQreg fromCreg fromGates andThen blank takeSign takeWord takeNumber takeThis takeIndex takeBit takeRegister takeVersion takeInclude takeEnd takeOne takeTwo takeThree takeMeasure gateBy takeGate
@@ -161,3 +162,25 @@ any-of-these = refl
 none-so-begun : anyName ((81 ∷ []) ∷ (95 ∷ 113 ∷ []) ∷ (49 ∷ 113 ∷ []) ∷ [] ∷ []) ≡ false
 unfolding anyName
 none-so-begun = refl
+
+-- ---- positions, in a text of two lines of two bytes, a carriage return and a line feed at the end of the first
+
+position : ℕ → TextPosition
+unfolding positionIn
+position place = positionIn (104 ∷ 59 ∷ 13 ∷ 10 ∷ 104 ∷ 59 ∷ []) place
+
+begins-at-one : position 0 ≡ record { line = 1; column = 1 }
+unfolding position
+begins-at-one = refl
+
+feed-in-its-line : position 3 ≡ record { line = 1; column = 4 }
+unfolding position
+feed-in-its-line = refl
+
+next-line : position 5 ≡ record { line = 2; column = 2 }
+unfolding position
+next-line = refl
+
+past-the-text : position 9 ≡ record { line = 2; column = 3 }
+unfolding position
+past-the-text = refl

@@ -8,3 +8,4 @@ pub mod Awaited
 pub mod Registers
 pub mod Gates
 pub mod Statements
+pub mod Positions

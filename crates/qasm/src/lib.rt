@@ -7,10 +7,13 @@ mod header;
 mod name;
 mod number;
 mod passes;
+mod position;
 mod program;
 mod skip;
 mod token;
 mod word;
 
+pub use position::TextPosition;
+pub use position::text_position;
 pub use program::QasmRead;
 pub use program::read_qasm;

@@ -1,0 +1,1 @@
+//! A program of OpenQASM 2 as the conversion takes it: nothing but theorems, in specs/ and proofs/.
