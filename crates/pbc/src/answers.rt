@@ -1,10 +1,10 @@
 //! Answers as text.
 
 use crate::buffers::CHUNK;
-use crate::buffers::LINE_WORDS;
 use crate::buffers::byte_part;
 use crate::buffers::first;
 use crate::buffers::part;
+use crate::buffers::records;
 use crate::buffers::wide_part;
 use crate::buffers::word;
 use crate::help;
@@ -230,14 +230,6 @@ fn work_words_of(
     }
 }
 
-// The words of so many gate records, at most those that a line has.
-fn gate_words(count: usize) -> usize {
-    if LINE_WORDS / 4 < count {
-        return LINE_WORDS;
-    }
-    4 * count
-}
-
 // The sizes of a program, the number of its gate records, and their words.
 fn gates(
     out: &mut [u8; CHUNK],
@@ -248,7 +240,7 @@ fn gates(
     words: &[u32],
 ) -> usize {
     let to = three(out, at, qubits, bits, count as u64);
-    output::words(out, to, first(words, gate_words(count)))
+    output::words(out, to, records(words, count))
 }
 
 // An answer with no number, or a refusal.

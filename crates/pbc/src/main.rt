@@ -1,4 +1,4 @@
-//! The command `pbc`: one command of the library a line on standard input, one answer a line on standard output.
+//! The command `pbc`: files to convert as arguments, then one command of the library a line on standard input; one answer a line on standard output.
 //! All memory is made here, once, and lent.
 
 mod answers;
@@ -7,6 +7,7 @@ mod builder;
 mod circuits;
 mod commands;
 mod conversion;
+mod files;
 mod fill;
 mod help;
 mod hex;
@@ -70,8 +71,7 @@ fn answer_within(bytes: u64) {
 }
 
 fn main() {
-    if 1 < os::arg_count() {
-        help::answer_argument();
+    if help::answer_argument() {
         return;
     }
     // Two calls, so that the compiler does not put the buffers on the stack of `main`, which has to run on a smaller one.

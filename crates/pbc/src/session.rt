@@ -1,4 +1,4 @@
-//! Lines from standard input, each answered in turn.
+//! Files that are arguments, then lines from standard input, each answered in turn.
 
 use crate::answers::print;
 use crate::buffers::CHUNK;
@@ -11,6 +11,7 @@ use crate::buffers::PLANES;
 use crate::buffers::POOL;
 use crate::buffers::SCRATCH;
 use crate::commands::answer;
+use crate::files::answer_files;
 use crate::input::new_reader;
 use crate::input::next_line;
 use crate::line::Line;
@@ -24,13 +25,6 @@ ghost use Prim.Native.Nat.{_<_};
 pub(crate) struct Session {
     state: CommandState,
     at: usize,
-}
-
-fn new_session() -> Session {
-    Session {
-        state: CommandState::new(),
-        at: 0,
-    }
 }
 
 // The answer to a whole line.
@@ -88,8 +82,9 @@ fn turns_left(turns: u64, over: bool) -> u64
     turns - 1
 }
 
-/// Answers every line of the input.
-pub(crate) fn run(
+// Answers every line of the input.
+fn answer_input(
+    begun: Session,
     input: &mut [u8; CHUNK],
     words: &mut [u32; LINE_WORDS],
     nodes: &mut [u32; NODES],
@@ -102,7 +97,7 @@ pub(crate) fn run(
     out: &mut [u8; CHUNK],
 ) {
     let mut reader = new_reader();
-    let mut session = new_session();
+    let mut session = begun;
     let mut turns = TURNS;
     while turns > 0 {
         reader = next_line(reader, session.at, input, words, out);
@@ -125,4 +120,49 @@ pub(crate) fn run(
         turns = turns_left(turns, reader.over | has_failed(session.at));
     }
     flush(out, session.at);
+}
+
+/// Answers every file, and every line of the input.
+pub(crate) fn run(
+    input: &mut [u8; CHUNK],
+    words: &mut [u32; LINE_WORDS],
+    nodes: &mut [u32; NODES],
+    operations: &mut [u32; OPERATIONS],
+    frame: &mut [u32; FRAME],
+    planes: &mut [u64; PLANES],
+    scratch: &mut [u32; SCRATCH],
+    pool: &mut [u32; POOL],
+    letters: &mut [u8; LETTERS],
+    out: &mut [u8; CHUNK],
+) {
+    let filed = answer_files(
+        words,
+        nodes,
+        operations,
+        frame,
+        planes,
+        scratch,
+        pool,
+        letters,
+        out,
+    );
+    let at = filed.at;
+    if filed.over {
+        flush(out, at);
+        return;
+    }
+    let state = filed.state;
+    answer_input(
+        Session { state, at },
+        input,
+        words,
+        nodes,
+        operations,
+        frame,
+        planes,
+        scratch,
+        pool,
+        letters,
+        out,
+    );
 }

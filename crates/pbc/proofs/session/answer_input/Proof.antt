@@ -1,8 +1,8 @@
--- `run` is safe and ends: its turns are counted down.
+-- `answer_input` is safe and ends: its turns are counted down.
 use Prim.Native.Nat.{_≤_}
 use native.Mathlib.Omega.{arith}
-use Rattle.pbc.proofs.session.run.Statement.{statement}
-use Rattle.pbc.proofs.session.run.Tie as tie
+use Rattle.pbc.proofs.session.answer_input.Statement.{statement}
+use Rattle.pbc.proofs.session.answer_input.Tie as tie
 
 abbrev Inv-loop : tie.InvT-loop
 Inv-loop input₀ words₀ nodes₀ operations₀ frame₀ planes₀ scratch₀ pool₀ letters₀ out₀ reader₀ session₀ turns₀ input words nodes operations frame planes scratch pool letters out reader session turns =
@@ -14,9 +14,6 @@ abbrev μ-loop : tie.MeasureT-loop
 
 new-reader-requires : tie.Need-new-reader-requires Inv-loop μ-loop
 new-reader-requires c κs = tt
-
-new-session-requires : tie.Need-new-session-requires Inv-loop μ-loop
-new-session-requires c κs = tt
 
 loop-holds : tie.Need-loop-holds Inv-loop μ-loop
 loop-holds c = omega arith
@@ -45,14 +42,13 @@ flush-requires c κs = tt
 returns : tie.Need-returns Inv-loop μ-loop
 returns c = tt
 
-pub run-spec : {M : Type 1} → statement M
-run-spec =
+pub answer-input-spec : {M : Type 1} → statement M
+answer-input-spec =
     tie.close
     (tie.spec
     Inv-loop
     μ-loop
     new-reader-requires
-    new-session-requires
     loop-holds
     next-line-requires
     answer-line-requires
