@@ -4,3 +4,4 @@ pub mod LentCalls
 pub mod LineNumbers
 pub mod NameNumbers
 pub mod TextBytes
+pub mod TextKept

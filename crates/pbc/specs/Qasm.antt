@@ -1,9 +1,10 @@
 -- The command `qasm`: how a line's hex digits are kept in its words, the text that a line holds, and what is answered.
 use mathlib.Core.Bool.{Bool, cond, _&&_, _||_}
 use mathlib.Core.List.{List, [], _∷_, _++_}
-use Prim.Native.Nat.{ℕ, zero, suc, _+_, _*_, _-_, _/_, _%_}
+use mathlib.Core.Path.{_≡_}
+use Prim.Native.Nat.{ℕ, zero, suc, _+_, _*_, _-_, _/_, _%_, _<_, _≤_}
 use lib.Dec.{leb, ltb, eqb}
-use lib.ListN.{getD, set, take, drop}
+use lib.ListN.{length, getD, set, take, drop}
 use Rattle.qasm.specs.Reading.{reading}
 use Rattle.qasm.specs.Answers.{answerOf, leftIn}
 use Rattle.pbc.specs.Names.{numberOf}
@@ -114,3 +115,31 @@ textCommand s text room ws letters = textRead
 
 unfoldable pub qasmCommand : CommandState → Line → (ws letters : List ℕ) → TextRead
 qasmCommand s l ws letters = cond (textFits l ws) (textCommand s (textOf l ws) (getD ws 0 0) ws letters) (textRead (saysOf s Bad) ws letters)
+
+-- ---- claimed, and proved in proofs/TextKept.antt: a line that reads the hex digits of a text holds the text
+
+abbrev pub hexDigit : ℕ → ℕ
+hexDigit d = cond (ltb d 10) (48 + d) (87 + d)
+
+-- two digits a byte, the higher first
+abbrev pub hexOf : List ℕ → List ℕ
+hexOf [] = []
+hexOf (b ∷ bs) = hexDigit (b / 16) ∷ hexDigit (b % 16) ∷ hexOf bs
+
+pub record Hexed : Type 0 where
+  pub line : Line
+  pub words : List ℕ
+
+-- after these bytes of its text
+unfoldable pub hexed : Line → (ws bytes : List ℕ) → Hexed
+hexed l ws [] = record { line = l; words = ws }
+hexed l ws (b ∷ bs) = hexed (hexLine l b) (hexWords l b ws) bs
+
+pub record Holds (text : List ℕ) (l : Line) (ws : List ℕ) (h : Hexed) : Type 0 where
+  pub good : h .line .bad ≡ l .bad
+  pub room : getD (h .words) 0 0 ≡ getD ws 0 0
+  pub kept : textOf (h .line) (h .words) ≡ text
+
+abbrev pub TextKept : Type 0
+TextKept = (text ws : List ℕ) (l : Line) → l .digits ≡ 0 → ((i : ℕ) → getD text i 0 < 256) → length text ≤ 1048576 → 262145 ≤ length ws
+    → Holds text l ws (hexed l ws (hexOf text))
