@@ -34,6 +34,7 @@ use buffers::OPERATIONS;
 use buffers::PLANES;
 use buffers::POOL;
 use buffers::SCRATCH;
+use files::answer_files;
 use session::run;
 use stack::StackLimit;
 
@@ -49,7 +50,19 @@ fn answer_lines() {
     let mut pool = [0u32; POOL];
     let mut letters = [0u8; LETTERS];
     let mut out = [0u8; CHUNK];
+    let filed = answer_files(
+        &mut words,
+        &mut nodes,
+        &mut operations,
+        &mut frame,
+        &mut planes,
+        &scratch,
+        &pool,
+        &mut letters,
+        &mut out,
+    );
     run(
+        filed,
         &mut input,
         &mut words,
         &mut nodes,

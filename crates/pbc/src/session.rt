@@ -1,4 +1,4 @@
-//! Files that are arguments, then lines from standard input, each answered in turn.
+//! Lines from standard input, each answered in turn.
 
 use crate::answers::print;
 use crate::buffers::CHUNK;
@@ -11,7 +11,7 @@ use crate::buffers::PLANES;
 use crate::buffers::POOL;
 use crate::buffers::SCRATCH;
 use crate::commands::answer;
-use crate::files::answer_files;
+use crate::files::Filing;
 use crate::input::new_reader;
 use crate::input::next_line;
 use crate::line::Line;
@@ -82,9 +82,9 @@ fn turns_left(turns: u64, over: bool) -> u64
     turns - 1
 }
 
-// Answers every line of the input.
-fn answer_input(
-    begun: Session,
+/// Answers every line of the input, after the files; after a mistake none.
+pub(crate) fn run(
+    filed: Filing,
     input: &mut [u8; CHUNK],
     words: &mut [u32; LINE_WORDS],
     nodes: &mut [u32; NODES],
@@ -96,8 +96,14 @@ fn answer_input(
     letters: &mut [u8; LETTERS],
     out: &mut [u8; CHUNK],
 ) {
+    let at = filed.at;
+    if filed.over {
+        flush(out, at);
+        return;
+    }
+    let state = filed.state;
+    let mut session = Session { state, at };
     let mut reader = new_reader();
-    let mut session = begun;
     let mut turns = TURNS;
     while turns > 0 {
         reader = next_line(reader, session.at, input, words, out);
@@ -120,49 +126,4 @@ fn answer_input(
         turns = turns_left(turns, reader.over | has_failed(session.at));
     }
     flush(out, session.at);
-}
-
-/// Answers every file, and every line of the input.
-pub(crate) fn run(
-    input: &mut [u8; CHUNK],
-    words: &mut [u32; LINE_WORDS],
-    nodes: &mut [u32; NODES],
-    operations: &mut [u32; OPERATIONS],
-    frame: &mut [u32; FRAME],
-    planes: &mut [u64; PLANES],
-    scratch: &mut [u32; SCRATCH],
-    pool: &mut [u32; POOL],
-    letters: &mut [u8; LETTERS],
-    out: &mut [u8; CHUNK],
-) {
-    let filed = answer_files(
-        words,
-        nodes,
-        operations,
-        frame,
-        planes,
-        scratch,
-        pool,
-        letters,
-        out,
-    );
-    let at = filed.at;
-    if filed.over {
-        flush(out, at);
-        return;
-    }
-    let state = filed.state;
-    answer_input(
-        Session { state, at },
-        input,
-        words,
-        nodes,
-        operations,
-        frame,
-        planes,
-        scratch,
-        pool,
-        letters,
-        out,
-    );
 }

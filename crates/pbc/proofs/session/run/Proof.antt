@@ -1,16 +1,22 @@
--- `answer_input` is safe and ends: its turns are counted down.
+-- `run` is safe and ends: its turns are counted down.
 use Prim.Native.Nat.{_≤_}
 use native.Mathlib.Omega.{arith}
-use Rattle.pbc.proofs.session.answer_input.Statement.{statement}
-use Rattle.pbc.proofs.session.answer_input.Tie as tie
+use Rattle.pbc.proofs.session.run.Statement.{statement}
+use Rattle.pbc.proofs.session.run.Tie as tie
 
 abbrev Inv-loop : tie.InvT-loop
-Inv-loop input₀ words₀ nodes₀ operations₀ frame₀ planes₀ scratch₀ pool₀ letters₀ out₀ reader₀ session₀ turns₀ input words nodes operations frame planes scratch pool letters out reader session turns =
+Inv-loop input₀ words₀ nodes₀ operations₀ frame₀ planes₀ scratch₀ pool₀ letters₀ out₀ at session₀ reader₀ turns₀ input words nodes operations frame planes scratch pool letters out session reader turns =
     0 ≤ turns
 
 abbrev μ-loop : tie.MeasureT-loop
-μ-loop input₀ words₀ nodes₀ operations₀ frame₀ planes₀ scratch₀ pool₀ letters₀ out₀ reader₀ session₀ turns₀ input words nodes operations frame planes scratch pool letters out reader session turns =
+μ-loop input₀ words₀ nodes₀ operations₀ frame₀ planes₀ scratch₀ pool₀ letters₀ out₀ at session₀ reader₀ turns₀ input words nodes operations frame planes scratch pool letters out session reader turns =
     turns
+
+flush-requires : tie.Need-flush-requires Inv-loop μ-loop
+flush-requires c κs = tt
+
+returns : tie.Need-returns Inv-loop μ-loop
+returns c = tt
 
 new-reader-requires : tie.Need-new-reader-requires Inv-loop μ-loop
 new-reader-requires c κs = tt
@@ -36,18 +42,20 @@ loop-less c = c .turns-left .ensures
 loop-again : tie.Need-loop-again Inv-loop μ-loop
 loop-again c = omega arith
 
-flush-requires : tie.Need-flush-requires Inv-loop μ-loop
-flush-requires c κs = tt
+flush-requires-2 : tie.Need-flush-requires-2 Inv-loop μ-loop
+flush-requires-2 c κs = tt
 
-returns : tie.Need-returns Inv-loop μ-loop
-returns c = tt
+returns-2 : tie.Need-returns-2 Inv-loop μ-loop
+returns-2 c = tt
 
-pub answer-input-spec : {M : Type 1} → statement M
-answer-input-spec =
+pub run-spec : {M : Type 1} → statement M
+run-spec =
     tie.close
     (tie.spec
     Inv-loop
     μ-loop
+    flush-requires
+    returns
     new-reader-requires
     loop-holds
     next-line-requires
@@ -56,5 +64,5 @@ answer-input-spec =
     turns-left-requires
     loop-less
     loop-again
-    flush-requires
-    returns)
+    flush-requires-2
+    returns-2)
