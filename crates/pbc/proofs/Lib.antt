@@ -3,3 +3,5 @@ pub mod BufferWords
 pub mod LentCalls
 pub mod LineNumbers
 pub mod NameNumbers
+pub mod TextBytes
+pub mod TextKept

@@ -124,6 +124,10 @@ pub help-number : numberOf (104 ∷ 101 ∷ 108 ∷ 112 ∷ []) ≡ 161449
 unfolding extendedBy extendedName
 help-number = refl
 
+pub qasm-number : numberOf (113 ∷ 97 ∷ 115 ∷ 109 ∷ []) ≡ 335866
+unfolding extendedBy extendedName
+qasm-number = refl
+
 pub nodes-number : numberOf (110 ∷ 111 ∷ 100 ∷ 101 ∷ 115 ∷ []) ≡ 7738489
 unfolding extendedBy extendedName
 nodes-number = refl

@@ -6,3 +6,4 @@ pub mod Lines
 pub mod Handles
 pub mod Plain
 pub mod Builder
+pub mod Qasm

@@ -1,5 +1,5 @@
 -- What is read of a line: how many numbers it has, of which range, whether it names a buffer, and a number with a sign.
-use mathlib.Core.Bool.{Bool, false, cond, _&&_, _||_, not}
+use mathlib.Core.Bool.{Bool, true, false, cond, _&&_, _||_, not}
 use mathlib.Core.List.{List}
 use Prim.Native.Nat.{ℕ}
 use lib.Dec.{leb, ltb, eqb}
@@ -21,6 +21,43 @@ newLine = record {
   token = 0;
   magnitude = 0;
   negative = false;
+  digits = 0;
+}
+
+-- no command, whatever follows
+abbrev pub spoiltLine : Line → Line
+spoiltLine l = record {
+  length = l .length;
+  bad = true;
+  name = l .name;
+  buffer = l .buffer;
+  numbers = l .numbers;
+  wide = l .wide;
+  place = l .place;
+  value = l .value;
+  sign = l .sign;
+  token = l .token;
+  magnitude = l .magnitude;
+  negative = l .negative;
+  digits = l .digits;
+}
+
+-- nothing is being read
+abbrev pub betweenLine : Line → Line
+betweenLine l = record {
+  length = l .length;
+  bad = l .bad;
+  name = l .name;
+  buffer = l .buffer;
+  numbers = l .numbers;
+  wide = l .wide;
+  place = l .place;
+  value = l .value;
+  sign = l .sign;
+  token = 0;
+  magnitude = l .magnitude;
+  negative = l .negative;
+  digits = l .digits;
 }
 
 -- so many numbers, each below 2^32, and no buffer's name

@@ -5,7 +5,7 @@ pub use Rattle.arena.specs.declared.header.Header.{Header}
 pub use Rattle.arena.specs.declared.error.PbcError.the-variants.{the-data as PbcError}
 pub use Rattle.pbc.specs.declared.state.CommandState.{CommandState}
 pub use Rattle.pbc.specs.declared.state.LineReply.{LineReply}
-pub use Rattle.pbc.specs.declared.state.LineAnswer.the-variants.{the-data as LineAnswer, Nothing as NoAnswer, Bad, Refused, Done, One, Two, Words, Dump as ShowCircuit, Kinds as ShowKinds, Help as ShowHelp}
+pub use Rattle.pbc.specs.declared.state.LineAnswer.the-variants.{the-data as LineAnswer, Nothing as NoAnswer, Bad, Refused, Done, One, Two, Words, Dump as ShowCircuit, Kinds as ShowKinds, Help as ShowHelp, Gates}
 
 -- the header of a circuit with no qubit; every circuit has the owner 1
 abbrev pub emptyHeader : Header

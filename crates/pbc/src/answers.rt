@@ -4,6 +4,7 @@ use crate::buffers::CHUNK;
 use crate::buffers::byte_part;
 use crate::buffers::first;
 use crate::buffers::part;
+use crate::buffers::records;
 use crate::buffers::wide_part;
 use crate::buffers::word;
 use crate::help;
@@ -229,6 +230,19 @@ fn work_words_of(
     }
 }
 
+// The sizes of a program, the number of its gate records, and their words.
+fn gates(
+    out: &mut [u8; CHUNK],
+    at: usize,
+    qubits: u64,
+    bits: u64,
+    count: usize,
+    words: &[u32],
+) -> usize {
+    let to = three(out, at, qubits, bits, count as u64);
+    output::words(out, to, records(words, count))
+}
+
 // An answer with no number, or a refusal.
 fn brief(out: &mut [u8; CHUNK], at: usize, answer: LineAnswer) -> usize {
     match answer {
@@ -254,6 +268,7 @@ fn without_end(
     at: usize,
     answer: LineAnswer,
     h: Header,
+    words: &[u32],
     nodes: &[u32],
     operations: &[u32],
     frame: &[u32],
@@ -278,6 +293,7 @@ fn without_end(
         }
         LineAnswer::Rows(work) => rows(out, at, h, work, letters),
         LineAnswer::Kinds => kinds(out, at, h, operations),
+        LineAnswer::Gates(qubits, bits, count) => gates(out, at, qubits, bits, count, words),
         LineAnswer::Words(buffer, from, count) => words_of(
             out,
             at,
@@ -301,6 +317,7 @@ pub(crate) fn print(
     out: &mut [u8; CHUNK],
     at: usize,
     reply: LineReply,
+    words: &[u32],
     nodes: &[u32],
     operations: &[u32],
     frame: &[u32],
@@ -318,6 +335,7 @@ pub(crate) fn print(
         at,
         answer,
         reply.state.header,
+        words,
         nodes,
         operations,
         frame,

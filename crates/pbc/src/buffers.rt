@@ -2,7 +2,7 @@
 //! Nodes, operations and pool have room for four entries more than document 01's limit of 65,536.
 
 ghost use mathlib.Core.Path.{_≡_};
-ghost use Prim.Native.Nat.{_+_};
+ghost use Prim.Native.Nat.{_+_, _*_};
 ghost use lib.Dec.{leb};
 ghost use lib.ListN.{length, getD, set, take, drop, replicate};
 ghost use Rattle.pbc.specs.Buffers.{allLends, lendsOf, lendsExceed, partOf, copied};
@@ -154,6 +154,16 @@ pub(crate) fn first(words: &[u32], count: usize) -> &[u32]
 {
     if count <= words.len() {
         return &words[0..count];
+    }
+    words
+}
+
+/// The words of the first gate records, all if there are fewer.
+pub(crate) fn records(words: &[u32], count: usize) -> &[u32]
+    ensures { λ r. ⌜ now r ≡ take (4 * count) (now (words .entry)) ⌝ }
+{
+    if count <= words.len() / 4 {
+        return &words[0..4 * count];
     }
     words
 }

@@ -2,6 +2,7 @@
 
 use crate::buffers::FRAME;
 use crate::buffers::LETTERS;
+use crate::buffers::LINE_WORDS;
 use crate::buffers::NODES;
 use crate::buffers::OPERATIONS;
 use crate::buffers::PLANES;
@@ -16,6 +17,7 @@ use crate::line::Line;
 use crate::names;
 use crate::plain;
 use crate::plain::PlainCommand;
+use crate::program;
 use crate::readers;
 use crate::readers::ReadingCommand;
 use crate::state::CommandState;
@@ -28,6 +30,7 @@ enum Command {
     Circuit(CircuitCommand),
     Build(BuildCommand),
     Reading(ReadingCommand),
+    Qasm,
 }
 
 fn command_of(line: Line) -> Command {
@@ -66,6 +69,7 @@ fn command_named(name: u64) -> Command {
         names::HERM => Command::Reading(ReadingCommand::Hermitian),
         names::REPORT => Command::Reading(ReadingCommand::Report),
         names::ROWS => Command::Reading(ReadingCommand::Rows),
+        names::QASM => Command::Qasm,
         _ => Command::Plain(PlainCommand::Unknown),
     }
 }
@@ -81,7 +85,7 @@ fn fill_command(line: Line) -> Command {
 pub(crate) fn answer(
     state: CommandState,
     line: Line,
-    words: &[u32],
+    words: &mut [u32; LINE_WORDS],
     nodes: &mut [u32; NODES],
     operations: &mut [u32; OPERATIONS],
     frame: &mut [u32; FRAME],
@@ -125,5 +129,6 @@ pub(crate) fn answer(
             pool,
             letters,
         ),
+        Command::Qasm => program::answer(state, line, words, letters),
     }
 }

@@ -20,9 +20,10 @@ use crate::state::OWNER;
 use convert::Cap;
 use convert::Converted;
 use convert::FramePushed;
+ghost use mathlib.Core.Path.{_≡_};
 
-// What a line says of the cap.
-enum ReadCap {
+/// What a line, or an argument, says of the cap.
+pub enum ReadCap {
     Fine(Cap),
     Bad,
 }
@@ -44,7 +45,9 @@ fn read_cap(line: Line, words: &[u32]) -> ReadCap {
     ReadCap::Bad
 }
 
-fn converted(state: CommandState, planes_shown: bool, answer: Converted) -> LineReply {
+fn converted(state: CommandState, planes_shown: bool, answer: Converted) -> LineReply
+    ensures { λ r. ⌜ r .state .lends ≡ state .lends ⌝ }
+{
     match answer {
         Converted::Made(made) => state.with_header(made, shown(planes_shown)),
         Converted::Refused(error) => state.refused(error),
@@ -65,25 +68,28 @@ fn frame_pushed(state: CommandState, answer: FramePushed) -> LineReply {
     }
 }
 
-// The conversion with the cap that the line has.
-fn convert_with(
+/// The conversion of gates with a cap. What is lent stays.
+pub(crate) fn convert_gates(
     state: CommandState,
     planes_shown: bool,
     cap: Cap,
-    words: &[u32],
-    count: usize,
+    qubits: u32,
+    bits: u32,
+    gates: &[u32],
     nodes: &mut [u32],
     operations: &mut [u32],
     frame: &mut [u32],
     planes: &mut [u64],
-) -> LineReply {
+) -> LineReply
+    ensures { λ r. ⌜ r .state .lends ≡ state .lends ⌝ }
+{
     let lends = state.lends;
     let answer = convert::to_pbc(
-        word(words, 0),
-        word(words, 1),
+        qubits,
+        bits,
         OWNER,
         cap,
-        gates(words, count),
+        gates,
         lent(nodes, lends.nodes),
         lent(operations, lends.operations),
         lent(frame, lends.frame),
@@ -114,12 +120,13 @@ fn convert_line(
     let ReadCap::Fine(cap) = read_cap(line, words) else {
         return state.bad();
     };
-    convert_with(
+    convert_gates(
         state,
         planes_shown,
         cap,
-        words,
-        line.numbers,
+        word(words, 0),
+        word(words, 1),
+        gates(words, line.numbers),
         nodes,
         operations,
         frame,

@@ -3,7 +3,6 @@
 use crate::buffers::CHUNK;
 use crate::output;
 use crate::text::stands_at;
-use libc::STDERR_FILENO;
 
 const BAR: u8 = 124;
 
@@ -31,7 +30,7 @@ fn commands(out: &mut [u8; CHUNK], at: usize, between: &[u8]) -> usize {
         out,
         at,
         between,
-        b"new N CBITS|convert N CBITS CAP WORD ..|planes N CBITS CAP WORD ..|fgate KIND A B C|\
+        b"new N CBITS|convert N CBITS CAP WORD ..|planes N CBITS CAP WORD ..|fgate KIND A B C|qasm ROOM HEX|\
         single QUBIT LETTER|product F W F W|rotate F W ANGLE|measure F W BIT+1|cond F W ANGLE F NUMBER|\
         expand F W MAX_CELLS|herm F W LIMIT|report LIMIT|rows LIMIT|angle K|times A B|dump|kinds|\
         store N CBITS MEASUREMENTS COUNT NODEWORD .. COUNT OPERATIONWORD .. COUNT FRAMEWORD ..|\
@@ -51,23 +50,22 @@ fn usage() {
     let to = output::text(
         &mut out,
         0,
-        b"usage: pbc [--help]\n\nOne command a line on standard input, one answer a line on standard output. The commands:\n  ",
+        b"usage: pbc [--help] [[--cap W] FILE ..]\n\n\
+        Each FILE is OpenQASM 2: it is converted, under the cap W where one was given last (none takes it back), answered as by convert, and current then.\n\n\
+        One command a line on standard input, one answer a line on standard output. The commands:\n  ",
     );
     let to = commands(&mut out, to, b"\n  ");
     let to = output::line_end(&mut out, to);
     output::flush(&out, to);
 }
 
-/// The answer to the first argument, which is `--help` or a mistake.
-pub(crate) fn answer_argument() {
+/// Answers `--help`, where that is the one argument, and says whether it is.
+pub(crate) fn answer_argument() -> bool {
     let mut argument = [0u8; 7];
     let count = os::arg(1, &mut argument);
-    if (count == 6) & stands_at(&argument, 0, b"--help") {
+    if (os::arg_count() == 2) & (count == 6) & stands_at(&argument, 0, b"--help") {
         usage();
-        return;
+        return true;
     }
-    io::write_all(
-        STDERR_FILENO,
-        b"pbc: the one argument is --help; commands are read from standard input\n",
-    );
+    false
 }

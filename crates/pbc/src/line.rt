@@ -1,23 +1,24 @@
-//! A line of input, read byte by byte: a command's name, then numbers, or a buffer's name and numbers, with spaces between them.
+//! A line of input, read byte by byte: a command's name, then numbers, or a buffer's name and numbers, or a number and a text, with spaces between them.
 //! Numbers below 2^32 go to a lent slice. No command has more than one number of another range, so that one is kept in the line.
 
 use crate::buffers::LINE_WORDS;
 use crate::buffers::put_word;
 use crate::buffers::wide_at;
 use crate::names::NO_NAME;
+use crate::names::QASM;
 use crate::names::extended;
 use crate::names::is_letter;
 use crate::runs::SPACE;
 use crate::runs::successor;
 ghost use mathlib.Core.Path.{_≡_};
-ghost use Rattle.pbc.specs.Lines.{newLine, hasNumbers, hasSigned, hasMore, hasMoreSigned, hasBuffer, signedOf, signedAt};
+ghost use Rattle.pbc.specs.Lines.{newLine, spoiltLine, betweenLine, hasNumbers, hasSigned, hasMore, hasMoreSigned, hasBuffer, signedOf, signedAt};
 
 /// The longest line that is read, in bytes.
 const LONGEST: u32 = 4500000;
 
 const MINUS_SIGN: u8 = 45;
 
-// What is being read: nothing yet, the command's name, a buffer's name, a minus sign with no digit yet, a number.
+// What is being read: nothing yet, the command's name, a buffer's name, a minus sign with no digit yet, a number, a text.
 const BETWEEN: u32 = 0;
 
 const NAME: u32 = 1;
@@ -27,6 +28,8 @@ const BUFFER: u32 = 2;
 const MINUS: u32 = 3;
 
 const NUMBER: u32 = 4;
+
+pub const HEX: u32 = 5;
 
 pub struct Line {
     /// Bytes so far, at most one more than the longest line has.
@@ -49,9 +52,11 @@ pub struct Line {
     pub sign: bool,
     /// What is being read.
     pub token: u32,
-    /// The magnitude of the number being read, and whether it has a minus sign.
+    /// The magnitude of the number being read, and whether it has a minus sign; or the last hex digit.
     pub magnitude: u64,
     pub negative: bool,
+    /// Hex digits so far.
+    pub digits: usize,
 }
 
 // A magnitude with one digit more; one that would pass 2^63 + 1 becomes the greatest number, and stays it.
@@ -94,6 +99,7 @@ impl Line {
             token: BETWEEN,
             magnitude: 0,
             negative: false,
+            digits: 0,
         }
     }
 
@@ -109,7 +115,7 @@ impl Line {
         if byte == SPACE {
             return longer.ended(words);
         }
-        longer.with_text(byte)
+        longer.with_text(byte, words)
     }
 
     /// The command's name has not begun.
@@ -117,9 +123,9 @@ impl Line {
         !self.bad & (self.token == BETWEEN) & (self.name == 0)
     }
 
-    /// The command's name has ended, and a number may begin.
+    /// The command's name has ended, and nothing but a number or a buffer's name may begin: a text may look like a number.
     pub(crate) fn is_between(self) -> bool {
-        !self.bad & (self.token == BETWEEN) & !(self.name == 0)
+        !self.bad & (self.token == BETWEEN) & !(self.name == 0) & !(self.name == QASM)
     }
 
     /// The line with this name, after so many bytes more.
@@ -148,15 +154,21 @@ impl Line {
         self
     }
 
-    fn spoilt(mut self) -> Line {
+    /// No command, whatever follows. Promise: `spoiltLine`.
+    pub(crate) fn spoilt(mut self) -> Line
+        ensures { λ r. ⌜ r ≡ spoiltLine self ⌝ }
+    {
         self.bad = true;
         self
     }
 
-    fn with_text(self, byte: u8) -> Line {
+    fn with_text(self, byte: u8, words: &mut [u32; LINE_WORDS]) -> Line {
         let token = self.token;
         if token == BETWEEN {
-            return self.begun(byte);
+            return self.begun(byte, words);
+        }
+        if token == HEX {
+            return self.with_hex(byte, words);
         }
         if token == NAME {
             return self.named(byte);
@@ -167,10 +179,13 @@ impl Line {
         self.with_digit(byte)
     }
 
-    // The first byte of a name or a number.
-    fn begun(self, byte: u8) -> Line {
+    // The first byte of a name, a number or a text.
+    fn begun(self, byte: u8, words: &mut [u32; LINE_WORDS]) -> Line {
         if self.name == 0 {
             return self.named(byte);
+        }
+        if self.awaits_hex() {
+            return self.with_hex(byte, words);
         }
         if is_letter(byte) {
             return self.buffer_begun(byte);
@@ -237,7 +252,7 @@ impl Line {
         self
     }
 
-    // The line where the name or number being read has ended.
+    // The line where the name, number or text being read has ended.
     pub(crate) fn ended(self, words: &mut [u32; LINE_WORDS]) -> Line {
         let token = self.token;
         if token == NUMBER {
@@ -246,10 +261,16 @@ impl Line {
         if token == MINUS {
             return self.spoilt();
         }
+        if token == HEX {
+            return self.hex_ended();
+        }
         self.between()
     }
 
-    fn between(mut self) -> Line {
+    /// Nothing is being read. Promise: `betweenLine`.
+    pub(crate) fn between(mut self) -> Line
+        ensures { λ r. ⌜ r ≡ betweenLine self ⌝ }
+    {
         self.token = BETWEEN;
         self
     }

@@ -1,4 +1,4 @@
-//! The command `pbc`: one command of the library a line on standard input, one answer a line on standard output.
+//! The command `pbc`: files to convert as arguments, then one command of the library a line on standard input; one answer a line on standard output.
 //! All memory is made here, once, and lent.
 
 mod answers;
@@ -7,13 +7,16 @@ mod builder;
 mod circuits;
 mod commands;
 mod conversion;
+mod files;
 mod fill;
 mod help;
+mod hex;
 mod input;
 mod line;
 mod names;
 mod output;
 mod plain;
+mod program;
 mod readers;
 mod runs;
 mod session;
@@ -31,6 +34,7 @@ use buffers::OPERATIONS;
 use buffers::PLANES;
 use buffers::POOL;
 use buffers::SCRATCH;
+use files::answer_files;
 use session::run;
 use stack::StackLimit;
 
@@ -46,7 +50,19 @@ fn answer_lines() {
     let mut pool = [0u32; POOL];
     let mut letters = [0u8; LETTERS];
     let mut out = [0u8; CHUNK];
+    let filed = answer_files(
+        &mut words,
+        &mut nodes,
+        &mut operations,
+        &mut frame,
+        &mut planes,
+        &scratch,
+        &pool,
+        &mut letters,
+        &mut out,
+    );
     run(
+        filed,
         &mut input,
         &mut words,
         &mut nodes,
@@ -68,8 +84,7 @@ fn answer_within(bytes: u64) {
 }
 
 fn main() {
-    if 1 < os::arg_count() {
-        help::answer_argument();
+    if help::answer_argument() {
         return;
     }
     // Two calls, so that the compiler does not put the buffers on the stack of `main`, which has to run on a smaller one.

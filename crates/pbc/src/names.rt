@@ -56,6 +56,8 @@ pub const FGATE: u64 = 3327701;
 
 pub const HELP: u64 = 161449;
 
+pub const QASM: u64 = 335866;
+
 pub const NODES: u64 = 7738489;
 
 pub const OPERATIONS: u64 = 118962135359524;

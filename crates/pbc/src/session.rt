@@ -11,6 +11,7 @@ use crate::buffers::PLANES;
 use crate::buffers::POOL;
 use crate::buffers::SCRATCH;
 use crate::commands::answer;
+use crate::files::Filing;
 use crate::input::new_reader;
 use crate::input::next_line;
 use crate::line::Line;
@@ -26,19 +27,12 @@ pub(crate) struct Session {
     at: usize,
 }
 
-fn new_session() -> Session {
-    Session {
-        state: CommandState::new(),
-        at: 0,
-    }
-}
-
 // The answer to a whole line.
 fn answer_line(
     before: CommandState,
     line: Line,
     at: usize,
-    words: &[u32],
+    words: &mut [u32; LINE_WORDS],
     nodes: &mut [u32; NODES],
     operations: &mut [u32; OPERATIONS],
     frame: &mut [u32; FRAME],
@@ -64,6 +58,7 @@ fn answer_line(
         out,
         at,
         reply,
+        words,
         nodes,
         operations,
         frame,
@@ -87,8 +82,9 @@ fn turns_left(turns: u64, over: bool) -> u64
     turns - 1
 }
 
-/// Answers every line of the input.
+/// Answers every line of the input, after the files; after a mistake none.
 pub(crate) fn run(
+    filed: Filing,
     input: &mut [u8; CHUNK],
     words: &mut [u32; LINE_WORDS],
     nodes: &mut [u32; NODES],
@@ -100,8 +96,14 @@ pub(crate) fn run(
     letters: &mut [u8; LETTERS],
     out: &mut [u8; CHUNK],
 ) {
+    let at = filed.at;
+    if filed.over {
+        flush(out, at);
+        return;
+    }
+    let state = filed.state;
+    let mut session = Session { state, at };
     let mut reader = new_reader();
-    let mut session = new_session();
     let mut turns = TURNS;
     while turns > 0 {
         reader = next_line(reader, session.at, input, words, out);

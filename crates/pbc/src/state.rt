@@ -48,6 +48,8 @@ pub enum LineAnswer {
     Words(Buffer, usize, usize),
     /// The commands with their arguments.
     Help,
+    /// The qubits and classical bits of a text, and how many gate records stand in the line's words.
+    Gates(u64, u64, usize),
 }
 
 pub struct LineReply {

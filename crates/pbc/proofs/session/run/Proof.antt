@@ -5,18 +5,21 @@ use Rattle.pbc.proofs.session.run.Statement.{statement}
 use Rattle.pbc.proofs.session.run.Tie as tie
 
 abbrev Inv-loop : tie.InvT-loop
-Inv-loop input₀ words₀ nodes₀ operations₀ frame₀ planes₀ scratch₀ pool₀ letters₀ out₀ reader₀ session₀ turns₀ input words nodes operations frame planes scratch pool letters out reader session turns =
+Inv-loop input₀ words₀ nodes₀ operations₀ frame₀ planes₀ scratch₀ pool₀ letters₀ out₀ at session₀ reader₀ turns₀ input words nodes operations frame planes scratch pool letters out session reader turns =
     0 ≤ turns
 
 abbrev μ-loop : tie.MeasureT-loop
-μ-loop input₀ words₀ nodes₀ operations₀ frame₀ planes₀ scratch₀ pool₀ letters₀ out₀ reader₀ session₀ turns₀ input words nodes operations frame planes scratch pool letters out reader session turns =
+μ-loop input₀ words₀ nodes₀ operations₀ frame₀ planes₀ scratch₀ pool₀ letters₀ out₀ at session₀ reader₀ turns₀ input words nodes operations frame planes scratch pool letters out session reader turns =
     turns
+
+flush-requires : tie.Need-flush-requires Inv-loop μ-loop
+flush-requires c κs = tt
+
+returns : tie.Need-returns Inv-loop μ-loop
+returns c = tt
 
 new-reader-requires : tie.Need-new-reader-requires Inv-loop μ-loop
 new-reader-requires c κs = tt
-
-new-session-requires : tie.Need-new-session-requires Inv-loop μ-loop
-new-session-requires c κs = tt
 
 loop-holds : tie.Need-loop-holds Inv-loop μ-loop
 loop-holds c = omega arith
@@ -31,7 +34,7 @@ has-failed-requires : tie.Need-has-failed-requires Inv-loop μ-loop
 has-failed-requires c κs = tt
 
 turns-left-requires : tie.Need-turns-left-requires Inv-loop μ-loop
-turns-left-requires c κs = c .before .before .before .before .before .before .before .before .before .before .before .before .before .before .before .before .before .before .before .loop-test .taken
+turns-left-requires c κs = c .before .before .before .before .before .before .before .before .before .before .before .before .before .before .before .before .before .before .loop-test .taken
 
 loop-less : tie.Need-loop-less Inv-loop μ-loop
 loop-less c = c .turns-left .ensures
@@ -39,11 +42,11 @@ loop-less c = c .turns-left .ensures
 loop-again : tie.Need-loop-again Inv-loop μ-loop
 loop-again c = omega arith
 
-flush-requires : tie.Need-flush-requires Inv-loop μ-loop
-flush-requires c κs = tt
+flush-requires-2 : tie.Need-flush-requires-2 Inv-loop μ-loop
+flush-requires-2 c κs = tt
 
-returns : tie.Need-returns Inv-loop μ-loop
-returns c = tt
+returns-2 : tie.Need-returns-2 Inv-loop μ-loop
+returns-2 c = tt
 
 pub run-spec : {M : Type 1} → statement M
 run-spec =
@@ -51,8 +54,9 @@ run-spec =
     (tie.spec
     Inv-loop
     μ-loop
+    flush-requires
+    returns
     new-reader-requires
-    new-session-requires
     loop-holds
     next-line-requires
     answer-line-requires
@@ -60,5 +64,5 @@ run-spec =
     turns-left-requires
     loop-less
     loop-again
-    flush-requires
-    returns)
+    flush-requires-2
+    returns-2)
