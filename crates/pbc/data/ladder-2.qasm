@@ -1,0 +1,15 @@
+OPENQASM 2.0;
+include "qelib1.inc";
+qreg q[5];
+creg c[3];
+cx q[2],q[3];
+cx q[2],q[4];
+ccx q[0],q[1],q[2];
+ccx q[2],q[3],q[4];
+cx q[2],q[3];
+ccx q[0],q[1],q[2];
+cx q[0],q[1];
+cx q[2],q[3];
+measure q[1] -> c[0];
+measure q[3] -> c[1];
+measure q[4] -> c[2];
