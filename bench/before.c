@@ -1,6 +1,9 @@
-/* The library as it is beside the library as it was, in one process, on the same inputs: conversions and weight reports, adders and random lists.
- * Times are the least of repeated rounds, both libraries in turn; a round of a random workload goes over several lists, so that none is learnt by heart.
- * usage: before WORDS_NOW WORDS_BEFORE [FILE.pbc..]     (u32 words of an operation in each; files with one `convert` line each) */
+/* The library as it is beside the library as it was, in one process, on the same inputs: conversions, weight reports and all axes in one walk, of adders
+ * and of random lists. Before a report or an expansion is timed, the answers of both are compared.
+ * Times are the least of repeated rounds, both libraries in turn; conversions of a random workload go over several lists, so that none is learnt by heart.
+ * usage: before [--once] WORDS_NOW WORDS_BEFORE WORD [FILE.pbc..]
+ *   --once: each call once, and nothing printed, for a program that counts instructions
+ *   WORDS_NOW, WORDS_BEFORE: the u32 words of an operation in each; WORD: only workloads whose names contain it; files with one `convert` line each */
 #include <stdint.h>
 #include <stdio.h>
 #include <stdlib.h>
@@ -15,21 +18,31 @@
     uint32_t NAME(uint64_t *header, size_t header_len, const uint32_t *nodes, size_t nodes_len, const uint32_t *operations,                 \
                   size_t operations_len, uint32_t *scratch, size_t scratch_len, uint32_t *pool, size_t pool_len, uint64_t limit,            \
                   uint64_t *answer, size_t answer_len)
+#define AXES(NAME)                                                                                                                          \
+    uint32_t NAME(const uint64_t *header, size_t header_len, const uint32_t *nodes, size_t nodes_len, const uint32_t *operations,           \
+                  size_t operations_len, uint8_t *rows, size_t rows_len, uint32_t *scratch, size_t scratch_len, uint32_t *pool,             \
+                  size_t pool_len, uint64_t limit, uint64_t *answer, size_t answer_len)
 typedef CONVERT((*Convert));
 typedef WEIGHTS((*Weights));
+typedef AXES((*Axes));
 CONVERT(pbc_convert);
 CONVERT(before_pbc_convert);
 WEIGHTS(pbc_max_axis_weights);
 WEIGHTS(before_pbc_max_axis_weights);
+AXES(pbc_expand_axes);
+AXES(before_pbc_expand_axes);
 
-enum { NODES = 131072, OPERATIONS = 5 * 65536, FRAME = 512, PLANES = 4096, SCRATCH = 262144, POOL = 196608, LISTS = 8, NO_POOL = 18 };
+enum { NODES = 131072, OPERATIONS = 5 * 65536, FRAME = 512, PLANES = 4096, SCRATCH = 262144, POOL = 196608, ROWS = 257 * 65536, LISTS = 8, NO_POOL = 18 };
+enum { CONVERSION, REPORT, AXES_IN_ONE_WALK, CALLS };
 
 typedef struct {
     Convert convert;
     Weights weights;
+    Axes axes;
     size_t words;
     uint32_t nodes[NODES], operations[OPERATIONS], frame[FRAME], scratch[SCRATCH], pool[POOL];
     uint64_t planes[PLANES], header[6], answer[4];
+    uint8_t rows[ROWS];
 } Library;
 
 typedef struct {
@@ -38,9 +51,12 @@ typedef struct {
     uint32_t *words;
 } List;
 
+static const char *const prefixes[CALLS] = {"", "report, ", "all axes, "};
 static Library now, before;
-static double sums[2];
-static int count[2];
+static Library *const both[2] = {&now, &before};
+static double sums[CALLS];
+static int count[CALLS], once;
+static const char *word;
 
 static double seconds(void) {
     struct timespec t;
@@ -85,6 +101,11 @@ static uint32_t report(Library *l, size_t records) {
     return l->weights(l->header, 6, l->nodes, NODES, l->operations, 65536 * l->words, l->scratch, 4 * l->header[3], l->pool, 3 * records, UINT64_MAX >> 1, l->answer, 4);
 }
 
+static uint32_t axes(Library *l, size_t records) {
+    return l->axes(l->header, 6, l->nodes, NODES, l->operations, 65536 * l->words, l->rows, ROWS, l->scratch, 4 * l->header[3], l->pool, 3 * records, UINT64_MAX >> 1,
+                   l->answer, 4);
+}
+
 /* The least power of two of records, from 1,024 on, that serves. */
 static size_t records_for(Library *l) {
     size_t records = 1024;
@@ -92,60 +113,71 @@ static size_t records_for(Library *l) {
     return records;
 }
 
-static void line(const char *name, const double *least, int kind) {
+static uint32_t call(int which, Library *l, const List *lists, int many, uint64_t cap, size_t records) {
+    uint32_t refused = 0;
+    if (which == REPORT) return report(l, records);
+    if (which == AXES_IN_ONE_WALK) return axes(l, records);
+    for (int k = 0; k < many; k++) refused |= convert(l, lists + k, cap);
+    return refused;
+}
+
+static void differ(const char *name) {
+    printf("%s: the answers differ\n", name);
+    exit(1);
+}
+
+/* One of the calls by both libraries: the answers compared, then the times. */
+static void timed(int which, const char *name, const List *lists, int many, uint64_t cap, size_t records) {
+    double least[2] = {1e9, 1e9}, all = 0, enough = which == CONVERSION ? 1.0 : 0.5;
+    uint32_t refused[2];
+    for (int b = 0; b < 2; b++) refused[b] = call(which, both[b], lists, many, cap, records);
+    if (refused[0] != refused[1]) differ(name);
+    if (refused[0]) {
+        if (!once) printf("%s%s: refused\n", prefixes[which], name);
+        return;
+    }
+    if (memcmp(now.answer, before.answer, sizeof now.answer)) differ(name);
+    if (which == AXES_IN_ONE_WALK && memcmp(now.rows, before.rows, ROWS)) differ(name);
+    if (once) return;
+    for (int round = 0; round < 400 && (all < enough || round < 20); round++)
+        for (int turn = 0; turn < 2; turn++) {
+            int b = (round + turn) % 2;
+            double start = seconds();
+            call(which, both[b], lists, many, cap, records);
+            double took = seconds() - start;
+            all += took;
+            if (took < least[b]) least[b] = took;
+        }
     double ratio = least[0] / least[1];
-    printf("%-58s %10.2f us %10.2f us   %.3f\n", name, 1e6 * least[0], 1e6 * least[1], ratio);
-    sums[kind] += ratio;
-    count[kind]++;
+    printf("%-10s%-48s %10.2f us %10.2f us   %.3f\n", prefixes[which], name, 1e6 * least[0], 1e6 * least[1], ratio);
+    sums[which] += ratio;
+    count[which]++;
 }
 
 static void workload(const char *name, const List *lists, int many, uint64_t cap) {
-    Library *both[2] = {&now, &before};
-    double least[2] = {1e9, 1e9}, all = 0;
-    char text[128];
-    for (int k = 0; k < many; k++)
-        for (int b = 0; b < 2; b++)
-            if (convert(both[b], lists + k, cap)) {
-                printf("%-58s refused\n", name);
-                return;
-            }
-    for (int round = 0; round < 400 && (all < 1.0 || round < 20); round++)
-        for (int turn = 0; turn < 2; turn++) {
-            int b = (round + turn) % 2;
-            double start = seconds();
-            for (int k = 0; k < many; k++) convert(both[b], lists + k, cap);
-            double took = seconds() - start;
-            all += took;
-            if (took < least[b]) least[b] = took;
-        }
-    line(name, least, 0);
-    least[0] = least[1] = 1e9;
-    convert(&now, lists, cap);
-    convert(&before, lists, cap);
+    uint32_t refused = 0;
+    if (!strstr(name, word)) return;
+    timed(CONVERSION, name, lists, many, cap, 0);
+    for (int b = 0; b < 2; b++) refused |= convert(both[b], lists, cap);
+    if (refused) return;
     size_t records = records_for(&now);
-    all = 0;
-    for (int round = 0; round < 400 && (all < 0.5 || round < 10); round++)
-        for (int turn = 0; turn < 2; turn++) {
-            int b = (round + turn) % 2;
-            double start = seconds();
-            if (report(both[b], records)) return;
-            double took = seconds() - start;
-            all += took;
-            if (took < least[b]) least[b] = took;
-        }
-    snprintf(text, sizeof text, "report, %s", name);
-    line(text, least, 1);
+    if (records_for(&before) != records) differ(name);
+    timed(REPORT, name, lists, many, cap, records);
+    timed(AXES_IN_ONE_WALK, name, lists, many, cap, records);
 }
 
 int main(int argc, char **argv) {
     static const uint64_t caps[] = {UINT64_C(1) << 32, 3, 8};
     static const char *names[] = {"no cap", "cap 3", "cap 8"};
     char text[128];
-    if (argc < 3) return 2;
-    now.convert = pbc_convert, now.weights = pbc_max_axis_weights, now.words = (size_t)atoi(argv[1]);
-    before.convert = before_pbc_convert, before.weights = before_pbc_max_axis_weights, before.words = (size_t)atoi(argv[2]);
-    printf("%-58s %13s %13s   now/before\n", "", "now", "before");
-    for (int f = 3; f < argc; f++)
+    once = argc > 1 && !strcmp(argv[1], "--once");
+    argc -= once, argv += once;
+    if (argc < 4) return 2;
+    now.convert = pbc_convert, now.weights = pbc_max_axis_weights, now.axes = pbc_expand_axes, now.words = (size_t)atoi(argv[1]);
+    before.convert = before_pbc_convert, before.weights = before_pbc_max_axis_weights, before.axes = before_pbc_expand_axes, before.words = (size_t)atoi(argv[2]);
+    word = argv[3];
+    if (!once) printf("%-58s %13s %13s   now/before\n", "", "now", "before");
+    for (int f = 4; f < argc; f++)
         for (int c = 0; c < 3; c++) {
             List list = read_list(argv[f]);
             const char *base = strrchr(argv[f], '/') ? strrchr(argv[f], '/') + 1 : argv[f];
@@ -165,6 +197,8 @@ int main(int argc, char **argv) {
                 workload(text, lists, LISTS, caps[c]);
                 for (int k = 0; k < LISTS; k++) free(lists[k].words);
             }
-    printf("mean of the ratios: conversions %.3f, reports %.3f\n", sums[0] / count[0], sums[1] / count[1]);
+    if (!once && count[CONVERSION])
+        printf("mean of the ratios: conversions %.3f, reports %.3f, all axes %.3f\n", sums[CONVERSION] / count[CONVERSION], sums[REPORT] / count[REPORT],
+               sums[AXES_IN_ONE_WALK] / count[AXES_IN_ONE_WALK]);
     return 0;
 }

@@ -1,10 +1,15 @@
 -- Phases and letters by their numbers.
-use mathlib.Core.Path.{_≡_, refl, ap, sym, _∙_}
+use mathlib.Core.Path.{_≡_, refl, ap, ap₂, sym, _∙_}
 use mathlib.Core.Logic.{_≢_}
-use Prim.Native.Nat.{ℕ, zero, suc, _+_, _*_, _/_, _%_, _<_}
+use mathlib.Core.Bool.{Bool, true, false}
+use Prim.Native.Nat.{ℕ, zero, suc, _+_, _*_, _/_, _%_, _≤_, _<_}
 use native.Mathlib.Omega.{arith}
-use Rattle.pauli.specs.Letters.{Phase, One, PlusI, MinusOne, MinusI, _⊕_, timesI, power, phaseNumber, Pauli, I, X, Y, Z, pauliOf, pauliNumber}
-use Rattle.pauli.proofs.Finite.{turns, phase, law₁, law₂}
+use mir.Val.{boolByte}
+use lib.Dec.{ltb}
+use lib.Bits.{bitAnd, bitOr, bitXor}
+use borrow.Author.Tests.{le-ltb}
+use Rattle.pauli.specs.Letters.{Phase, One, PlusI, MinusOne, MinusI, _⊕_, timesI, power, phaseNumber, Pauli, I, X, Y, Z, pauliOf, pauliNumber, phaseOf, _·_}
+use Rattle.pauli.proofs.Finite.{turns, phase, letters, number, law₁, law₂}
 
 four-i : (p : Phase) → timesI (timesI (timesI (timesI p))) ≡ p
 four-i = law₁ turns phase _ _ tt
@@ -53,3 +58,39 @@ pauliNumber-small I = omega arith
 pauliNumber-small X = omega arith
 pauliNumber-small Y = omega arith
 pauliNumber-small Z = omega arith
+
+-- ---- products by the bits of the letters' numbers
+
+-- a number past 3 counts as that of I
+pub letter-low : (a : ℕ) → a * boolByte (ltb a 4) ≡ pauliNumber (pauliOf a)
+letter-low zero = refl
+letter-low (suc zero) = refl
+letter-low (suc (suc zero)) = refl
+letter-low (suc (suc (suc zero))) = refl
+letter-low (suc (suc (suc (suc n)))) = rw (le-ltb (suc (suc (suc (suc n)))) 4 (omega arith)) (omega arith)
+
+pub letter-fits : (a : ℕ) → a * boolByte (ltb a 4) ≤ a
+letter-fits a = at-most (ltb a 4)
+  where
+    at-most : (b : Bool) → a * boolByte b ≤ a
+    at-most true = omega arith
+    at-most false = omega arith
+
+-- the letter of a product: the exclusive or
+pub letter-bits : (p q : Pauli) → bitXor (pauliNumber p) (pauliNumber q) ≡ pauliNumber (p · q)
+letter-bits = law₂ letters number _ _ tt
+
+-- the power of i in front, as `phase_number` computes it
+abbrev phaseBits : ℕ → ℕ → ℕ
+phaseBits a b =
+    let lowHigh = bitAnd a (b / 2) in
+    let anticommute = bitAnd (bitXor lowHigh (bitAnd (a / 2) b)) 1 in
+    let letter = bitXor a b in
+    let reversed = bitXor lowHigh (bitAnd letter (letter / 2)) in
+    bitOr anticommute ((bitAnd anticommute reversed * 2) % 4294967296)
+
+phase-bits-at : (p q : Pauli) → phaseBits (pauliNumber p) (pauliNumber q) ≡ phaseNumber (phaseOf p q)
+phase-bits-at = law₂ letters number _ _ tt
+
+pub phase-bits : (a b : ℕ) (p q : Pauli) → a ≡ pauliNumber p → b ≡ pauliNumber q → phaseBits a b ≡ phaseNumber (phaseOf p q)
+phase-bits a b p q e f = ap₂ phaseBits e f ∙ phase-bits-at p q
