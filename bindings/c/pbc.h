@@ -223,6 +223,11 @@ uint32_t pbc_max_axis_weights(const uint64_t *header, size_t header_len, const u
                               size_t operations_len, uint32_t *scratch, size_t scratch_len, uint32_t *pool, size_t pool_len, uint64_t limit,
                               uint64_t *answer, size_t answer_len);
 
+/* The same by the kinds of the axes: rotations of angle 0, conditional ones too, are in neither maximum. Values, work and refusals as above. */
+uint32_t pbc_max_axis_weights_by_kind(const uint64_t *header, size_t header_len, const uint32_t *nodes, size_t nodes_len, const uint32_t *operations,
+                                      size_t operations_len, uint32_t *scratch, size_t scratch_len, uint32_t *pool, size_t pool_len, uint64_t limit,
+                                      uint64_t *answer, size_t answer_len);
+
 /* The axis of every operation, in order, in one walk: PBC_ROW_BYTES each, a letter a qubit and then the phase. Value: work, that of the weights
  * above. Needs PBC_ROWS_BYTES of the used operations. Refuses with 3 (as the weights), 16, 17, 18; rows past the used ones are left alone. */
 uint32_t pbc_expand_axes(const uint64_t *header, size_t header_len, const uint32_t *nodes, size_t nodes_len, const uint32_t *operations,

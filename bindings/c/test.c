@@ -66,6 +66,12 @@ static uint32_t weights(void)
                                 LENT(answer));
 }
 
+static uint32_t weights_by_kind(void)
+{
+    return pbc_max_axis_weights_by_kind(header, LENGTH(header), nodes, LENGTH(nodes), operations, LENGTH(operations), LENT(scratch), LENT(pool),
+                                        UINT64_MAX, LENT(answer));
+}
+
 static uint32_t expand_axes(size_t rows_len, size_t pool_len, uint64_t limit)
 {
     return pbc_expand_axes(header, LENGTH(header), nodes, LENGTH(nodes), operations, LENGTH(operations), rows, rows_len, LENT(scratch), pool,
@@ -181,6 +187,27 @@ static void hand_is_marked(void)
         operations[PBC_OPERATION_WORDS + 4] = words[i];
         expect("weights", weights(), i == 2 || i == 3 ? PBC_BAD_STORE : PBC_ACCEPTED);
     }
+}
+
+/* X turned by 0, plainly and on a condition, is Clifford work for the first report alone; both charge it. */
+static void zero_turns_weigh_nothing(void)
+{
+    new_circuit(1, 1);
+    expect("rotate", pbc_rotate(LENT(header), LENT(operations), OWNER, 4, 0, LENT(answer)), PBC_ACCEPTED);
+    expect("weights", weights(), PBC_ACCEPTED);
+    expect("a turn by 0", answer[1], 1);
+    expect("work", answer[2], 3);
+    expect("weights by kind", weights_by_kind(), PBC_ACCEPTED);
+    expect("a turn by 0, by kind", answer[1], 0);
+    expect("work", answer[2], 3);
+    expect("measure", pbc_measure(LENT(header), LENT(operations), OWNER, 8, 1, LENT(answer)), PBC_ACCEPTED);
+    expect("conditional", pbc_conditional_rotate(LENT(header), LENT(operations), OWNER, 4, 8, OWNER, 0, LENT(answer)), PBC_ACCEPTED);
+    expect("weights by kind", weights_by_kind(), PBC_ACCEPTED);
+    expect("the measurement", answer[0], 1);
+    expect("a conditional turn by 0", answer[1], 0);
+    expect("rotate", pbc_rotate(LENT(header), LENT(operations), OWNER, 4, 2, LENT(answer)), PBC_ACCEPTED);
+    expect("weights by kind", weights_by_kind(), PBC_ACCEPTED);
+    expect("a turn by 2", answer[1], 1);
 }
 
 /* The first bytes of the rows have this value; then all are 9. */
@@ -373,6 +400,9 @@ static void null_is_empty(void)
     expect("weights", pbc_max_axis_weights(header, LENGTH(header), nodes, LENGTH(nodes), NONE, LENT(scratch), NONE, 100, LENT(answer)),
            PBC_ACCEPTED);
     expect("weights", pbc_max_axis_weights(NONE, NONE, NONE, NONE, NONE, 100, LENT(answer)), PBC_TOO_SHORT);
+    expect("weights by kind", pbc_max_axis_weights_by_kind(header, LENGTH(header), nodes, LENGTH(nodes), NONE, LENT(scratch), NONE, 100, LENT(answer)),
+           PBC_ACCEPTED);
+    expect("weights by kind", pbc_max_axis_weights_by_kind(NONE, NONE, NONE, NONE, NONE, 100, LENT(answer)), PBC_TOO_SHORT);
     expect("axes", pbc_expand_axes(header, LENGTH(header), nodes, LENGTH(nodes), NONE, NONE, LENT(scratch), NONE, 100, LENT(answer)), PBC_ACCEPTED);
     expect("axes", pbc_expand_axes(header, LENGTH(header), nodes, LENGTH(nodes), NONE, NONE, NONE, NONE, 100, LENT(answer)), PBC_NO_SCRATCH);
     expect("axes", pbc_expand_axes(header, LENGTH(header), NONE, NONE, NONE, NONE, NONE, 100, LENT(answer)), PBC_BAD_STORE);
@@ -457,6 +487,7 @@ int main(int count, char **arguments)
     targets_past_32_bits();
     operations_name_their_gates();
     hand_is_marked();
+    zero_turns_weigh_nothing();
     rows_are_the_axes();
     texts_are_gates();
     gates_for_text_suffice();

@@ -251,6 +251,9 @@ impl Comparison {
             if let Some((a, b)) = self.agree(both.rust.max_axis_weights(limit), both.ours.max_axis_weights(limit), &[]) {
                 assert_eq!((a.non_clifford, a.clifford), (b.non_clifford, b.clifford), "the weights differ");
             }
+            if let Some((a, b)) = self.agree(both.rust.axis_weight_summary(limit), both.ours.max_axis_weights_by_kind(limit), &[]) {
+                assert_eq!((a.pi8.max.max(a.measurements.max), a.clifford.max), (b.non_clifford, b.clifford), "the weights by kind differ");
+            }
             let each = |_| both.rust.axes().into_iter().map(|axis| both.rust.expand(axis, usize::MAX)).collect::<Result<Vec<_>, _>>();
             if let Some((a, b)) = self.agree(both.rust.max_axis_weights(limit).and_then(each), both.ours.axes(limit), &[]) {
                 assert_eq!(a.len(), b.len());

@@ -318,12 +318,19 @@ impl Driver {
                     Ok(a) => format!("ok {} {}", word(a.as_ref()), self.circuit.work(&[r], usize::MAX).unwrap()),
                 }
             }
-            ("report" | "rows", &[_]) if self.malformed() => "err 3 0 0".into(),
+            ("report" | "report2" | "rows", &[_]) if self.malformed() => "err 3 0 0".into(),
             ("report", &[limit]) => match self.circuit.max_axis_weights(limit as usize) {
                 Err(e) => refusal(&e, 0),
                 Ok(m) => {
                     let work = self.circuit.work(&self.circuit.axes(), usize::MAX).unwrap();
                     format!("ok {} {} {work}", m.non_clifford, m.clifford)
+                }
+            },
+            ("report2", &[limit]) => match self.circuit.axis_weight_summary(limit as usize) {
+                Err(e) => refusal(&e, 0),
+                Ok(m) => {
+                    let work = self.circuit.work(&self.circuit.axes(), usize::MAX).unwrap();
+                    format!("ok {} {} {work}", m.pi8.max.max(m.measurements.max), m.clifford.max)
                 }
             },
             ("rows", &[limit]) => self.circuit.max_axis_weights(limit as usize).map_or_else(|e| refusal(&e, 0), |_| self.rows()),

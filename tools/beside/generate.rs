@@ -122,6 +122,7 @@ impl<W: Write> Writer<W> {
     fn read_axes(&mut self) {
         let axes = self.driver.circuit.axes();
         self.walk(&axes, 0, |limit| format!("report {limit}"));
+        self.walk(&axes, 0, |limit| format!("report2 {limit}"));
         let need = self.driver.circuit.work(&axes, usize::MAX).unwrap();
         self.at_limit(need, |limit| format!("rows {limit}"));
     }

@@ -291,9 +291,23 @@ class PbcCircuit:
         >>> to_pbc(2, 0, [("cnot", 0, 1), ("t", 1)]).max_axis_weights(100)
         MaxAxisWeights(non_clifford=2, clifford=0, work=7)
         """
+        return self._weights("pbc_max_axis_weights", limit)
+
+    def max_axis_weights_by_kind(self, limit: int) -> MaxAxisWeights:
+        """The same by the kinds of the axes: rotations of angle 0, conditional ones too, are in neither maximum. The work is that of
+        max_axis_weights.
+
+        >>> circuit = PbcCircuit(1, 0)
+        >>> circuit.rotate(circuit.single(0, 1), 0)
+        >>> circuit.max_axis_weights(100).clifford, circuit.max_axis_weights_by_kind(100).clifford
+        (1, 0)
+        """
+        return self._weights("pbc_max_axis_weights_by_kind", limit)
+
+    def _weights(self, name: str, limit: int) -> MaxAxisWeights:
         limit = number("limit", limit, U64)
         values = self._walk(lambda header, nodes, operations, scratch, pool, answer: call(
-            "pbc_max_axis_weights", header, nodes, operations, scratch, pool, limit, answer))
+            name, header, nodes, operations, scratch, pool, limit, answer))
         return MaxAxisWeights(*values[:3])
 
     def axes(self, limit: int) -> list[ExpandedPauli]:

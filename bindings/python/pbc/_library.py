@@ -17,6 +17,7 @@ _SIGNATURES = {
     "pbc_expand": "wubuuQIQw",
     "pbc_hermitian_axis": "wuuuQIQw",
     "pbc_max_axis_weights": "wuuuuQw",
+    "pbc_max_axis_weights_by_kind": "wuuuuQw",
     "pbc_expand_axes": "wuubuuQw",
     "pbc_read_qasm": "buw",
     "pbc_text_position": "bQw",

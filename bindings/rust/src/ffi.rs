@@ -63,6 +63,9 @@ library! {
     fn pbc_max_axis_weights(
         header: &[u64], nodes: &[u32], operations: &[u32], scratch: &mut [u32], pool: &mut [u32], limit: u64
     );
+    fn pbc_max_axis_weights_by_kind(
+        header: &[u64], nodes: &[u32], operations: &[u32], scratch: &mut [u32], pool: &mut [u32], limit: u64
+    );
     fn pbc_expand_axes(
         header: &[u64], nodes: &[u32], operations: &[u32], rows: &mut [u8], scratch: &mut [u32], pool: &mut [u32], limit: u64
     );

@@ -42,7 +42,7 @@ impl fmt::Display for ExpandedPauli {
     }
 }
 
-/// Result of [`PbcCircuit::max_axis_weights`].
+/// Result of [`PbcCircuit::max_axis_weights`] and [`PbcCircuit::max_axis_weights_by_kind`].
 #[derive(Clone, Copy, Debug, Default, PartialEq, Eq)]
 pub struct MaxAxisWeights {
     /// Over non-Clifford rotations and measurements.
@@ -119,6 +119,29 @@ impl PbcCircuit {
     pub fn max_axis_weights(&self, max_work: usize) -> Result<MaxAxisWeights, PbcError> {
         let answer = self.walk(0, |scratch, pool| {
             ffi::pbc_max_axis_weights(&self.header, &self.nodes, &self.operations, scratch, pool, max_work as u64)
+        })?;
+        Ok(MaxAxisWeights { non_clifford: answer[0] as usize, clifford: answer[1] as usize })
+    }
+
+    /// The same by the kinds of the axes: rotations of angle 0, conditional ones too, are in neither maximum. The work is that of
+    /// [`max_axis_weights`](Self::max_axis_weights).
+    ///
+    /// ```
+    /// use pbc::{Pauli, PauliAngle, PbcCircuit};
+    /// let mut circuit = PbcCircuit::new(1, 0)?;
+    /// let x = circuit.single(0, Pauli::X)?;
+    /// circuit.rotate(x, PauliAngle::new(0))?;
+    /// assert_eq!(circuit.max_axis_weights(100)?.clifford, 1);
+    /// assert_eq!(circuit.max_axis_weights_by_kind(100)?.clifford, 0);
+    /// # Ok::<(), pbc::PbcError>(())
+    /// ```
+    ///
+    /// # Errors
+    ///
+    /// `ExpansionLimit`, `NoPool`.
+    pub fn max_axis_weights_by_kind(&self, max_work: usize) -> Result<MaxAxisWeights, PbcError> {
+        let answer = self.walk(0, |scratch, pool| {
+            ffi::pbc_max_axis_weights_by_kind(&self.header, &self.nodes, &self.operations, scratch, pool, max_work as u64)
         })?;
         Ok(MaxAxisWeights { non_clifford: answer[0] as usize, clifford: answer[1] as usize })
     }

@@ -49,6 +49,24 @@ fn weights_are_by_kind() {
     circuit.measure(z, None).unwrap();
     assert_eq!(circuit.max_axis_weights(100).unwrap(), MaxAxisWeights { non_clifford: 1, clifford: 2 });
     assert_eq!(circuit.max_axis_weights(3).unwrap_err(), PbcError::ExpansionLimit);
+    assert_eq!(circuit.max_axis_weights_by_kind(100).unwrap(), MaxAxisWeights { non_clifford: 1, clifford: 2 });
+}
+
+#[test]
+fn zero_turns_are_no_clifford_work() {
+    let mut circuit = PbcCircuit::new(3, 0).unwrap();
+    let (x, z) = (circuit.single(0, Pauli::X).unwrap(), circuit.single(2, Pauli::Z).unwrap());
+    let both = circuit.product(x.as_ref(), z.as_ref()).unwrap();
+    let both = circuit.hermitian_axis(both, 100).unwrap();
+    let measured = circuit.measure(z, None).unwrap();
+    circuit.rotate(both, PauliAngle::new(0)).unwrap();
+    circuit.conditional_rotate(both, PauliAngle::new(8), measured).unwrap();
+    circuit.rotate(x, PauliAngle::new(6)).unwrap();
+    assert_eq!(circuit.max_axis_weights(100).unwrap(), MaxAxisWeights { non_clifford: 1, clifford: 2 });
+    assert_eq!(circuit.max_axis_weights_by_kind(100).unwrap(), MaxAxisWeights { non_clifford: 1, clifford: 1 });
+    for limit in 0..100 {
+        assert_eq!(circuit.max_axis_weights(limit).err(), circuit.max_axis_weights_by_kind(limit).err());
+    }
 }
 
 #[test]

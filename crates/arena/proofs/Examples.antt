@@ -1,6 +1,6 @@
 -- The walk and its readers, computed: circuits C, D, F, I and L of document 01, and where each refusal falls.
 use mathlib.Core.Path.{_≡_, refl}
-use mathlib.Core.Bool.{false}
+use mathlib.Core.Bool.{true, false}
 use mathlib.Core.List.{List, [], _∷_, _++_}
 use Prim.Native.Nat.{ℕ}
 use lib.ListN.{replicate}
@@ -10,7 +10,7 @@ use Rattle.arena.specs.Errors.{BadStore, NoScratch, ExpansionLimit, NoPo
 use Rattle.arena.specs.Nodes.{decode, nodeAt, values, image}
 use Rattle.arena.specs.Sparse.{factor, dense}
 use Rattle.arena.specs.Walk.{Out, fine, refused, bind, Answer, walk}
-use Rattle.arena.specs.Operations.{sourceOf, decodeOp}
+use Rattle.arena.specs.Operations.{Pi8, sourceOf, decodeOp, axisKind}
 use Rattle.arena.specs.Store.{Header, breaksLimit, exceedsNodes, exceedsOperations, foreign, unknown}
 use Rattle.arena.specs.Readers.{Weighed, Report, expandWalk, hermitianWalk, reportWalk, axesWalk}
 use Rattle.arena.specs.Expansion.{WalkStep, opAt, reportCheck, reportStep, AxesStep, axesCheck, axesStep, expandedAxesOf, AxesMade}
@@ -94,15 +94,15 @@ unfolding walk nodeAt decode power f-words f-roots
 f-needs-room = refl
 
 f-axis : ℕ → Weighed
-f-axis w = record { word = w; clifford = false }
+f-axis w = record { word = w; kind = Pi8 }
 
-f-report : reportWalk 34 6 3 11 f-words (f-axis 8 ∷ f-axis 16 ∷ f-axis 20 ∷ f-axis 28 ∷ f-axis 32 ∷ f-axis 36 ∷ f-axis 40 ∷ [])
+f-report : reportWalk true 34 6 3 11 f-words (f-axis 8 ∷ f-axis 16 ∷ f-axis 20 ∷ f-axis 28 ∷ f-axis 32 ∷ f-axis 36 ∷ f-axis 40 ∷ [])
     ≡ fine (record { weights = record { nonClifford = 3; clifford = 0 }; work = 34 })
 unfolding reportWalk walk nodeAt decode power f-words f-axis
 f-report = refl
 
 -- no operations
-no-report : reportWalk 0 0 3 11 f-words [] ≡ fine (record { weights = record { nonClifford = 0; clifford = 0 }; work = 0 })
+no-report : reportWalk true 0 0 3 11 f-words [] ≡ fine (record { weights = record { nonClifford = 0; clifford = 0 }; work = 0 })
 unfolding reportWalk walk nodeAt decode power f-words
 no-report = refl
 
@@ -164,16 +164,16 @@ f-reported limit pool = reportStep f-header f-words f-operations (replicate 45 7
 
 f-report-step : f-reported 34 21
     ≡ record { answer = fine (record { weights = record { nonClifford = 3; clifford = 0 }; work = 34 }); scratch = replicate 44 0 ++ 7 ∷ []; pool = replicate 21 0 }
-unfolding f-reported reportStep reportCheck breaksLimit exceedsNodes exceedsOperations foreign unknown opAt decodeOp sourceOf reportWalk walk nodeAt decode power f-header f-operations f-words _⟫_⇒_
+unfolding f-reported reportStep reportCheck breaksLimit exceedsNodes exceedsOperations foreign unknown opAt decodeOp sourceOf axisKind reportWalk walk nodeAt decode power f-header f-operations f-words _⟫_⇒_
 f-report-step = refl
 
 -- one less of either: refused, and both are zero all the same
 f-report-limit : f-reported 33 21 ≡ record { answer = refused ExpansionLimit; scratch = replicate 44 0 ++ 7 ∷ []; pool = replicate 21 0 }
-unfolding f-reported reportStep reportCheck breaksLimit exceedsNodes exceedsOperations foreign unknown opAt decodeOp sourceOf reportWalk walk nodeAt decode power f-header f-operations f-words _⟫_⇒_
+unfolding f-reported reportStep reportCheck breaksLimit exceedsNodes exceedsOperations foreign unknown opAt decodeOp sourceOf axisKind reportWalk walk nodeAt decode power f-header f-operations f-words _⟫_⇒_
 f-report-limit = refl
 
 f-report-pool : f-reported 34 20 ≡ record { answer = refused NoPool; scratch = replicate 44 0 ++ 7 ∷ []; pool = replicate 18 0 ++ 7 ∷ 7 ∷ [] }
-unfolding f-reported reportStep reportCheck breaksLimit exceedsNodes exceedsOperations foreign unknown opAt decodeOp sourceOf reportWalk walk nodeAt decode power f-header f-operations f-words _⟫_⇒_
+unfolding f-reported reportStep reportCheck breaksLimit exceedsNodes exceedsOperations foreign unknown opAt decodeOp sourceOf axisKind reportWalk walk nodeAt decode power f-header f-operations f-words _⟫_⇒_
 f-report-pool = refl
 
 -- ---- the axes of F as rows: Z₀, Z₁, X₂, Z₀ Z₁, Z₀ X₂, Z₁ X₂, Z₀ Z₁ X₂, in 28 bytes

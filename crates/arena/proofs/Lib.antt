@@ -16,6 +16,7 @@ pub mod steps
 pub mod StoredWords
 pub mod FormedNodes
 pub mod SoundOperations
+pub mod WeightReports
 pub mod Examples
 pub mod Pins
 pub mod Theorems

@@ -9,13 +9,13 @@ use Rattle.arena.specs.Limits.{capOf}
 use Rattle.arena.specs.Errors.{TooManyQubits, BadStore, ForeignPauli, ClassicalBitOutOfRange, UnknownMeasurement, NoFrame, NoNodes, NoScratch, ExpansionLimit, NoPool, Checked, Fine, Wrong, _⟫_⇒_}
 use Rattle.arena.specs.References.{PauliRef, axisOf}
 use Rattle.arena.specs.Nodes.{decode, nodeAt, values, image}
-use Rattle.arena.specs.Operations.{decodeOp, Measure, ConditionalRotate, Malformed, OfGate, ByHand, NoSource, sourceOf, Bit, measId, angleKind, NoKind, Pi8, Clifford}
+use Rattle.arena.specs.Operations.{decodeOp, Measure, ConditionalRotate, Malformed, OfGate, ByHand, NoSource, sourceOf, Bit, measId, angleKind, axisKind, NoKind, Pi8, Clifford}
 use Rattle.arena.specs.Store.{Header, breaksLimit, exceedsNodes, exceedsOperations, foreign, unknown, noNodeRoom, noOperationRoom}
 use Rattle.arena.specs.Builder.{Step, NodesAndFrame, Created, CreatedMade, CreatedRefused, stepOf, newCheck, newStep, productCheck, measureCheck, measureStep, conditionalCheck, conditionalStep}
 use Rattle.arena.specs.Walk.{fine, refused, bind, walk}
 use Rattle.arena.specs.Charges.{visits, charges, weightAt, workOf}
 use Rattle.arena.specs.Readers.{reportWalk}
-use Rattle.arena.specs.Expansion.{opAt, expandCheck, reportCheck, reportStep}
+use Rattle.arena.specs.Expansion.{opAt, expandCheck, reportCheck, reportStep, kindReportStep}
 
 -- ---- a new circuit: 1, 13, 14, and what is written
 
@@ -185,8 +185,25 @@ known-measurement = refl
 
 measured-report : reportStep header nodes (1 ∷ 8 ∷ 0 ∷ 0 ∷ 0 ∷ []) (replicate 12 7) (replicate 6 7) 3 .answer
     ≡ fine (record { weights = record { nonClifford = 1; clifford = 0 }; work = 3 })
-unfolding reportStep reportCheck breaksLimit exceedsNodes exceedsOperations foreign unknown opAt decodeOp sourceOf reportWalk walk nodeAt decode power _⟫_⇒_ header nodes
+unfolding reportStep reportCheck breaksLimit exceedsNodes exceedsOperations foreign unknown opAt decodeOp sourceOf axisKind reportWalk walk nodeAt decode power _⟫_⇒_ header nodes
 measured-report = refl
+
+-- turns by 0, by 2, by 0 on a condition, by 1: those by 0 are Clifford in the first report, and in neither maximum of the second; the work is the same
+turned : List ℕ
+turned = 0 ∷ 8 ∷ 0 ∷ 0 ∷ 0 ∷ 2 ∷ 4 ∷ 0 ∷ 0 ∷ 0 ∷ 4 ∷ 0 ∷ 0 ∷ 0 ∷ 0 ∷ []
+
+turned-header : Header
+turned-header = record { qubits = 1; cbits = 0; owner = 5; nodes = 3; operations = 3; measurements = 1 }
+
+first-report : reportStep turned-header nodes turned (replicate 12 7) (replicate 9 7) 9 .answer
+    ≡ fine (record { weights = record { nonClifford = 0; clifford = 1 }; work = 8 })
+unfolding reportStep reportCheck breaksLimit exceedsNodes exceedsOperations foreign unknown opAt decodeOp sourceOf axisKind reportWalk walk nodeAt decode power _⟫_⇒_ turned-header turned nodes
+first-report = refl
+
+kind-report : kindReportStep turned-header nodes turned (replicate 12 7) (replicate 9 7) 9 .answer
+    ≡ fine (record { weights = record { nonClifford = 0; clifford = 0 }; work = 8 })
+unfolding kindReportStep reportCheck breaksLimit exceedsNodes exceedsOperations foreign unknown opAt decodeOp sourceOf axisKind reportWalk walk nodeAt decode power _⟫_⇒_ turned-header turned nodes
+kind-report = refl
 
 -- ---- where an operation came from: an index below 65,536 or the mark, else 3; what is added by hand has the mark
 

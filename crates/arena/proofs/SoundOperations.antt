@@ -2,19 +2,21 @@
 use mathlib.Core.Path.{_≡_, refl, ap, ap₂, sym, _∙_}
 use mathlib.Core.Bool.{Bool, true, false, cond, _||_, _&&_, not, true≢false}
 use mathlib.Core.List.{List}
-use Prim.Native.Nat.{ℕ, zero, suc, _+_, _*_, _/_, _%_, _≤_}
+use Prim.Native.Nat.{ℕ, zero, suc, _+_, _*_, _/_, _%_, _≤_, _<_}
 use native.Mathlib.Omega.{arith}
-use borrow.Author.Tests.{eq-eqb, ne-eqb, ltb-false}
+use borrow.Author.Tests.{eq-eqb, ne-eqb, eqb-true, eqb-false, ltb-true, ltb-false}
 use lib.Dec.{leb, ltb, eqb}
 use lib.ListN.{getD}
 use Rattle.arena.specs.Limits.{maxGates, handMark}
 use Rattle.arena.specs.References.{nodeIn}
-use Rattle.arena.specs.Operations.{PbcOp, Malformed, OfGate, ByHand, NoSource, decodeOpAs, decodeOp, sourceOf}
+use Rattle.arena.specs.Operations.{PbcOp, Malformed, OfGate, ByHand, NoSource, NoKind, Pi8, Clifford, decodeOpAs, decodeOp, sourceOf, angleKind, axisKind}
+use Rattle.arena.specs.Readers.{countsNonClifford, countsClifford}
 use Rattle.arena.specs.Store.{Header, foreign, unknown, exceedsOperations}
-use Rattle.arena.specs.Expansion.{opAt, isBadOp, isNoSource, weighedOf}
+use Rattle.arena.specs.Expansion.{opAt, isBadOp, isNoSource, axisWord}
 use Rattle.arena.specs.Code.Roots.{weighedAt}
 use Rattle.arena.specs.Code.Stored.{isRotation, isMeasurement, isConditional, isSource}
 use Rattle.arena.proofs.FormedNodes.{or-false}
+use Rattle.arena.proofs.NodeRows.{both-true}
 
 source-word : (g : ℕ) → isNoSource (sourceOf g) ≡ not (isSource g)
 unfolding sourceOf
@@ -76,29 +78,68 @@ operations-lent h len e = ltb-false len (5 * h .operations) e
 
 -- ---- what is read of an operation that is not bad
 
-formed-word : (h : Header) (t : Bool) (op : PbcOp) (w : ℕ) → w ≡ weighedOf op .word → isBadOp h (cond t op Malformed) ≡ false → w ≡ weighedOf (cond t op Malformed) .word
-formed-word h true op w e s = e
-formed-word h false op w e s = absurd (true≢false s)
+-- what holds of a formed operation holds of one that is not bad
+formed : {A : Type 0} (f : PbcOp → A) (h : Header) (t : Bool) (op : PbcOp) {v : A} → (t ≡ true → v ≡ f op) → isBadOp h (cond t op Malformed) ≡ false → v ≡ f (cond t op Malformed)
+formed f h true op e s = e refl
+formed f h false op e s = absurd (true≢false s)
 
-formed-clifford : (h : Header) (t : Bool) (op : PbcOp) (b : Bool) → b ≡ weighedOf op .clifford → isBadOp h (cond t op Malformed) ≡ false → b ≡ weighedOf (cond t op Malformed) .clifford
-formed-clifford h true op b e s = e
-formed-clifford h false op b e s = absurd (true≢false s)
+-- how an angle counts in a report
+module _ (a : ℕ) (low : a < 8) where
+  kind-is : angleKind (a % 8 % 8) ≡ cond (eqb a 0) NoKind (cond (eqb (a % 2) 1) Pi8 Clifford)
+  kind-is = let e : a % 8 % 8 ≡ a = omega arith in ap angleKind e
 
-even-angle : (a : ℕ) → eqb (a % 2) 0 ≡ eqb (a % 8 % 8 % 2) 0
-even-angle a = let e : a % 2 ≡ a % 8 % 8 % 2 = omega arith in ap (λ (k : ℕ). eqb k 0) e
+  odd-counts : eqb (a % 2) 1 ≡ countsNonClifford (angleKind (a % 8 % 8))
+  odd-counts = go (eqb a 0) (eqb (a % 2) 1) refl refl ∙ ap countsNonClifford (sym kind-is)
+    where
+      go : (b c : Bool) → eqb a 0 ≡ b → eqb (a % 2) 1 ≡ c → c ≡ countsNonClifford (cond b NoKind (cond c Pi8 Clifford))
+      go true true p q = let e : a ≡ 0 = eqb-true a 0 p in let f : a % 2 ≡ 1 = eqb-true (a % 2) 1 q in absurd (omega arith)
+      go true false p q = refl
+      go false true p q = refl
+      go false false p q = refl
+
+  even-counts : (zeros : Bool) → (eqb (a % 2) 0 && (zeros || not (eqb a 0))) ≡ countsClifford zeros (angleKind (a % 8 % 8))
+  even-counts zeros = go (eqb a 0) (eqb (a % 2) 0) (eqb (a % 2) 1) zeros refl refl refl ∙ ap (countsClifford zeros) (sym kind-is)
+    where
+      go : (b c d zeros : Bool) → eqb a 0 ≡ b → eqb (a % 2) 0 ≡ c → eqb (a % 2) 1 ≡ d → (c && (zeros || not b)) ≡ countsClifford zeros (cond b NoKind (cond d Pi8 Clifford))
+      go true true d zeros p q r = sym (or-false zeros)
+      go true false d zeros p q r = let e : a ≡ 0 = eqb-true a 0 p in let f : a % 2 ≡ 0 → ⊥ = eqb-false (a % 2) 0 q in absurd (f (omega arith))
+      go false true true zeros p q r = let e : a % 2 ≡ 0 = eqb-true (a % 2) 0 q in let f : a % 2 ≡ 1 = eqb-true (a % 2) 1 r in absurd (omega arith)
+      go false true false true p q r = refl
+      go false true false false p q r = refl
+      go false false true zeros p q r = refl
+      go false false false zeros p q r =
+          let e : a % 2 ≡ 0 → ⊥ = eqb-false (a % 2) 0 q in
+          let f : a % 2 ≡ 1 → ⊥ = eqb-false (a % 2) 1 r in
+          absurd (e (omega (arith, f)))
 
 module _ (h : Header) (owner cbits a w m t : ℕ) where
-  word-as : (k : ℕ) → isBadOp h (decodeOpAs k owner cbits a w m t) ≡ false → w ≡ weighedOf (decodeOpAs k owner cbits a w m t) .word
-  word-as zero s = formed-word h (ltb a 8 && eqb m 0 && eqb t 0) _ w refl s
-  word-as (suc zero) s = formed-word h (eqb a 0 && leb t cbits) _ w refl s
-  word-as (suc (suc zero)) s = formed-word h (ltb a 8 && eqb t 0) _ w refl s
+  -- the angle of a formed rotation
+  low : (b : Bool) → (ltb a 8 && b) ≡ true → a < 8
+  low b e = ltb-true a 8 (both-true (ltb a 8) b e .0)
+
+  turn-low : (ltb a 8 && eqb m 0 && eqb t 0) ≡ true → a < 8
+  turn-low e = low (eqb m 0) (both-true (ltb a 8 && eqb m 0) (eqb t 0) e .0)
+
+  word-as : (k : ℕ) → isBadOp h (decodeOpAs k owner cbits a w m t) ≡ false → w ≡ axisWord (decodeOpAs k owner cbits a w m t)
+  word-as zero s = formed axisWord h (ltb a 8 && eqb m 0 && eqb t 0) _ (λ e. refl) s
+  word-as (suc zero) s = formed axisWord h (eqb a 0 && leb t cbits) _ (λ e. refl) s
+  word-as (suc (suc zero)) s = formed axisWord h (ltb a 8 && eqb t 0) _ (λ e. refl) s
   word-as (suc (suc (suc k))) s = absurd (true≢false s)
 
-  clifford-as : (k : ℕ) → isBadOp h (decodeOpAs k owner cbits a w m t) ≡ false → (not (eqb k 1) && eqb (a % 2) 0) ≡ weighedOf (decodeOpAs k owner cbits a w m t) .clifford
-  clifford-as zero s = formed-clifford h (ltb a 8 && eqb m 0 && eqb t 0) _ _ (even-angle a) s
-  clifford-as (suc zero) s = formed-clifford h (eqb a 0 && leb t cbits) _ _ refl s
-  clifford-as (suc (suc zero)) s = formed-clifford h (ltb a 8 && eqb t 0) _ _ (even-angle a) s
-  clifford-as (suc (suc (suc k))) s = absurd (true≢false s)
+  other-as : (k : ℕ) → isBadOp h (decodeOpAs k owner cbits a w m t) ≡ false → (eqb k 1 || eqb (a % 2) 1) ≡ countsNonClifford (axisKind (decodeOpAs k owner cbits a w m t))
+  unfolding axisKind
+  other-as zero s = formed (λ op. countsNonClifford (axisKind op)) h (ltb a 8 && eqb m 0 && eqb t 0) _ (λ e. odd-counts a (turn-low e)) s
+  other-as (suc zero) s = formed (λ op. countsNonClifford (axisKind op)) h (eqb a 0 && leb t cbits) _ (λ e. refl) s
+  other-as (suc (suc zero)) s = formed (λ op. countsNonClifford (axisKind op)) h (ltb a 8 && eqb t 0) _ (λ e. odd-counts a (low (eqb t 0) e)) s
+  other-as (suc (suc (suc k))) s = absurd (true≢false s)
+
+  clifford-as : (zeros : Bool) (k : ℕ) → isBadOp h (decodeOpAs k owner cbits a w m t) ≡ false
+      → (not (eqb k 1) && eqb (a % 2) 0 && (zeros || not (eqb a 0))) ≡ countsClifford zeros (axisKind (decodeOpAs k owner cbits a w m t))
+  unfolding axisKind
+  clifford-as zeros zero s = formed (λ op. countsClifford zeros (axisKind op)) h (ltb a 8 && eqb m 0 && eqb t 0) _ (λ e. even-counts a (turn-low e) zeros) s
+  clifford-as zeros (suc zero) s = formed (λ op. countsClifford zeros (axisKind op)) h (eqb a 0 && leb t cbits) _ (λ e. refl) s
+  clifford-as zeros (suc (suc zero)) s = formed (λ op. countsClifford zeros (axisKind op)) h (ltb a 8 && eqb t 0) _ (λ e. even-counts a (low (eqb t 0) e) zeros) s
+  clifford-as zeros (suc (suc (suc k))) s = absurd (true≢false s)
 
 module _ (h : Header) (ops : List ℕ) (i : ℕ) (sound : isBadOp h (opAt h ops i) ≡ false) where
   pub word-read : getD ops (5 * i + 1) 0 ≡ weighedAt h ops i .word
@@ -106,7 +147,13 @@ module _ (h : Header) (ops : List ℕ) (i : ℕ) (sound : isBadOp h (opAt h ops 
   word-read =
       word-as h (h .owner) (h .cbits) (getD ops (5 * i) 0 / 4) (getD ops (5 * i + 1) 0) (getD ops (5 * i + 2) 0) (getD ops (5 * i + 3) 0) (getD ops (5 * i) 0 % 4) sound
 
-  pub clifford-read : (not (eqb (getD ops (5 * i) 0 % 4) 1) && eqb (getD ops (5 * i) 0 / 4 % 2) 0) ≡ weighedAt h ops i .clifford
+  pub other-read : (eqb (getD ops (5 * i) 0 % 4) 1 || eqb (getD ops (5 * i) 0 / 4 % 2) 1) ≡ countsNonClifford (weighedAt h ops i .kind)
   unfolding opAt decodeOp
-  clifford-read =
-      clifford-as h (h .owner) (h .cbits) (getD ops (5 * i) 0 / 4) (getD ops (5 * i + 1) 0) (getD ops (5 * i + 2) 0) (getD ops (5 * i + 3) 0) (getD ops (5 * i) 0 % 4) sound
+  other-read =
+      other-as h (h .owner) (h .cbits) (getD ops (5 * i) 0 / 4) (getD ops (5 * i + 1) 0) (getD ops (5 * i + 2) 0) (getD ops (5 * i + 3) 0) (getD ops (5 * i) 0 % 4) sound
+
+  pub clifford-read : (zeros : Bool)
+      → (not (eqb (getD ops (5 * i) 0 % 4) 1) && eqb (getD ops (5 * i) 0 / 4 % 2) 0 && (zeros || not (eqb (getD ops (5 * i) 0 / 4) 0))) ≡ countsClifford zeros (weighedAt h ops i .kind)
+  unfolding opAt decodeOp
+  clifford-read zeros =
+      clifford-as h (h .owner) (h .cbits) (getD ops (5 * i) 0 / 4) (getD ops (5 * i + 1) 0) (getD ops (5 * i + 2) 0) (getD ops (5 * i + 3) 0) zeros (getD ops (5 * i) 0 % 4) sound

@@ -1,7 +1,7 @@
 -- What is proved of the arena, in the words of specs/ alone.
 use mathlib.Core.Path.{_≡_, sym}
 use mathlib.Core.Logic.{_≢_, _⊎_}
-use mathlib.Core.Bool.{true, false, cond, _||_}
+use mathlib.Core.Bool.{Bool, true, false, cond, _||_}
 use mathlib.Core.List.{List, [], _∷_, _++_, map}
 use Prim.Native.Nat.{ℕ, _+_, _-_, _*_, _≤_, _<_}
 use lib.ListN.{length, take, drop}
@@ -14,15 +14,16 @@ use Rattle.arena.specs.Limits.{capOf, handMark}
 use Rattle.arena.specs.Errors.{PbcError, BadStore, NonHermitianAxis, Fine, Wrong, ExpansionLimit, NoPool}
 use Rattle.arena.specs.References.{PauliRef, PauliAxis, axisOf, nodeIn, scaledWord}
 use Rattle.arena.specs.Nodes.{nodeAt, image, Identity}
-use Rattle.arena.specs.Operations.{MeasId, measId, Target, Rotate, Measure, ConditionalRotate}
+use Rattle.arena.specs.Operations.{MeasId, measId, Target, Rotate, Measure, ConditionalRotate, NoKind, axisKind}
 use Rattle.arena.specs.Store.{Header}
 use Rattle.arena.specs.Builder.{CreatedMade, SingledMade, MultipliedMade, PushedMade, MeasuredMade, newStep, singleStep, productStep, rotateStep, measureStep, conditionalStep}
 use Rattle.arena.specs.Sparse.{size, dense, Sparse}
 use Rattle.arena.specs.Walk.{Named, fine, refused, bind, State, Walked, charge, walkNodes, Answer, walk, Taken, rootUses, scan, takeUse}
 use Rattle.arena.specs.Charges.{workOf}
 use Rattle.arena.specs.Reachability.{Reachable}
-use Rattle.arena.specs.Readers.{Expanded, expandWalk, hermitianWalk, Weighed, largest, wordsOf, Report, reportWalk, Axes}
-use Rattle.arena.specs.Expansion.{ExpansionMade, HermitianMade, WeightsMade, AxesMade, expansionOf, hermitianOf, maxWeightsOf, expandedAxesOf, opAt, gateWord, badNodes, badOperations, expandStep, hermitianStep, weighedOf, axesTo, reportStep, rowBytes, axesBytes, axesSize, axesStep}
+use Rattle.arena.specs.Readers.{Expanded, expandWalk, hermitianWalk, Weighed, countsNonClifford, countsClifford, largest, wordsOf, Report, reportWalk, Axes}
+use Rattle.arena.specs.Expansion.{ExpansionMade, HermitianMade, WeightsMade, AxesMade, expansionOf, hermitianOf, maxWeightsOf, expandedAxesOf, opAt, gateWord, badNodes, badOperations, expandStep, hermitianStep, weighedOf, axesTo, reportStep, kindReportStep, rowBytes, axesBytes, axesSize, axesStep}
+use Rattle.arena.specs.Reports.{Largest}
 use Rattle.arena.specs.Stats.{Within, Refused, workAfter, chargeAnswer}
 use Rattle.arena.specs.Calls.{Call, Slices, checked, after, KeptSlices}
 use Rattle.arena.specs.Pool.{Lendable, Who}
@@ -42,6 +43,7 @@ use Rattle.arena.proofs.walk.Readers
 use Rattle.arena.proofs.walk.Axes as AxesLaws
 use Rattle.arena.proofs.walk.Charges
 use Rattle.arena.proofs.chains.Safe
+use Rattle.arena.proofs.WeightReports
 use Rattle.arena.proofs.DecodedNodes
 use Rattle.arena.proofs.walk.Uses
 use Rattle.arena.proofs.walk.Reached
@@ -222,10 +224,10 @@ pub hermitian-means : (limit room n count : ℕ) (words : List ℕ) (w : ℕ) (a
 hermitian-means limit room n count words w a h = Reports.hermitian-means room n count words w h limit a
 
 -- the report is about the weights of the images
-pub report-means : (limit room n count : ℕ) (words : List ℕ) (axes : List Weighed) (a : Answer) → Named count (wordsOf axes)
+pub report-means : (zeros : Bool) (limit room n count : ℕ) (words : List ℕ) (axes : List Weighed) (a : Answer) → Named count (wordsOf axes)
     → walk limit room n count words (wordsOf axes) ≡ fine a
-    → reportWalk limit room n count words axes
-    ≡ fine (record { weights = largest axes (map (λ w. weight (image n count words w .letters)) (wordsOf axes)); work = a .work })
+    → reportWalk zeros limit room n count words axes
+    ≡ fine (record { weights = largest zeros axes (map (λ w. weight (image n count words w .letters)) (wordsOf axes)); work = a .work })
 report-means = Reports.report-means
 
 -- ---- readers, from their contract alone
@@ -248,8 +250,39 @@ hermitian-refuses = Readers.hermitian-unreal
 -- an accepted report has the largest weights among the images of the axes
 pub report-reads : (h : Header) (nodes ops scratch pool : List ℕ) (limit : ℕ) (x : Report) → reportStep h nodes ops scratch pool limit .answer ≡ fine x
     → let axes = axesTo (opAt h ops) (h .operations) in
-    x .weights ≡ largest axes (map (λ w. weight (image (h .qubits) (h .nodes) nodes w .letters)) (wordsOf axes))
-report-reads = Readers.report-reads
+    x .weights ≡ largest true axes (map (λ w. weight (image (h .qubits) (h .nodes) nodes w .letters)) (wordsOf axes))
+unfolding reportStep
+report-reads = Readers.report-reads true
+
+-- and these two numbers are the largest weights of the operations that count; an angle of 0 counts as Clifford
+pub report-largest : (h : Header) (nodes ops scratch pool : List ℕ) (limit : ℕ) (x : Report) → reportStep h nodes ops scratch pool limit .answer ≡ fine x
+    → Largest h nodes ops countsNonClifford (x .weights .nonClifford) × Largest h nodes ops (countsClifford true) (x .weights .clifford)
+unfolding reportStep
+report-largest = WeightReports.report-largest true
+
+-- E3, the report by kind: the same where an angle of 0 does not count
+pub kind-report-reads : (h : Header) (nodes ops scratch pool : List ℕ) (limit : ℕ) (x : Report) → kindReportStep h nodes ops scratch pool limit .answer ≡ fine x
+    → let axes = axesTo (opAt h ops) (h .operations) in
+    x .weights ≡ largest false axes (map (λ w. weight (image (h .qubits) (h .nodes) nodes w .letters)) (wordsOf axes))
+unfolding kindReportStep
+kind-report-reads = Readers.report-reads false
+
+pub kind-report-largest : (h : Header) (nodes ops scratch pool : List ℕ) (limit : ℕ) (x : Report) → kindReportStep h nodes ops scratch pool limit .answer ≡ fine x
+    → Largest h nodes ops countsNonClifford (x .weights .nonClifford) × Largest h nodes ops (countsClifford false) (x .weights .clifford)
+unfolding kindReportStep
+kind-report-largest = WeightReports.report-largest false
+
+-- it answers the first report's work, is refused where that is, with the same refusal, and leaves what that leaves
+pub kind-report-alike : (h : Header) (nodes ops scratch pool : List ℕ) (limit : ℕ)
+    → (bind (kindReportStep h nodes ops scratch pool limit .answer) (λ x. fine (x .work)) ≡ bind (reportStep h nodes ops scratch pool limit .answer) (λ x. fine (x .work)))
+    × (kindReportStep h nodes ops scratch pool limit .scratch ≡ reportStep h nodes ops scratch pool limit .scratch)
+    × (kindReportStep h nodes ops scratch pool limit .pool ≡ reportStep h nodes ops scratch pool limit .pool)
+kind-report-alike = WeightReports.kinds-alike
+
+-- and where no angle is 0 it is the first report
+pub kind-report-agrees : (h : Header) (nodes ops scratch pool : List ℕ) (limit : ℕ) → ((i : ℕ) → i < h .operations → axisKind (opAt h ops i) ≢ NoKind)
+    → kindReportStep h nodes ops scratch pool limit ≡ reportStep h nodes ops scratch pool limit
+kind-report-agrees = WeightReports.kinds-agree
 
 -- an accepted expansion of all axes is their images, in the order of the operations, and these stand in the first of the bytes lent
 pub axes-read : (h : Header) (nodes ops rows scratch pool : List ℕ) (limit : ℕ) (x : Axes) → axesStep h nodes ops rows scratch pool limit .answer ≡ fine x
@@ -282,8 +315,9 @@ hermitian-answers = Readers.hermitian-answers
 
 pub report-answers : (h : Header) (nodes ops scratch pool : List ℕ) (limit a b work : ℕ) → maxWeightsOf (reportStep h nodes ops scratch pool limit .answer) ≡ WeightsMade a b work
     → let axes = axesTo (opAt h ops) (h .operations) in
-    largest axes (map (λ w. weight (image (h .qubits) (h .nodes) nodes w .letters)) (wordsOf axes)) ≡ record { nonClifford = a; clifford = b }
-report-answers = Readers.report-answers
+    largest true axes (map (λ w. weight (image (h .qubits) (h .nodes) nodes w .letters)) (wordsOf axes)) ≡ record { nonClifford = a; clifford = b }
+unfolding reportStep
+report-answers = Readers.report-answers true
 
 pub axes-answers : (h : Header) (nodes ops rows scratch pool : List ℕ) (limit work : ℕ) → expandedAxesOf (axesStep h nodes ops rows scratch pool limit .answer) ≡ AxesMade work
     → axesStep h nodes ops rows scratch pool limit .rows
@@ -301,7 +335,8 @@ hermitian-bad = Readers.hermitian-bad
 
 pub report-bad : (h : Header) (nodes ops scratch pool : List ℕ) (limit : ℕ) → reportStep h nodes ops scratch pool limit .answer ≡ refused BadStore
     → (badNodes h nodes || badOperations h ops) ≡ true
-report-bad = Readers.report-bad
+unfolding reportStep
+report-bad = Readers.report-bad true
 
 pub axes-bad : (h : Header) (nodes ops rows scratch pool : List ℕ) (limit : ℕ) → axesStep h nodes ops rows scratch pool limit .answer ≡ refused BadStore
     → (badNodes h nodes || badOperations h ops) ≡ true
@@ -436,6 +471,6 @@ pub hermitian-work : (limit room n count : ℕ) (words : List ℕ) (w work : ℕ
     → work ≡ workOf n count words (w ∷ [])
 hermitian-work = Totals.hermitian-work
 
-pub report-work : (limit room n count : ℕ) (words : List ℕ) (axes : List Weighed) (x : Report) → Named count (wordsOf axes) → reportWalk limit room n count words axes ≡ fine x
+pub report-work : (zeros : Bool) (limit room n count : ℕ) (words : List ℕ) (axes : List Weighed) (x : Report) → Named count (wordsOf axes) → reportWalk zeros limit room n count words axes ≡ fine x
     → x .work ≡ workOf n count words (wordsOf axes)
 report-work = Totals.report-work

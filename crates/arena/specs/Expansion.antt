@@ -1,17 +1,16 @@
--- What the four readers answer, and what they leave in the letters or rows, the scratch words and the pool: for acceptance and every refusal.
+-- What the readers answer, and what they leave in the letters or rows, the scratch words and the pool: for acceptance and every refusal.
 use mathlib.Core.Bool.{Bool, true, false, _||_}
 use mathlib.Core.List.{List, [], _∷_, _++_, map}
-use Prim.Native.Nat.{ℕ, zero, suc, _+_, _-_, _*_, _%_}
-use lib.Dec.{ltb, eqb}
+use Prim.Native.Nat.{ℕ, zero, suc, _+_, _-_, _*_}
+use lib.Dec.{ltb}
 use lib.ListN.{length, getD, replicate, drop}
 use Rattle.pauli.specs.Letters.{pauliNumber, phaseNumber}
-use Rattle.pauli.specs.Angle.{eighthsOf}
 use Rattle.pauli.specs.Rows.{Row}
 use Rattle.arena.specs.Limits.{operationWords, capOf}
 use Rattle.arena.specs.Errors.{BadStore, ForeignPauli, NoScratch, Checked, Fine, Wrong, _⟫_⇒_}
 use Rattle.arena.specs.References.{PauliRef, axisOf}
 use Rattle.arena.specs.Nodes.{PauliNode, Identity, Single, Product, Malformed, nodeAt}
-use Rattle.arena.specs.Operations.{PbcOp, Rotate, Measure, ConditionalRotate, decodeOp, Malformed as MalformedOp, Source, OfGate, ByHand, NoSource, sourceOf}
+use Rattle.arena.specs.Operations.{PbcOp, Rotate, Measure, ConditionalRotate, decodeOp, axisKind, Malformed as MalformedOp, Source, OfGate, ByHand, NoSource, sourceOf}
 use Rattle.arena.specs.Store.{Header, breaksLimit, exceedsNodes, exceedsOperations, foreign, unknown}
 use Rattle.arena.specs.Walk.{Out, fine, refused}
 use Rattle.arena.specs.Readers.{Expanded, expandWalk, hermitianWalk, Weighed, wordsOf, Report, reportWalk, Axes, axesWalk}
@@ -132,7 +131,7 @@ unfoldable pub expandStep : Header → (nodes letters scratch pool : List ℕ) �
 expandStep h nodes letters scratch pool r cells =
     expandBy (expandCheck h nodes r (length letters) (length scratch)) (expandWalk cells (roomIn pool) (h .qubits) (h .nodes) nodes (r .word)) h letters scratch pool
 
--- ---- hermitian_axis and max_axis_weights: the same without letters
+-- ---- hermitian_axis and the weight reports: the same without letters
 
 pub record WalkStep (A : Type 0) : Type 0 where
   pub answer : Out A
@@ -155,12 +154,14 @@ unfoldable pub hermitianStep : Header → (nodes scratch pool : List ℕ) → Pa
 hermitianStep h nodes scratch pool r limit =
     walkBy (hermitianCheck h nodes r (length scratch)) (hermitianWalk limit (roomIn pool) (h .qubits) (h .nodes) nodes (r .word)) h scratch pool
 
--- even angles, 0 too, count as Clifford, all else does not
+abbrev pub axisWord : PbcOp → ℕ
+axisWord (Rotate x k) = x .0 .word
+axisWord (Measure x m t) = x .0 .word
+axisWord (ConditionalRotate x k m) = x .0 .word
+axisWord MalformedOp = 0
+
 abbrev pub weighedOf : PbcOp → Weighed
-weighedOf (Rotate x k) = record { word = x .0 .word; clifford = eqb (eighthsOf k % 2) 0 }
-weighedOf (Measure x m t) = record { word = x .0 .word; clifford = false }
-weighedOf (ConditionalRotate x k m) = record { word = x .0 .word; clifford = eqb (eighthsOf k % 2) 0 }
-weighedOf MalformedOp = record { word = 0; clifford = true }
+weighedOf op = record { word = axisWord op; kind = axisKind op }
 
 -- the axes of the first k operations, in order
 abbrev pub axesTo : (ℕ → PbcOp) → ℕ → List Weighed
@@ -173,9 +174,17 @@ reportCheck h nodes ops scratch =
     ⟫ badNodes h nodes || badOperations h ops ⇒ BadStore
     ⟫ ltb scratch (4 * h .nodes) ⇒ NoScratch
 
+abbrev pub reportBy : (zeros : Bool) → Header → (nodes operations scratch pool : List ℕ) → (limit : ℕ) → WalkStep Report
+reportBy zeros h nodes ops scratch pool limit =
+    walkBy (reportCheck h nodes ops (length scratch)) (reportWalk zeros limit (roomIn pool) (h .qubits) (h .nodes) nodes (axesTo (opAt h ops) (h .operations))) h scratch pool
+
+-- even angles, 0 too, count as Clifford
 unfoldable pub reportStep : Header → (nodes operations scratch pool : List ℕ) → (limit : ℕ) → WalkStep Report
-reportStep h nodes ops scratch pool limit =
-    walkBy (reportCheck h nodes ops (length scratch)) (reportWalk limit (roomIn pool) (h .qubits) (h .nodes) nodes (axesTo (opAt h ops) (h .operations))) h scratch pool
+reportStep = reportBy true
+
+-- max_axis_weights_by_kind (E3 of document 02): rotations of angle 0, conditional ones too, are in neither maximum
+unfoldable pub kindReportStep : Header → (nodes operations scratch pool : List ℕ) → (limit : ℕ) → WalkStep Report
+kindReportStep = reportBy false
 
 -- ---- expand_axes: 3, 16, then the report's walk; row i is the axis of operation i
 

@@ -1,4 +1,4 @@
--- What expand, hermitian_axis, the weight report and expand_axes make of a walk; the checks before it are not here.
+-- What expand, hermitian_axis, the two weight reports and expand_axes make of a walk; the checks before it are not here.
 use mathlib.Core.Bool.{Bool, true, false, cond}
 use mathlib.Core.List.{List, [], _∷_, map}
 use Prim.Native.Nat.{ℕ, _-_, max}
@@ -6,6 +6,7 @@ use lib.Dec.{leb}
 use Rattle.pauli.specs.Letters.{real}
 use Rattle.pauli.specs.Rows.{Row}
 use Rattle.arena.specs.Errors.{ExpansionLimit, NonHermitianAxis}
+use Rattle.arena.specs.Operations.{AxisKind, NoKind, Pi8, Clifford, Measurement}
 use Rattle.arena.specs.Sparse.{Sparse, empty, size, dense}
 use Rattle.arena.specs.Walk.{Out, fine, refused, bind, walk}
 
@@ -31,26 +32,42 @@ unfoldable pub hermitianWalk : (limit room n count : ℕ) → (words : List ℕ)
 hermitianWalk limit room n count words w =
     bind (walk limit room n count words (w ∷ [])) (λ a. cond (real (firstOf (a .shown) .phase)) (fine (a .work)) (refused NonHermitianAxis))
 
--- ---- the weight report: the axis of each operation is a root
+-- ---- the weight reports: the axis of each operation is a root
 
--- an operation's axis, and whether it counts as Clifford
+-- an operation's axis, and its kind
 pub record Weighed : Type 0 where
   pub word : ℕ
-  pub clifford : Bool
+  pub kind : AxisKind
 
 pub record Weights : Type 0 where
   pub nonClifford : ℕ
   pub clifford : ℕ
 
-abbrev pub weigh : Bool → ℕ → Weights → Weights
-weigh true k m = record { nonClifford = m .nonClifford; clifford = max k (m .clifford) }
-weigh false k m = record { nonClifford = max k (m .nonClifford); clifford = m .clifford }
+abbrev pub countsNonClifford : AxisKind → Bool
+countsNonClifford NoKind = false
+countsNonClifford Pi8 = true
+countsNonClifford Clifford = false
+countsNonClifford Measurement = true
 
--- the largest of each kind, 0 where there is none
-abbrev pub largest : List Weighed → List ℕ → Weights
-largest [] ks = record { nonClifford = 0; clifford = 0 }
-largest (x ∷ xs) [] = record { nonClifford = 0; clifford = 0 }
-largest (x ∷ xs) (k ∷ ks) = weigh (x .clifford) k (largest xs ks)
+-- zeros: whether an angle of 0, which has no kind, counts as Clifford (the first report), or not at all (E3 of document 02)
+abbrev pub countsClifford : (zeros : Bool) → AxisKind → Bool
+countsClifford zeros NoKind = zeros
+countsClifford zeros Pi8 = false
+countsClifford zeros Clifford = true
+countsClifford zeros Measurement = false
+
+-- the larger of the two, where the weight counts
+abbrev pub raised : Bool → (weight most : ℕ) → ℕ
+raised counts weight most = cond counts (max weight most) most
+
+abbrev pub weigh : (zeros : Bool) → AxisKind → ℕ → Weights → Weights
+weigh zeros kind k m = record { nonClifford = raised (countsNonClifford kind) k (m .nonClifford); clifford = raised (countsClifford zeros kind) k (m .clifford) }
+
+-- the largest of those that count, 0 where there is none
+abbrev pub largest : (zeros : Bool) → List Weighed → List ℕ → Weights
+largest zeros [] ks = record { nonClifford = 0; clifford = 0 }
+largest zeros (x ∷ xs) [] = record { nonClifford = 0; clifford = 0 }
+largest zeros (x ∷ xs) (k ∷ ks) = weigh zeros (x .kind) k (largest zeros xs ks)
 
 pub record Report : Type 0 where
   pub weights : Weights
@@ -59,9 +76,9 @@ pub record Report : Type 0 where
 abbrev pub wordsOf : List Weighed → List ℕ
 wordsOf xs = map (λ x. x .word) xs
 
-unfoldable pub reportWalk : (limit room n count : ℕ) → (words : List ℕ) → (axes : List Weighed) → Out Report
-reportWalk limit room n count words axes =
-    bind (walk limit room n count words (wordsOf axes)) (λ a. fine (record { weights = largest axes (map size (a .shown)); work = a .work }))
+unfoldable pub reportWalk : (zeros : Bool) → (limit room n count : ℕ) → (words : List ℕ) → (axes : List Weighed) → Out Report
+reportWalk zeros limit room n count words axes =
+    bind (walk limit room n count words (wordsOf axes)) (λ a. fine (record { weights = largest zeros axes (map size (a .shown)); work = a .work }))
 
 -- ---- expand_axes: the roots as rows, in the same walk
 

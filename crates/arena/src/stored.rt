@@ -14,6 +14,7 @@ ghost use Rattle.arena.specs.Limits.{maxQubits, nodeWords, operationWord
 ghost use Rattle.arena.specs.Nodes.{decode, nodeAt};
 ghost use Rattle.arena.specs.Expansion.{isMalformed, anyMalformed, badNodes, opAt, isBadOp, isNoSource, isBadAt, anyBadOp, badOperations};
 ghost use Rattle.arena.specs.Operations.{decodeOp, sourceOf};
+ghost use Rattle.arena.specs.Readers.{countsNonClifford, countsClifford};
 ghost use Rattle.arena.specs.Code.Stored.{isProduct, isSingle, isIdentity, isRotation, isMeasurement, isConditional, isSource};
 ghost use Rattle.arena.specs.Store.{Header};
 ghost use Rattle.arena.specs.Code.Roots.{weighedAt};
@@ -204,10 +205,20 @@ pub(crate) fn axis_word(operations: &[u32], index: u32) -> usize
     wide(word_at(operations, OPERATION_WORDS * (index as usize) + 1))
 }
 
-// Whether the weight report counts an operation that is not bad as Clifford: no measurement, and an even angle, 0 too.
-pub(crate) fn counts_as_clifford(operations: &[u32], index: u32) -> bool
-    ensures { λ r. ⌜ ((h : Header) → isBadOp h (opAt h (now (operations .entry)) index) ≡ false → r ≡ weighedAt h (now (operations .entry)) index .clifford) ⌝ }
+// Whether an operation that is not bad counts as Clifford in a weight report: no measurement, and an even angle; zeros says whether 0 counts.
+pub(crate) fn counts_as_clifford(operations: &[u32], index: u32, zeros: bool) -> bool
+    ensures { λ r. ⌜ ((h : Header) → isBadOp h (opAt h (now (operations .entry)) index) ≡ false
+        → r ≡ countsClifford zeros (weighedAt h (now (operations .entry)) index .kind)) ⌝ }
 {
     let first = word_at(operations, OPERATION_WORDS * (index as usize));
-    !(first % 4 == 1) & (first / 4 % 2 == 0)
+    !(first % 4 == 1) & (first / 4 % 2 == 0) & (zeros | (first / 4 != 0))
+}
+
+// Whether it counts as not Clifford: a measurement, or an odd angle.
+pub(crate) fn counts_as_non_clifford(operations: &[u32], index: u32) -> bool
+    ensures { λ r. ⌜ ((h : Header) → isBadOp h (opAt h (now (operations .entry)) index) ≡ false
+        → r ≡ countsNonClifford (weighedAt h (now (operations .entry)) index .kind)) ⌝ }
+{
+    let first = word_at(operations, OPERATION_WORDS * (index as usize));
+    (first % 4 == 1) | (first / 4 % 2 == 1)
 }

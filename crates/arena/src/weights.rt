@@ -1,4 +1,4 @@
-//! The weight report: the axes of a circuit's operations are the roots of one walk.
+//! The weight reports: the axes of a circuit's operations are the roots of one walk.
 
 use crate::checks::check_report;
 use crate::error::Checked;
@@ -17,18 +17,18 @@ use crate::scratch::add_use;
 use crate::scratch::zero_all;
 use crate::stored::axis_word;
 use crate::stored::counts_as_clifford;
+use crate::stored::counts_as_non_clifford;
 ghost use mathlib.Core.Path.{_≡_};
-ghost use mathlib.Core.Bool.{false, cond};
-ghost use Prim.Native.Nat.{_-_, _≤_, max};
+ghost use Prim.Native.Nat.{_-_, _≤_};
 ghost use lib.ListN.{length};
 ghost use Rattle.arena.specs.References.{nodeIn};
 ghost use Rattle.arena.specs.Nodes.{nodeAt};
-ghost use Rattle.arena.specs.Readers.{reportWalk};
+ghost use Rattle.arena.specs.Readers.{raised, reportWalk};
 ghost use Rattle.arena.specs.Store.{Header};
-ghost use Rattle.arena.specs.Expansion.{opAt, isBadOp, maxWeightsOf, reportStep};
+ghost use Rattle.arena.specs.Expansion.{maxWeightsOf, reportBy, reportStep, kindReportStep};
 ghost use Rattle.arena.specs.Code.Results.{Says, axisWeightOut};
 ghost use Rattle.arena.specs.Code.WalkWords.{Rooted};
-ghost use Rattle.arena.specs.Code.Roots.{Fit, weighedAt, axesOf, OpsSound, Countable, AxesCounted, weighRoot, RootWeighed, weighRoots, weightsOf, Weighing};
+ghost use Rattle.arena.specs.Code.Roots.{Fit, axesOf, OpsSound, Countable, AxesCounted, weighRoot, RootWeighed, weighRoots, weightsOf, Weighing};
 ghost use Rattle.arena.specs.Limits.{capOf};
 
 // One use for the axis of each operation.
@@ -47,29 +47,12 @@ pub(crate) fn count_axes(header: Header, operations: &[u32], s: &mut [u32])
 
 // The larger of the two, where the weight counts.
 fn raised(counts: bool, weight: usize, most: usize) -> usize
-    ensures { λ r. ⌜ r ≡ cond counts (max weight most) most ⌝ }
+    ensures { λ r. ⌜ r ≡ raised counts weight most ⌝ }
 {
     if counts & (most < weight) {
         weight
     } else {
         most
-    }
-}
-
-// The axis of an operation that is not bad: its word, and whether it counts as Clifford.
-pub struct Axis {
-    pub word: usize,
-    pub clifford: bool,
-}
-
-fn axis_at(operations: &[u32], i: u32) -> Axis
-    ensures { λ r. ⌜ ((h : Header) → isBadOp h (opAt h (now (operations .entry)) i) ≡ false → r .word ≡ weighedAt h (now (operations .entry)) i .word) ⌝ }
-    ensures { λ r. ⌜ ((h : Header) → isBadOp h (opAt h (now (operations .entry)) i) ≡ false → r .clifford ≡ weighedAt h (now (operations .entry)) i .clifford) ⌝ }
-{
-    let word = axis_word(operations, i);
-    Axis {
-        word,
-        clifford: counts_as_clifford(operations, i),
     }
 }
 
@@ -112,11 +95,12 @@ fn weigh_axes(
     s: &mut [u32],
     pool: &mut [u32],
     limit: usize,
+    zeros: bool,
     left0: Ledger,
 ) -> MaxAxisWeights
     requires { ⌜ Weighing header (now nodes) (now operations) (now s) (now pool) limit left0 ⌝ }
     ensures { λ r. ⌜ ((g : Weighing header (now (nodes .entry)) (now (operations .entry)) (now (s .entry)) (now (pool .entry)) limit left0)
-        → r ≡ maxWeightsOf (weighRoots limit (g .room) (nodeAt (header .qubits) (now (nodes .entry))) (header .nodes)
+        → r ≡ maxWeightsOf (weighRoots limit (g .room) (nodeAt (header .qubits) (now (nodes .entry))) (header .nodes) zeros
         (axesOf header (now (operations .entry))) (weightsOf 0 0) (g .s))) ⌝ }
 {
     let total = header.operations;
@@ -125,12 +109,14 @@ fn weigh_axes(
     let mut clifford = 0;
     let mut i = 0;
     while i < total {
-        let x = axis_at(operations, i);
-        match weigh_root(header, nodes, s, pool, limit, x.word, left) {
+        let w = axis_word(operations, i);
+        match weigh_root(header, nodes, s, pool, limit, w, left) {
             AxisWeight::Refused(e) => return MaxAxisWeights::Refused(e),
             AxisWeight::Weighed(k, rest) => {
-                non_clifford = raised(!x.clifford, k, non_clifford);
-                clifford = raised(x.clifford, k, clifford);
+                let other = counts_as_non_clifford(operations, i);
+                non_clifford = raised(other, k, non_clifford);
+                let even = counts_as_clifford(operations, i, zeros);
+                clifford = raised(even, k, clifford);
                 left = rest;
                 i += 1;
             }
@@ -139,7 +125,7 @@ fn weigh_axes(
     MaxAxisWeights::Made(non_clifford, clifford, left.work)
 }
 
-// The walk of the report, with the scratch and the pool left as they are then.
+// The walk of a report, with the scratch and the pool left as they are then.
 fn report_walk(
     header: Header,
     nodes: &[u32],
@@ -147,10 +133,11 @@ fn report_walk(
     s: &mut [u32],
     pool: &mut [u32],
     limit: usize,
+    zeros: bool,
 ) -> MaxAxisWeights
     requires { ⌜ Fit header (now nodes) (now s) × OpsSound header (now operations) × (header .operations ≤ 65536) ⌝ }
     ensures { λ r. ⌜ r ≡ maxWeightsOf
-        (reportWalk limit (capOf (length (now (pool .entry))) - 1) (header .qubits) (header .nodes) (now (nodes .entry)) (axesOf header (now (operations .entry)))) ⌝ }
+        (reportWalk zeros limit (capOf (length (now (pool .entry))) - 1) (header .qubits) (header .nodes) (now (nodes .entry)) (axesOf header (now (operations .entry)))) ⌝ }
 {
     zero_all(s);
     count_axes(header, operations, s);
@@ -158,8 +145,43 @@ fn report_walk(
     let roots = header.operations as usize;
     match begin(nodes, s, pool, count, limit, roots) {
         Evaluated::Refused(e) => MaxAxisWeights::Refused(e),
-        Evaluated::Done(left) => weigh_axes(header, nodes, operations, s, pool, limit, left),
+        Evaluated::Done(left) => {
+            weigh_axes(header, nodes, operations, s, pool, limit, zeros, left)
+        }
     }
+}
+
+// Either report; zeros says whether an angle of 0 counts as Clifford.
+fn report(
+    header: Header,
+    nodes: &[u32],
+    operations: &[u32],
+    scratch: &mut [u32],
+    pool: &mut [u32],
+    limit: usize,
+    zeros: bool,
+) -> MaxAxisWeights
+    ensures { λ r. ⌜ r ≡ maxWeightsOf (reportBy zeros header (now (nodes .entry)) (now (operations .entry)) (now (scratch .entry)) (now (pool .entry)) limit .answer) ⌝ }
+    ensures { λ r. ⌜ now (scratch .exit) ≡ reportBy zeros header (now (nodes .entry)) (now (operations .entry)) (now (scratch .entry)) (now (pool .entry)) limit .scratch ⌝ }
+    ensures { λ r. ⌜ now (pool .exit) ≡ reportBy zeros header (now (nodes .entry)) (now (operations .entry)) (now (scratch .entry)) (now (pool .entry)) limit .pool ⌝ }
+{
+    let checked = check_report(header, nodes, operations, scratch.len());
+    if let Checked::Wrong(error) = checked {
+        return MaxAxisWeights::Refused(error);
+    }
+    let used = 4 * (header.nodes as usize);
+    let counted = 3 * cap_of(pool.len());
+    let answer = report_walk(
+        header,
+        nodes,
+        operations,
+        &mut scratch[..used],
+        &mut pool[..counted],
+        limit,
+        zeros,
+    );
+    wipe(scratch, pool, used);
+    answer
 }
 
 impl Header {
@@ -177,21 +199,23 @@ impl Header {
         ensures { λ r. ⌜ now (scratch .exit) ≡ reportStep self (now (nodes .entry)) (now (operations .entry)) (now (scratch .entry)) (now (pool .entry)) limit .scratch ⌝ }
         ensures { λ r. ⌜ now (pool .exit) ≡ reportStep self (now (nodes .entry)) (now (operations .entry)) (now (scratch .entry)) (now (pool .entry)) limit .pool ⌝ }
     {
-        let checked = check_report(self, nodes, operations, scratch.len());
-        if let Checked::Wrong(error) = checked {
-            return MaxAxisWeights::Refused(error);
-        }
-        let used = 4 * (self.nodes as usize);
-        let counted = 3 * cap_of(pool.len());
-        let answer = report_walk(
-            self,
-            nodes,
-            operations,
-            &mut scratch[..used],
-            &mut pool[..counted],
-            limit,
-        );
-        wipe(scratch, pool, used);
-        answer
+        report(self, nodes, operations, scratch, pool, limit, true)
+    }
+
+    /// The same by the kinds of the axes: rotations of angle 0, conditional ones too, are in neither maximum. Refusals and work are those of
+    /// `max_axis_weights`. Promise: `kindReportStep`.
+    pub fn max_axis_weights_by_kind(
+        self,
+        nodes: &[u32],
+        operations: &[u32],
+        scratch: &mut [u32],
+        pool: &mut [u32],
+        limit: usize,
+    ) -> MaxAxisWeights
+        ensures { λ r. ⌜ r ≡ maxWeightsOf (kindReportStep self (now (nodes .entry)) (now (operations .entry)) (now (scratch .entry)) (now (pool .entry)) limit .answer) ⌝ }
+        ensures { λ r. ⌜ now (scratch .exit) ≡ kindReportStep self (now (nodes .entry)) (now (operations .entry)) (now (scratch .entry)) (now (pool .entry)) limit .scratch ⌝ }
+        ensures { λ r. ⌜ now (pool .exit) ≡ kindReportStep self (now (nodes .entry)) (now (operations .entry)) (now (scratch .entry)) (now (pool .entry)) limit .pool ⌝ }
+    {
+        report(self, nodes, operations, scratch, pool, limit, false)
     }
 }

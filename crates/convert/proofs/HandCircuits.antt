@@ -6,7 +6,7 @@ use Rattle.arena.specs.Errors.{_⟫_⇒_}
 use Rattle.arena.specs.Nodes.{decode, nodeAt, values, image}
 use Rattle.arena.specs.Sparse.{dense}
 use Rattle.arena.specs.Walk.{walk}
-use Rattle.arena.specs.Operations.{decodeOp, sourceOf}
+use Rattle.arena.specs.Operations.{decodeOp, sourceOf, axisKind}
 use Rattle.arena.specs.Store.{breaksLimit, exceedsNodes, exceedsOperations, foreign, unknown, noNodeRoom}
 use Rattle.arena.specs.Builder.{newCheck, newStep, productCheck, productStep}
 use Rattle.arena.specs.Readers.{expandWalk, hermitianWalk, reportWalk}
@@ -19,7 +19,7 @@ use Rattle.convert.specs.Conversion.{gatesIn, plainEnd, wordEnd, recordC
 use Rattle.convert.specs.Circuits.{HandCircuits}
 
 pub hand-circuits : HandCircuits
-unfolding power flushFrom start step _⟫_⇒_ decode nodeAt values image dense walk decodeOp sourceOf breaksLimit exceedsNodes exceedsOperations foreign unknown noNodeRoom newCheck newStep
+unfolding power flushFrom start step _⟫_⇒_ decode nodeAt values image dense walk decodeOp sourceOf axisKind breaksLimit exceedsNodes exceedsOperations foreign unknown noNodeRoom newCheck newStep
     productCheck productStep expandWalk hermitianWalk reportWalk opAt expandCheck expandStep hermitianCheck hermitianStep reportCheck reportStep records kindOf lowerAs lower
     lowerFrom lowerAll plainBegin tested exceeds flushed performAs plainStep plainRun startArena pushed multiplied frameStep qubitsOf operandsChecked startWords flushGate
     flushGates flushWords writeSeven write wordStep wordRun meaning operationsIn gatesIn plainEnd wordEnd recordChecked recordsChecked gatesCheck gatesChecked convertCheck

@@ -10,7 +10,7 @@ use Rattle.pauli.specs.Table.{start, step}
 use Rattle.arena.specs.Errors.{_⟫_⇒_}
 use Rattle.arena.specs.Nodes.{decode, nodeAt}
 use Rattle.arena.specs.Sparse.{dense}
-use Rattle.arena.specs.Operations.{sourceOf, decodeOp}
+use Rattle.arena.specs.Operations.{sourceOf, decodeOp, axisKind}
 use Rattle.arena.specs.Store.{breaksLimit, exceedsNodes, exceedsOperations, foreign, unknown, noNodeRoom, noOperationRoom}
 use Rattle.arena.specs.Builder.{newCheck, newStep, singleCheck, singleStep, productCheck, productStep, rotateCheck, rotateStep, measureCheck, measureStep, conditionalCheck, conditionalStep}
 use Rattle.arena.specs.Walk.{walk}
@@ -35,7 +35,7 @@ use Rattle.exports.specs.Texts.{programReply, readQasmCall, positionRepl
 
 -- a header of two qubits, three classical bits, owner 7, six nodes, two operations and one measurement, and a word more; five words for the answer
 header : List ℕ
-unfolding power flushFrom start step _⟫_⇒_ decode nodeAt dense sourceOf decodeOp breaksLimit exceedsNodes exceedsOperations foreign unknown noNodeRoom noOperationRoom newCheck newStep singleCheck
+unfolding power flushFrom start step _⟫_⇒_ decode nodeAt dense sourceOf decodeOp axisKind breaksLimit exceedsNodes exceedsOperations foreign unknown noNodeRoom noOperationRoom newCheck newStep singleCheck
     singleStep productCheck productStep rotateCheck rotateStep measureCheck measureStep conditionalCheck conditionalStep walk expandWalk hermitianWalk reportWalk opAt expandCheck
     expandStep hermitianCheck hermitianStep reportCheck reportStep records kindOf lowerAs lower lowerFrom lowerAll plainBegin tested exceeds flushed performAs plainStep plainRun
     rowsAfter tableRun startArena pushed multiplied frameStep qubitsOf operandsChecked frameGates frameRun cliffordCheck cliffordStep startWords flushGate flushGates flushWords

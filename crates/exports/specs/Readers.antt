@@ -5,7 +5,7 @@ use Prim.Native.Nat.{ℕ}
 use lib.ListN.{length}
 use Rattle.pauli.specs.Letters.{phaseNumber}
 use Rattle.arena.specs.Walk.{Out}
-use Rattle.arena.specs.Expansion.{ExpandStep, WalkStep, AxesStep, expansionOf, hermitianOf, maxWeightsOf, expandedAxesOf, expandStep, hermitianStep, reportStep, axesStep}
+use Rattle.arena.specs.Expansion.{ExpandStep, WalkStep, AxesStep, expansionOf, hermitianOf, maxWeightsOf, expandedAxesOf, expandStep, hermitianStep, reportStep, kindReportStep, axesStep}
 use Rattle.exports.specs.Types.{Expansion, ExpansionMade, ExpansionRefused, HermitianAxis, HermitianMade, HermitianRefused, MaxAxisWeights, WeightsMade, WeightsRefused, ExpandedAxes, AxesMade, AxesRefused}
 use Rattle.exports.specs.Words.{headerIn, handleIn, tooShort, Reply, Values, Refused, Returned, replied}
 
@@ -48,7 +48,7 @@ expandCall header nodes letters scratch pool owner word cells answer =
     expandedWith letters scratch pool answer (tooShort (length header) (length answer))
     (expandStep (headerIn header) nodes letters scratch pool (handleIn owner word) cells)
 
--- ---- hermitian_axis and max_axis_weights
+-- ---- hermitian_axis and the weight reports
 
 pub record WalkLent : Type 0 where
   pub scratch : List ℕ
@@ -70,6 +70,11 @@ unfoldable pub weightsCall : (header nodes operations scratch pool : List ℕ) �
 weightsCall header nodes operations scratch pool limit answer =
     walkedWith scratch pool answer (tooShort (length header) (length answer)) (λ o. weightsReply (maxWeightsOf o))
     (reportStep (headerIn header) nodes operations scratch pool limit)
+
+unfoldable pub kindWeightsCall : (header nodes operations scratch pool : List ℕ) → (limit : ℕ) → (answer : List ℕ) → Returned WalkLent
+kindWeightsCall header nodes operations scratch pool limit answer =
+    walkedWith scratch pool answer (tooShort (length header) (length answer)) (λ o. weightsReply (maxWeightsOf o))
+    (kindReportStep (headerIn header) nodes operations scratch pool limit)
 
 -- ---- expand_axes
 

@@ -31,5 +31,6 @@ pub use readers::pbc_expand;
 pub use readers::pbc_expand_axes;
 pub use readers::pbc_hermitian_axis;
 pub use readers::pbc_max_axis_weights;
+pub use readers::pbc_max_axis_weights_by_kind;
 pub use text::pbc_read_qasm;
 pub use text::pbc_text_position;

@@ -12,7 +12,7 @@ use arena::MaxAxisWeights;
 ghost use mathlib.Core.Path.{_≡_};
 ghost use Rattle.exports.specs.Words.{returned};
 ghost use Rattle.exports.specs.Readers.{expandedReply, hermitianReply, weightsReply, axesReply};
-ghost use Rattle.exports.specs.Readers.{expandWords, walkWords, axesWords, expandCall, hermitianCall, weightsCall, expandAxesCall};
+ghost use Rattle.exports.specs.Readers.{expandWords, walkWords, axesWords, expandCall, hermitianCall, weightsCall, kindWeightsCall, expandAxesCall};
 
 fn expanded(answer: Expansion) -> Reply
     ensures { λ r. ⌜ r ≡ expandedReply answer ⌝ }
@@ -124,6 +124,29 @@ pub extern "C" fn pbc_max_axis_weights(
     }
     let was = read_header(header);
     let made = was.max_axis_weights(nodes, operations, scratch, pool, limit as usize);
+    let reply = weights(made);
+    write_answer(answer, reply)
+}
+
+/// The same by the kinds of the axes: rotations of angle 0 are in neither maximum. Promise: `kindWeightsCall`.
+#[no_mangle]
+pub extern "C" fn pbc_max_axis_weights_by_kind(
+    header: &[u64],
+    nodes: &[u32],
+    operations: &[u32],
+    scratch: &mut [u32],
+    pool: &mut [u32],
+    limit: u64,
+    answer: &mut [u64],
+) -> u32
+    ensures { λ r. ⌜ returned r (now (answer .exit)) (walkWords (now (scratch .exit)) (now (pool .exit)))
+        ≡ kindWeightsCall (now (header .entry)) (now (nodes .entry)) (now (operations .entry)) (now (scratch .entry)) (now (pool .entry)) limit (now (answer .entry)) ⌝ }
+{
+    if too_short(header.len(), answer.len()) {
+        return 255;
+    }
+    let was = read_header(header);
+    let made = was.max_axis_weights_by_kind(nodes, operations, scratch, pool, limit as usize);
     let reply = weights(made);
     write_answer(answer, reply)
 }

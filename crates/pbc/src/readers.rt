@@ -17,7 +17,7 @@ use arena::MaxAxisWeights;
 pub enum ReadingCommand {
     Expand,
     Hermitian,
-    Report,
+    Report(bool),
     Rows,
 }
 
@@ -100,8 +100,9 @@ fn hermitian(
     found(state, answer)
 }
 
-// `report LIMIT`
+// `report LIMIT`, and `report2 LIMIT` by kind
 fn report(
+    by_kind: bool,
     state: CommandState,
     line: Line,
     words: &[u32],
@@ -115,6 +116,10 @@ fn report(
     }
     let header = state.header;
     let limit = count_at(words, 0);
+    if by_kind {
+        let answer = header.max_axis_weights_by_kind(nodes, operations, scratch, pool, limit);
+        return weighed(state, answer);
+    }
     let answer = header.max_axis_weights(nodes, operations, scratch, pool, limit);
     weighed(state, answer)
 }
@@ -153,7 +158,18 @@ fn read(
     match command {
         ReadingCommand::Expand => expand(state, line, words, nodes, scratch, pool, letters),
         ReadingCommand::Hermitian => hermitian(state, line, words, nodes, scratch, pool),
-        ReadingCommand::Report => report(state, line, words, nodes, operations, scratch, pool),
+        ReadingCommand::Report(by_kind) => {
+            report(
+                by_kind,
+                state,
+                line,
+                words,
+                nodes,
+                operations,
+                scratch,
+                pool,
+            )
+        }
         ReadingCommand::Rows => rows(
             state,
             line,

@@ -1,6 +1,6 @@
 -- The weight report in words: the axes counted, then each shown, weighed and released.
 use mathlib.Core.Path.{_≡_, refl, ap, ap₂, sym, _∙_, subst}
-use mathlib.Core.Bool.{Bool, true, false, cond, not, _||_}
+use mathlib.Core.Bool.{Bool, true, false, _||_}
 use mathlib.Core.List.{List, [], _∷_, _++_, map}
 use Prim.Native.Nat.{ℕ, zero, suc, _+_, _*_, _-_, _≤_, _<_, max}
 use native.Mathlib.Nat.{not-suc-le-zero}
@@ -12,11 +12,11 @@ use lib.ListN.{length, replicate, length-replicate}
 use Rattle.arena.specs.Errors.{PbcError, Fine}
 use Rattle.arena.specs.References.{nodeIn, phaseIn}
 use Rattle.arena.specs.Nodes.{PauliNode, nodeAt}
-use Rattle.arena.specs.Operations.{PbcOp, Rotate, Measure, ConditionalRotate, Malformed}
+use Rattle.arena.specs.Operations.{PbcOp, AxisKind}
 use Rattle.arena.specs.Store.{Header, exceedsOperations, foreign}
 use Rattle.arena.specs.Sparse.{turned, size}
 use Rattle.arena.specs.Walk.{Out, fine, refused, bind, State, Walked, rootUses, release, showRoots, walkNodes, answerOf, walk}
-use Rattle.arena.specs.Readers.{Weighed, Weights, weigh, largest, wordsOf, Report, reportWalk}
+use Rattle.arena.specs.Readers.{Weighed, Weights, countsNonClifford, countsClifford, raised, weigh, largest, wordsOf, Report, reportWalk}
 use Rattle.arena.specs.Code.Results.{Ledger, Value, Says}
 use Rattle.arena.specs.Pool.{Who}
 use Rattle.arena.specs.Code.WalkWords.{Inv, none, edge, usesAt, withUse, valueAt, Uses, Rep, Rooted}
@@ -50,7 +50,7 @@ from-more op i (suc k) =
     let e : suc i + k ≡ i + suc k = omega arith in
     ap (λ (xs : List Weighed). weighedOf (op i) ∷ xs) (from-more op (suc i) k ∙ ap (λ (j : ℕ). axesFrom op (suc i) k ++ (weighedOf (op j) ∷ [])) e)
 
-from-front : (op : ℕ → PbcOp) (k : ℕ) → axesTo op k ≡ axesFrom op 0 k
+pub from-front : (op : ℕ → PbcOp) (k : ℕ) → axesTo op k ≡ axesFrom op 0 k
 from-front op zero = refl
 from-front op (suc k) =
     let e : k ≡ 0 + k = omega arith in
@@ -70,44 +70,48 @@ bind-same (refused r) k h e = refl
 abbrev both : Weights → Weights → Weights
 both m l = record { nonClifford = max (m .nonClifford) (l .nonClifford); clifford = max (m .clifford) (l .clifford) }
 
-both-weigh : (b : Bool) (k : ℕ) (m l : Weights) → both (weigh b k m) l ≡ both m (weigh b k l)
-both-weigh true k m l = let e : max (max k (m .clifford)) (l .clifford) ≡ max (m .clifford) (max k (l .clifford)) = omega arith in ap (λ (n : ℕ). weightsOf (max (m .nonClifford) (l .nonClifford)) n) e
-both-weigh false k m l = let e : max (max k (m .nonClifford)) (l .nonClifford) ≡ max (m .nonClifford) (max k (l .nonClifford)) = omega arith in ap (λ (n : ℕ). weightsOf n (max (m .clifford) (l .clifford))) e
+raised-max : (b : Bool) (k m l : ℕ) → max (raised b k m) l ≡ max m (raised b k l)
+raised-max true k m l = omega arith
+raised-max false k m l = refl
 
-module _ (limit room : ℕ) (node : ℕ → PauliNode) (count : ℕ) where
+both-weigh : (zeros : Bool) (kind : AxisKind) (k : ℕ) (m l : Weights) → both (weigh zeros kind k m) l ≡ both m (weigh zeros kind k l)
+both-weigh zeros kind k m l =
+    ap₂ weightsOf (raised-max (countsNonClifford kind) k (m .nonClifford) (l .nonClifford)) (raised-max (countsClifford zeros kind) k (m .clifford) (l .clifford))
+
+module _ (zeros : Bool) (limit room : ℕ) (node : ℕ → PauliNode) (count : ℕ) where
   abbrev reported : List Weighed → Weights → Walked → Out Report
-  reported xs m r = fine (record { weights = both m (largest xs (map size (r .shown))); work = r .state .work })
+  reported xs m r = fine (record { weights = both m (largest zeros xs (map size (r .shown))); work = r .state .work })
 
-  weigh-walk : (xs : List Weighed) (m : Weights) (s : State) → weighRoots limit room node count xs m s ≡ bind (showRoots limit room node count (wordsOf xs) s) (reported xs m)
+  weigh-walk : (xs : List Weighed) (m : Weights) (s : State) → weighRoots limit room node count zeros xs m s ≡ bind (showRoots limit room node count (wordsOf xs) s) (reported xs m)
   weigh-walk [] m s =
       let e : m .nonClifford ≡ max (m .nonClifford) 0 = omega arith in
       let f : m .clifford ≡ max (m .clifford) 0 = omega arith in
       ap₂ (λ (a b : ℕ). fine (record { weights = weightsOf a b; work = s .work })) e f
   weigh-walk (x ∷ xs) m s =
-      bind-assoc (showRoot limit room node count (nodeIn (x .word)) s) (λ t. fine (weightOf (x .word) t)) (λ a. weighRoots limit room node count xs (weigh (x .clifford) (a .weight) m) (a .state))
-      ∙ bind-same (showRoot limit room node count (nodeIn (x .word)) s) _ (λ t. bind (rest t) (reported (x ∷ xs) m)) (λ t. step t (weigh-walk xs (weigh (x .clifford) (size (t .value (nodeIn (x .word)))) m) (release (nodeIn (x .word)) t)))
+      bind-assoc (showRoot limit room node count (nodeIn (x .word)) s) (λ t. fine (weightOf (x .word) t)) (λ a. weighRoots limit room node count zeros xs (weigh zeros (x .kind) (a .weight) m) (a .state))
+      ∙ bind-same (showRoot limit room node count (nodeIn (x .word)) s) _ (λ t. bind (rest t) (reported (x ∷ xs) m)) (λ t. step t (weigh-walk xs (weigh zeros (x .kind) (size (t .value (nodeIn (x .word)))) m) (release (nodeIn (x .word)) t)))
       ∙ sym (bind-assoc (showRoot limit room node count (nodeIn (x .word)) s) rest (reported (x ∷ xs) m))
       ∙ ap (λ o. bind o (reported (x ∷ xs) m)) (sym (show-first limit room node count (x .word) (wordsOf xs) s))
     where
       rest : State → Out Walked
       rest t = bind (showRoots limit room node count (wordsOf xs) (release (nodeIn (x .word)) t)) (λ r. fine (record { shown = turned (phaseIn (x .word)) (t .value (nodeIn (x .word))) ∷ r .shown; state = r .state }))
 
-      step : (t : State) → weighRoots limit room node count xs (weigh (x .clifford) (size (t .value (nodeIn (x .word)))) m) (release (nodeIn (x .word)) t)
-          ≡ bind (showRoots limit room node count (wordsOf xs) (release (nodeIn (x .word)) t)) (reported xs (weigh (x .clifford) (size (t .value (nodeIn (x .word)))) m))
-          → weighRoots limit room node count xs (weigh (x .clifford) (size (t .value (nodeIn (x .word)))) m) (release (nodeIn (x .word)) t) ≡ bind (rest t) (reported (x ∷ xs) m)
+      step : (t : State) → weighRoots limit room node count zeros xs (weigh zeros (x .kind) (size (t .value (nodeIn (x .word)))) m) (release (nodeIn (x .word)) t)
+          ≡ bind (showRoots limit room node count (wordsOf xs) (release (nodeIn (x .word)) t)) (reported xs (weigh zeros (x .kind) (size (t .value (nodeIn (x .word)))) m))
+          → weighRoots limit room node count zeros xs (weigh zeros (x .kind) (size (t .value (nodeIn (x .word)))) m) (release (nodeIn (x .word)) t) ≡ bind (rest t) (reported (x ∷ xs) m)
       step t ih = ih
-          ∙ bind-same (showRoots limit room node count (wordsOf xs) (release (nodeIn (x .word)) t)) (reported xs (weigh (x .clifford) (size (t .value (nodeIn (x .word)))) m)) _
-          (λ r. ap (λ (l : Weights). fine (record { weights = l; work = r .state .work })) (both-weigh (x .clifford) (size (t .value (nodeIn (x .word)))) m (largest xs (map size (r .shown)))))
+          ∙ bind-same (showRoots limit room node count (wordsOf xs) (release (nodeIn (x .word)) t)) (reported xs (weigh zeros (x .kind) (size (t .value (nodeIn (x .word)))) m)) _
+          (λ r. ap (λ (l : Weights). fine (record { weights = l; work = r .state .work })) (both-weigh zeros (x .kind) (size (t .value (nodeIn (x .word)))) m (largest zeros xs (map size (r .shown)))))
           ∙ sym (bind-assoc (showRoots limit room node count (wordsOf xs) (release (nodeIn (x .word)) t)) (λ r. fine (record { shown = turned (phaseIn (x .word)) (t .value (nodeIn (x .word))) ∷ r .shown; state = r .state })) (reported (x ∷ xs) m))
 
 -- the report is the start of the walk, and then the axes weighed in turn
-pub report-weighs : (limit room n count : ℕ) (words : List ℕ) (xs : List Weighed)
-    → reportWalk limit room n count words xs ≡ bind (startOf limit (nodeAt n words) count (wordsOf xs)) (λ s. weighRoots limit room (nodeAt n words) count xs (weightsOf 0 0) s)
+pub report-weighs : (zeros : Bool) (limit room n count : ℕ) (words : List ℕ) (xs : List Weighed)
+    → reportWalk zeros limit room n count words xs ≡ bind (startOf limit (nodeAt n words) count (wordsOf xs)) (λ s. weighRoots limit room (nodeAt n words) count zeros xs (weightsOf 0 0) s)
 unfolding reportWalk walk
-report-weighs limit room n count words xs =
-    bind-assoc (walkNodes limit room (nodeAt n words) count (wordsOf xs)) (λ r. fine (answerOf r)) (λ a. fine (record { weights = largest xs (map size (a .shown)); work = a .work }))
-    ∙ bind-assoc (startOf limit (nodeAt n words) count (wordsOf xs)) (λ s. showRoots limit room (nodeAt n words) count (wordsOf xs) s) (λ r. fine (record { weights = largest xs (map size (r .shown)); work = r .state .work }))
-    ∙ bind-same (startOf limit (nodeAt n words) count (wordsOf xs)) _ _ (λ s. bind-same (showRoots limit room (nodeAt n words) count (wordsOf xs) s) _ _ (λ r. from-zero r (largest xs (map size (r .shown)))) ∙ sym (weigh-walk limit room (nodeAt n words) count xs (weightsOf 0 0) s))
+report-weighs zeros limit room n count words xs =
+    bind-assoc (walkNodes limit room (nodeAt n words) count (wordsOf xs)) (λ r. fine (answerOf r)) (λ a. fine (record { weights = largest zeros xs (map size (a .shown)); work = a .work }))
+    ∙ bind-assoc (startOf limit (nodeAt n words) count (wordsOf xs)) (λ s. showRoots limit room (nodeAt n words) count (wordsOf xs) s) (λ r. fine (record { weights = largest zeros xs (map size (r .shown)); work = r .state .work }))
+    ∙ bind-same (startOf limit (nodeAt n words) count (wordsOf xs)) _ _ (λ s. bind-same (showRoots limit room (nodeAt n words) count (wordsOf xs) s) _ _ (λ r. from-zero r (largest zeros xs (map size (r .shown)))) ∙ sym (weigh-walk zeros limit room (nodeAt n words) count xs (weightsOf 0 0) s))
   where
     from-zero : (r : Walked) (l : Weights) → _≡_ {A = Out Report} (fine (record { weights = l; work = r .state .work })) (fine (record { weights = both (weightsOf 0 0) l; work = r .state .work }))
     from-zero r l =
@@ -167,9 +171,9 @@ rest-more h ops i lt =
     let f : suc i ≡ i + 1 = omega arith in
     ap (λ (k : ℕ). axesFrom (opAt h ops) i k) e ∙ ap (λ (j : ℕ). weighedAt h ops i ∷ axesFrom (opAt h ops) j (h .operations - (i + 1))) f
 
-weights-raised : (b : Bool) (k x y : ℕ) {x′ y′ : ℕ} → x′ ≡ cond (not b) (max k x) x → y′ ≡ cond b (max k y) y → weigh b k (weightsOf x y) ≡ weightsOf x′ y′
-weights-raised true k x y e f = ap₂ weightsOf (sym e) (sym f)
-weights-raised false k x y e f = ap₂ weightsOf (sym e) (sym f)
+weights-raised : (zeros : Bool) (kind : AxisKind) (k x y : ℕ) {b c : Bool} {x′ y′ : ℕ} → b ≡ countsNonClifford kind → c ≡ countsClifford zeros kind
+    → x′ ≡ raised b k x → y′ ≡ raised c k y → weigh zeros kind k (weightsOf x y) ≡ weightsOf x′ y′
+weights-raised zeros kind k x y p q e f = ap₂ (λ (b c : Bool). weightsOf (raised b k x) (raised c k y)) (sym p) (sym q) ∙ ap₂ weightsOf (sym e) (sym f)
 
 -- an axis weighed in the words: shown, and released
 
@@ -247,63 +251,65 @@ module _ {h : Header} {words ops was pool : List ℕ} {limit : ℕ} {left₀ : L
       inv = release-inv limit (g .room) (h .qubits) (h .nodes) (nodeAt (h .qubits) words) (node-fits (h .qubits) words) (a .total) w (wordsOf (restAxes h ops (i + 1))) t axis-low done-is inv;
     }
 
-  abbrev pub weighs : List Weighed → Weights → State → Out Report
-  weighs xs m s = weighRoots limit (g .room) (nodeAt (h .qubits) words) (h .nodes) xs m s
+  module _ (zeros : Bool) where
+    abbrev pub weighs : List Weighed → Weights → State → Out Report
+    weighs xs m s = weighRoots limit (g .room) (nodeAt (h .qubits) words) (h .nodes) zeros xs m s
 
-  pub record WeighAt (l p : List ℕ) (left : Ledger) (x y i : ℕ) : Type 0 where
-    pub s : State
-    pub upto : i ≤ h .operations
-    pub long : length l ≡ length was
-    pub pool-long : length p ≡ length pool
-    pub rest : Resting h words l p (restAxes h ops i) limit (g .room) s left
-    pub same : weighRoots limit (g .room) (nodeAt (h .qubits) words) (h .nodes) (axesOf h ops) (weightsOf 0 0) (g .s) ≡ weighRoots limit (g .room) (nodeAt (h .qubits) words) (h .nodes) (restAxes h ops i) (weightsOf x y) s
+    pub record WeighAt (l p : List ℕ) (left : Ledger) (x y i : ℕ) : Type 0 where
+      pub s : State
+      pub upto : i ≤ h .operations
+      pub long : length l ≡ length was
+      pub pool-long : length p ≡ length pool
+      pub rest : Resting h words l p (restAxes h ops i) limit (g .room) s left
+      pub same : weighRoots limit (g .room) (nodeAt (h .qubits) words) (h .nodes) zeros (axesOf h ops) (weightsOf 0 0) (g .s) ≡ weighRoots limit (g .room) (nodeAt (h .qubits) words) (h .nodes) zeros (restAxes h ops i) (weightsOf x y) s
 
-  pub weigh-begin : WeighAt was pool left₀ 0 0 0
-  weigh-begin =
-      let q = rest-all h ops in
-      record {
-        s = g .s;
-        upto = omega arith;
-        long = refl;
-        pool-long = refl;
-        rest = subst (λ (xs : List Weighed). Resting h words was pool xs limit (g .room) (g .s) left₀) q (g .rest);
-        same = ap (λ (xs : List Weighed). weighs xs (weightsOf 0 0) (g .s)) q;
-      }
+    pub weigh-begin : WeighAt was pool left₀ 0 0 0
+    weigh-begin =
+        let q = rest-all h ops in
+        record {
+          s = g .s;
+          upto = omega arith;
+          long = refl;
+          pool-long = refl;
+          rest = subst (λ (xs : List Weighed). Resting h words was pool xs limit (g .room) (g .s) left₀) q (g .rest);
+          same = ap (λ (xs : List Weighed). weighs xs (weightsOf 0 0) (g .s)) q;
+        }
 
-  module _ {l p : List ℕ} {left : Ledger} {x y i : ℕ} (a : WeighAt l p left x y i) where
-    pub weigh-end : h .operations ≤ i → WeightsMade x y (left .work) ≡ maxWeightsOf (weighs (axesOf h ops) (weightsOf 0 0) (g .s))
-    weigh-end le =
-        let e : h .operations - i ≡ 0 = omega arith in
-        ap (λ (k : ℕ). WeightsMade x y k) (a .rest .rep .work-is) ∙ sym (ap maxWeightsOf (a .same ∙ ap (λ (k : ℕ). weighs (axesFrom (opAt h ops) i k) (weightsOf x y) (a .s)) e))
+    module _ {l p : List ℕ} {left : Ledger} {x y i : ℕ} (a : WeighAt l p left x y i) where
+      pub weigh-end : h .operations ≤ i → WeightsMade x y (left .work) ≡ maxWeightsOf (weighs (axesOf h ops) (weightsOf 0 0) (g .s))
+      weigh-end le =
+          let e : h .operations - i ≡ 0 = omega arith in
+          ap (λ (k : ℕ). WeightsMade x y k) (a .rest .rep .work-is) ∙ sym (ap maxWeightsOf (a .same ∙ ap (λ (k : ℕ). weighs (axesFrom (opAt h ops) i k) (weightsOf x y) (a .s)) e))
 
-    module _ {w : ℕ} (lt : i < h .operations) (w-is : w ≡ weighedAt h ops i .word) where
-      abbrev weighed : RootWeight → Out Report
-      weighed r = weighs (restAxes h ops (i + 1)) (weigh (weighedAt h ops i .clifford) (r .weight) (weightsOf x y)) (r .state)
+      module _ {w : ℕ} (lt : i < h .operations) (w-is : w ≡ weighedAt h ops i .word) where
+        abbrev weighed : RootWeight → Out Report
+        weighed r = weighs (restAxes h ops (i + 1)) (weigh zeros (weighedAt h ops i .kind) (r .weight) (weightsOf x y)) (r .state)
 
-      next : weighs (axesOf h ops) (weightsOf 0 0) (g .s) ≡ bind (weighRoot limit (g .room) (nodeAt (h .qubits) words) (h .nodes) w (a .s)) weighed
-      next = a .same ∙ ap (λ (xs : List Weighed). weighs xs (weightsOf x y) (a .s)) (rest-more h ops i lt)
-          ∙ ap (λ (v : ℕ). bind (weighRoot limit (g .room) (nodeAt (h .qubits) words) (h .nodes) v (a .s)) weighed) (sym w-is)
+        next : weighs (axesOf h ops) (weightsOf 0 0) (g .s) ≡ bind (weighRoot limit (g .room) (nodeAt (h .qubits) words) (h .nodes) w (a .s)) weighed
+        next = a .same ∙ ap (λ (xs : List Weighed). weighs xs (weightsOf x y) (a .s)) (rest-more h ops i lt)
+            ∙ ap (λ (v : ℕ). bind (weighRoot limit (g .room) (nodeAt (h .qubits) words) (h .nodes) v (a .s)) weighed) (sym w-is)
 
-      module _ {l₁ p₁ : List ℕ} {z : Out (ℕ × Ledger)}
-          (o : Says (weighRoot limit (g .room) (nodeAt (h .qubits) words) (h .nodes) w (a .s)) z (RootWeighed w (axis-rooted (a .rest) lt w-is) l₁ p₁)) where
-        pub weigh-refused : {e : PbcError} → z ≡ refused e → WeightsRefused e ≡ maxWeightsOf (weighs (axesOf h ops) (weightsOf 0 0) (g .s))
-        weigh-refused q = sym (ap maxWeightsOf (next ∙ ap (λ r. bind r weighed) (said-refused o q)))
+        module _ {l₁ p₁ : List ℕ} {z : Out (ℕ × Ledger)}
+            (o : Says (weighRoot limit (g .room) (nodeAt (h .qubits) words) (h .nodes) w (a .s)) z (RootWeighed w (axis-rooted (a .rest) lt w-is) l₁ p₁)) where
+          pub weigh-refused : {e : PbcError} → z ≡ refused e → WeightsRefused e ≡ maxWeightsOf (weighs (axesOf h ops) (weightsOf 0 0) (g .s))
+          weigh-refused q = sym (ap maxWeightsOf (next ∙ ap (λ r. bind r weighed) (said-refused o q)))
 
-        pub weigh-turn : {k : ℕ} {rest : Ledger} {x₂ y₂ : ℕ} {b : Bool} → z ≡ fine (k, rest) → b ≡ weighedAt h ops i .clifford → length l₁ ≡ length was → length p₁ ≡ length pool
-            → x₂ ≡ cond (not b) (max k x) x → y₂ ≡ cond b (max k y) y → WeighAt l₁ p₁ rest x₂ y₂ (i + 1)
-        weigh-turn {k} {rest} {x₂} {y₂} {b} e b-is long pool-long x-is y-is =
-            let r = said-fine o e in
-            let t = r .2 .t in
-            record {
-              s = release (nodeIn w) t;
-              upto = omega arith;
-              long = long;
-              pool-long = pool-long;
-              rest = axis-rested (a .rest) lt w-is (r .2 .rep) (r .2 .inv) (r .2 .done-is);
-              same = next ∙ ap (λ q. bind q weighed) (r .1)
-                  ∙ ap₂ (λ (c : Bool) (f : ℕ). weighs (restAxes h ops (i + 1)) (weigh c f (weightsOf x y)) (r .0 .state)) (sym b-is) (sym (r .2 .weight-is))
-                  ∙ ap₂ (λ (m : Weights) (u : State). weighs (restAxes h ops (i + 1)) m u) (weights-raised b k x y x-is y-is) (r .2 .state-is);
-            }
+          pub weigh-turn : {k : ℕ} {rest : Ledger} {x₂ y₂ : ℕ} {b c : Bool} → z ≡ fine (k, rest) → b ≡ countsNonClifford (weighedAt h ops i .kind)
+              → c ≡ countsClifford zeros (weighedAt h ops i .kind) → length l₁ ≡ length was → length p₁ ≡ length pool
+              → x₂ ≡ raised b k x → y₂ ≡ raised c k y → WeighAt l₁ p₁ rest x₂ y₂ (i + 1)
+          weigh-turn {k} {rest} {x₂} {y₂} {b} {c} e b-is c-is long pool-long x-is y-is =
+              let r = said-fine o e in
+              let t = r .2 .t in
+              record {
+                s = release (nodeIn w) t;
+                upto = omega arith;
+                long = long;
+                pool-long = pool-long;
+                rest = axis-rested (a .rest) lt w-is (r .2 .rep) (r .2 .inv) (r .2 .done-is);
+                same = next ∙ ap (λ q. bind q weighed) (r .1)
+                    ∙ ap (λ (f : ℕ). weighs (restAxes h ops (i + 1)) (weigh zeros (weighedAt h ops i .kind) f (weightsOf x y)) (r .0 .state)) (sym (r .2 .weight-is))
+                    ∙ ap₂ (λ (m : Weights) (u : State). weighs (restAxes h ops (i + 1)) m u) (weights-raised zeros (weighedAt h ops i .kind) k x y b-is c-is x-is y-is) (r .2 .state-is);
+              }
 
 -- ---- the whole walk
 
@@ -335,11 +341,13 @@ module _ {h : Header} {words l : List ℕ} (ops : List ℕ) (f : Fit h words l) 
       abbrev room : ℕ
       room = capOf (length p) - 1
 
-      abbrev onward : State → Out Report
-      onward s = weighRoots limit (capOf (length p) - 1) (nodeAt (h .qubits) words) (h .nodes) (axesOf h ops) (weightsOf 0 0) s
+      abbrev onward : Bool → State → Out Report
+      onward zeros s = weighRoots limit (capOf (length p) - 1) (nodeAt (h .qubits) words) (h .nodes) zeros (axesOf h ops) (weightsOf 0 0) s
 
-      pub report-refused : {e : PbcError} → y ≡ refused e → WeightsRefused e ≡ maxWeightsOf (reportWalk limit (capOf (length p) - 1) (h .qubits) (h .nodes) words (axesOf h ops))
-      report-refused q = sym (ap maxWeightsOf (report-weighs limit room (h .qubits) (h .nodes) words (axesOf h ops) ∙ ap (λ z. bind z onward) (said-refused b q)))
+      pub report-refused : (zeros : Bool) {e : PbcError} → y ≡ refused e
+          → WeightsRefused e ≡ maxWeightsOf (reportWalk zeros limit (capOf (length p) - 1) (h .qubits) (h .nodes) words (axesOf h ops))
+      report-refused zeros q =
+          sym (ap maxWeightsOf (report-weighs zeros limit room (h .qubits) (h .nodes) words (axesOf h ops) ∙ ap (λ z. bind z (onward zeros)) (said-refused b q)))
 
       module _ {left : Ledger} (z : y ≡ fine left) where
         abbrev pub begun-at : (t : State) × (startOf limit (nodeAt (h .qubits) words) (h .nodes) (wordsOf (axesOf h ops)) ≡ fine t) × Begun axes-rootable limit (capOf (length p) - 1) l₃ p₁ t left
@@ -363,9 +371,9 @@ module _ {h : Header} {words l : List ℕ} (ops : List ℕ) (f : Fit h words l) 
           };
         }
 
-        pub report-is : reportWalk limit (capOf (length p) - 1) (h .qubits) (h .nodes) words (axesOf h ops)
-            ≡ weighRoots limit (capOf (length p) - 1) (nodeAt (h .qubits) words) (h .nodes) (axesOf h ops) (weightsOf 0 0) (begun-at .0)
-        report-is = report-weighs limit room (h .qubits) (h .nodes) words (axesOf h ops) ∙ ap (λ z. bind z onward) (begun-at .1)
+        pub report-is : (zeros : Bool) → reportWalk zeros limit (capOf (length p) - 1) (h .qubits) (h .nodes) words (axesOf h ops)
+            ≡ weighRoots limit (capOf (length p) - 1) (nodeAt (h .qubits) words) (h .nodes) zeros (axesOf h ops) (weightsOf 0 0) (begun-at .0)
+        report-is zeros = report-weighs zeros limit room (h .qubits) (h .nodes) words (axesOf h ops) ∙ ap (λ z. bind z (onward zeros)) (begun-at .1)
 
 -- ---- what passed the checks
 

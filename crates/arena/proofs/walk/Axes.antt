@@ -121,11 +121,11 @@ abbrev reportWork : Out Report → Out ℕ
 reportWork o = bind o (λ x. fine (x .work))
 
 same-work : (limit room n count : ℕ) (words : List ℕ) (axes : List Weighed)
-    → axesWork (axesWalk limit room n count words (wordsOf axes)) ≡ reportWork (reportWalk limit room n count words axes)
+    → axesWork (axesWalk limit room n count words (wordsOf axes)) ≡ reportWork (reportWalk true limit room n count words axes)
 unfolding axesWalk reportWalk
 same-work limit room n count words axes = go (walk limit room n count words (wordsOf axes))
   where
-    go : (o : Out Answer) → axesWork (bind o (rowed limit room n count words (wordsOf axes))) ≡ reportWork (bind o (λ a. fine (record { weights = largest axes (map (λ v. length (v .factors)) (a .shown)); work = a .work })))
+    go : (o : Out Answer) → axesWork (bind o (rowed limit room n count words (wordsOf axes))) ≡ reportWork (bind o (λ a. fine (record { weights = largest true axes (map (λ v. length (v .factors)) (a .shown)); work = a .work })))
     go (fine a) = refl
     go (refused e) = refl
 
@@ -191,7 +191,7 @@ module _ (h : Header) (nodes ops rows scratch pool : List ℕ) (limit : ℕ) whe
   axes-work le = ap (λ c. axesWork (axesBy c expands h rows scratch pool .answer)) (same-checks le) ∙ go (reportCheck h nodes ops (length scratch))
     where
       go : (c : Checked) → axesWork (axesBy c expands h rows scratch pool .answer)
-          ≡ reportWork (walkBy c (reportWalk limit (roomIn pool) (h .qubits) (h .nodes) nodes axes) h scratch pool .answer)
+          ≡ reportWork (walkBy c (reportWalk true limit (roomIn pool) (h .qubits) (h .nodes) nodes axes) h scratch pool .answer)
       go Fine = same-work limit (roomIn pool) (h .qubits) (h .nodes) nodes axes
       go (Wrong e) = refl
 

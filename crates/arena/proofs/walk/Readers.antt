@@ -18,7 +18,7 @@ use Rattle.arena.specs.Store.{Header, foreign, exceedsOperations}
 use Rattle.arena.specs.Sparse.{Factor, spread, dense}
 use Rattle.arena.specs.Walk.{Named, Out, fine, refused, bind, Answer, walk}
 use Rattle.arena.specs.Readers.{firstOf, Expanded, expandWalk, hermitianWalk, Weighed, Weights, largest, wordsOf, Report, reportWalk}
-use Rattle.arena.specs.Expansion.{ExpansionMade, HermitianMade, WeightsMade, expansionOf, hermitianOf, maxWeightsOf, badNodes, badOperations, opAt, isBadOp, anyBadOp, weighedOf, axesTo, roomIn, lettersLeft, expandBy, expandCheck, expandStep, walkBy, hermitianCheck, hermitianStep, reportCheck, reportStep}
+use Rattle.arena.specs.Expansion.{ExpansionMade, HermitianMade, WeightsMade, expansionOf, hermitianOf, maxWeightsOf, badNodes, badOperations, opAt, isBadOp, anyBadOp, weighedOf, axesTo, roomIn, lettersLeft, expandBy, expandCheck, expandStep, walkBy, hermitianCheck, hermitianStep, reportCheck, reportBy}
 use Rattle.arena.proofs.Readable.{axis-named}
 use Rattle.arena.proofs.Accepted.{passed-before, test-passed, left-false, right-false, own}
 use Rattle.arena.proofs.walk.Reports.{expand-means, hermitian-means, report-means}
@@ -204,12 +204,12 @@ axes-named h ops (suc k) e =
     named-snoc (h .nodes) (axesTo (opAt h ops) k) (weighedOf (opAt h ops k)) (axes-named h ops k (left-false (anyBadOp h ops k) _ e))
     (axis-named h (opAt h ops k) (left-false (isBadOp h (opAt h ops k)) _ (right-false (anyBadOp h ops k) _ e)))
 
-module _ (h : Header) (nodes ops scratch pool : List ℕ) (limit : ℕ) where
+module _ (zeros : Bool) (h : Header) (nodes ops scratch pool : List ℕ) (limit : ℕ) where
   abbrev axes : List Weighed
   axes = axesTo (opAt h ops) (h .operations)
 
   abbrev reports : Out Report
-  reports = reportWalk limit (roomIn pool) (h .qubits) (h .nodes) nodes axes
+  reports = reportWalk zeros limit (roomIn pool) (h .qubits) (h .nodes) nodes axes
 
   abbrev visits : Out Answer
   visits = walk limit (roomIn pool) (h .qubits) (h .nodes) nodes (wordsOf axes)
@@ -220,21 +220,20 @@ module _ (h : Header) (nodes ops scratch pool : List ℕ) (limit : ℕ) where
       (right-false (exceedsOperations h (length ops)) _ (right-false (badNodes h nodes) _ (test-passed _ _ _ (passed-before _ _ _ p))))
 
   abbrev weighs : Weights
-  weighs = largest axes (map (λ w. weight (image (h .qubits) (h .nodes) nodes w .letters)) (wordsOf axes))
+  weighs = largest zeros axes (map (λ w. weight (image (h .qubits) (h .nodes) nodes w .letters)) (wordsOf axes))
 
   -- a refusal of the walk is the answer
   report-stopped : (e : PbcError) → visits ≡ refused e → reports ≡ refused e
   unfolding reportWalk
   report-stopped e q = rw q
 
-  pub report-reads : (x : Report) → reportStep h nodes ops scratch pool limit .answer ≡ fine x
-      → x .weights ≡ largest (axesTo (opAt h ops) (h .operations)) (map (λ w. weight (image (h .qubits) (h .nodes) nodes w .letters)) (wordsOf (axesTo (opAt h ops) (h .operations))))
-  unfolding reportStep
+  pub report-reads : (x : Report) → reportBy zeros h nodes ops scratch pool limit .answer ≡ fine x
+      → x .weights ≡ largest zeros (axesTo (opAt h ops) (h .operations)) (map (λ w. weight (image (h .qubits) (h .nodes) nodes w .letters)) (wordsOf (axesTo (opAt h ops) (h .operations))))
   report-reads x = go (reportCheck h nodes ops (length scratch)) refl
     where
       answered : Named (h .nodes) (wordsOf axes) → reports ≡ fine x → (v : Out Answer) → visits ≡ v → x .weights ≡ weighs
       answered ns e (fine a) q =
-          let y : fine (record { weights = weighs; work = a .work }) ≡ fine x = sym (report-means limit (roomIn pool) (h .qubits) (h .nodes) nodes axes a ns q) ∙ e in
+          let y : fine (record { weights = weighs; work = a .work }) ≡ fine x = sym (report-means zeros limit (roomIn pool) (h .qubits) (h .nodes) nodes axes a ns q) ∙ e in
           let z : record { weights = weighs; work = a .work } ≡ x = cc in
           ap (λ (r : Report). r .weights) (sym z)
       answered ns e (refused k) q = let z : _≡_ {A = ℕ} 0 1 = cc (report-stopped k q) in absurd (zero-is-one z)
@@ -251,8 +250,7 @@ module _ (h : Header) (nodes ops scratch pool : List ℕ) (limit : ℕ) where
   unfolding reportCheck
   report-failed p = test-failed _ _ _ (refused-before _ _ NoScratch BadStore (errors-differ _ _ (λ q. omega arith)) p)
 
-  pub report-bad : reportStep h nodes ops scratch pool limit .answer ≡ refused BadStore → (badNodes h nodes || badOperations h ops) ≡ true
-  unfolding reportStep
+  pub report-bad : reportBy zeros h nodes ops scratch pool limit .answer ≡ refused BadStore → (badNodes h nodes || badOperations h ops) ≡ true
   report-bad = go (reportCheck h nodes ops (length scratch)) refl
     where
       go : (c : Checked) → reportCheck h nodes ops (length scratch) ≡ c → walkBy c reports h scratch pool .answer ≡ refused BadStore
@@ -287,17 +285,17 @@ module _ (h : Header) (nodes scratch pool : List ℕ) (r : PauliRef) (limit : �
       go (fine w) q e = let same : axisOf r ≡ x = cc in (sym same, hermitian-real h nodes scratch pool r limit w q)
       go (refused k) q e = let z : _≡_ {A = ℕ} 0 1 = cc in absurd (zero-is-one z)
 
-module _ (h : Header) (nodes ops scratch pool : List ℕ) (limit : ℕ) where
-  pub report-answers : (a b work : ℕ) → maxWeightsOf (reportStep h nodes ops scratch pool limit .answer) ≡ WeightsMade a b work
-      → largest (axesTo (opAt h ops) (h .operations)) (map (λ w. weight (image (h .qubits) (h .nodes) nodes w .letters)) (wordsOf (axesTo (opAt h ops) (h .operations))))
+module _ (zeros : Bool) (h : Header) (nodes ops scratch pool : List ℕ) (limit : ℕ) where
+  pub report-answers : (a b work : ℕ) → maxWeightsOf (reportBy zeros h nodes ops scratch pool limit .answer) ≡ WeightsMade a b work
+      → largest zeros (axesTo (opAt h ops) (h .operations)) (map (λ w. weight (image (h .qubits) (h .nodes) nodes w .letters)) (wordsOf (axesTo (opAt h ops) (h .operations))))
       ≡ record { nonClifford = a; clifford = b }
-  report-answers a b work = go (reportStep h nodes ops scratch pool limit .answer) refl
+  report-answers a b work = go (reportBy zeros h nodes ops scratch pool limit .answer) refl
     where
-      go : (y : Out Report) → reportStep h nodes ops scratch pool limit .answer ≡ y → maxWeightsOf y ≡ WeightsMade a b work
-          → largest (axesTo (opAt h ops) (h .operations)) (map (λ w. weight (image (h .qubits) (h .nodes) nodes w .letters)) (wordsOf (axesTo (opAt h ops) (h .operations))))
+      go : (y : Out Report) → reportBy zeros h nodes ops scratch pool limit .answer ≡ y → maxWeightsOf y ≡ WeightsMade a b work
+          → largest zeros (axesTo (opAt h ops) (h .operations)) (map (λ w. weight (image (h .qubits) (h .nodes) nodes w .letters)) (wordsOf (axesTo (opAt h ops) (h .operations))))
           ≡ record { nonClifford = a; clifford = b }
       go (fine x) q e =
           let p : x .weights .nonClifford ≡ a = cc in
           let s : x .weights .clifford ≡ b = cc in
-          sym (report-reads h nodes ops scratch pool limit x q) ∙ (λ i. record { nonClifford = p i; clifford = s i })
+          sym (report-reads zeros h nodes ops scratch pool limit x q) ∙ (λ i. record { nonClifford = p i; clifford = s i })
       go (refused k) q e = let z : _≡_ {A = ℕ} 0 1 = cc in absurd (zero-is-one z)

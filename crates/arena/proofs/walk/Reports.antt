@@ -42,10 +42,10 @@ module _ (room n count : ℕ) (words : List ℕ) (w : ℕ) (named : nodeIn w < c
       rw e (ap (λ (P : Row). cond (real (P .phase)) (fine (a .work)) (refused NonHermitianAxis)) (shown-first limit a e))
 
 -- the report is about the weights of the images
-pub report-means : (limit room n count : ℕ) (words : List ℕ) (axes : List Weighed) (a : Answer) → Named count (wordsOf axes)
+pub report-means : (zeros : Bool) (limit room n count : ℕ) (words : List ℕ) (axes : List Weighed) (a : Answer) → Named count (wordsOf axes)
     → walk limit room n count words (wordsOf axes) ≡ fine a
-    → reportWalk limit room n count words axes
-    ≡ fine (record { weights = largest axes (map (λ w. weight (image n count words w .letters)) (wordsOf axes)); work = a .work })
+    → reportWalk zeros limit room n count words axes
+    ≡ fine (record { weights = largest zeros axes (map (λ w. weight (image n count words w .letters)) (wordsOf axes)); work = a .work })
 unfolding reportWalk
-report-means limit room n count words axes a h e =
-    rw e (ap (λ ks. fine (record { weights = largest axes ks; work = a .work })) (walk-weights limit room n count words (wordsOf axes) a h e))
+report-means zeros limit room n count words axes a h e =
+    rw e (ap (λ ks. fine (record { weights = largest zeros axes ks; work = a .work })) (walk-weights limit room n count words (wordsOf axes) a h e))

@@ -216,13 +216,13 @@ hermitian-work limit room n count words w work h e = go (walk limit room n count
     go (fine a) q e = by-phase (real (firstOf (a .shown) .phase)) a (walk-work limit room n count words (w ∷ []) a (h, tt) q) e
     go (refused k) q e = cc
 
-pub report-work : (limit room n count : ℕ) (words : List ℕ) (axes : List Weighed) (x : Report) → Named count (wordsOf axes) → reportWalk limit room n count words axes ≡ fine x
+pub report-work : (zeros : Bool) (limit room n count : ℕ) (words : List ℕ) (axes : List Weighed) (x : Report) → Named count (wordsOf axes) → reportWalk zeros limit room n count words axes ≡ fine x
     → x .work ≡ workOf n count words (wordsOf axes)
 unfolding reportWalk
-report-work limit room n count words axes x h e = go (walk limit room n count words (wordsOf axes)) refl e
+report-work zeros limit room n count words axes x h e = go (walk limit room n count words (wordsOf axes)) refl e
   where
     go : (o : Out Answer) → walk limit room n count words (wordsOf axes) ≡ o
-        → bind o (λ a. fine (record { weights = largest axes (map size (a .shown)); work = a .work })) ≡ fine x
+        → bind o (λ a. fine (record { weights = largest zeros axes (map size (a .shown)); work = a .work })) ≡ fine x
         → x .work ≡ workOf n count words (wordsOf axes)
     go (fine a) q e = let d = walk-work limit room n count words (wordsOf axes) a h q in cc
     go (refused k) q e = cc

@@ -132,9 +132,9 @@ module _ (limit room : ℕ) (node : ℕ → PauliNode) (depth : ℕ) where
   weighRoot w s = bind (showRoot limit room node depth (nodeIn w) s) (λ t. fine (weightOf w t))
 
   -- the axes xs in turn; m are the largest weights so far
-  abbrev pub weighRoots : List Weighed → Weights → State → Out Report
-  weighRoots [] m s = fine (record { weights = m; work = s .work })
-  weighRoots (x ∷ xs) m s = bind (weighRoot (x .word) s) (λ a. weighRoots xs (weigh (x .clifford) (a .weight) m) (a .state))
+  abbrev pub weighRoots : (zeros : Bool) → List Weighed → Weights → State → Out Report
+  weighRoots zeros [] m s = fine (record { weights = m; work = s .work })
+  weighRoots zeros (x ∷ xs) m s = bind (weighRoot (x .word) s) (λ a. weighRoots zeros xs (weigh zeros (x .kind) (a .weight) m) (a .state))
 
 -- the words stand for the walk after the root w
 pub record RootWeighed (w : ℕ) {words l p : List ℕ} {count limit : ℕ} {left : Ledger} (g : Rooted words l p count limit (nodeIn w) left)

@@ -1,21 +1,22 @@
 -- What an accepted conversion leaves can be read; its report is within the cap.
 use mathlib.Core.Path.{_≡_, refl, ap, ap₂, sym, _∙_, subst}
-use mathlib.Core.Bool.{Bool, true, false}
+use mathlib.Core.Bool.{Bool, true, false, cond, true≢false}
 use mathlib.Core.List.{List, [], _∷_, _++_, map}
 use Prim.Native.Nat.{ℕ, zero, suc, _+_, _*_, _%_, _≤_, _<_}
 use native.Mathlib.Nat.{zero-add, add-zero, add-suc, suc-add}
 use native.Mathlib.Omega.{arith}
-use borrow.Author.Tests.{lt-ltb, eqb-false}
+use borrow.Author.Tests.{lt-ltb, eqb-true}
 use lib.Dec.{eqb}
 use lib.ListN.{length, drop, length-map}
 use Rattle.pauli.specs.Angle.{eighthsOf}
 use Rattle.pauli.specs.Rows.{weight}
 use Rattle.arena.specs.Limits.{operationWords, maxGates}
 use Rattle.arena.specs.Nodes.{image}
-use Rattle.arena.specs.Operations.{sourceOf}
+use Rattle.arena.specs.declared.op.AxisKind.the-variants.{None as NoKind, Pi8, Clifford}
+use Rattle.arena.specs.Operations.{sourceOf, angleKind, axisKind}
 use Rattle.arena.specs.Builder.{overlay}
 use Rattle.arena.specs.Walk.{fine}
-use Rattle.arena.specs.Readers.{Weights, weigh, largest, wordsOf, Report}
+use Rattle.arena.specs.Readers.{Weights, countsNonClifford, raised, largest, wordsOf, Report}
 use Rattle.arena.specs.Expansion.{opAt, isBadOp, isNoSource, weighedOf, axesTo, reportStep}
 use Rattle.arena.proofs.Overlay.{length-overlay}
 use Rattle.arena.proofs.Accepted.{Sound}
@@ -148,21 +149,27 @@ module _ (n k : ℕ) (nodes : List ℕ) (cap : ℕ) where
   weightOf w = weight (image n k nodes w .letters)
 
   abbrev weightsOf : List PbcOp → Weights
-  weightsOf ops = largest (map weighedOf ops) (map weightOf (wordsOf (map weighedOf ops)))
+  weightsOf ops = largest true (map weighedOf ops) (map weightOf (wordsOf (map weighedOf ops)))
 
-  raised : (b : Bool) (w : ℕ) (m : Weights) → (b ≡ false → w ≤ cap) → m .nonClifford ≤ cap → weigh b w m .nonClifford ≤ cap
-  raised true w m h le = le
-  raised false w m h le = let l : w ≤ cap = h refl in omega arith
+  raised-within : (b : Bool) (w m : ℕ) → (b ≡ true → w ≤ cap) → m ≤ cap → raised b w m ≤ cap
+  raised-within true w m h le = let l : w ≤ cap = h refl in omega arith
+  raised-within false w m h le = le
 
-  odd : (a w : ℕ) → (a % 2 ≡ 1 → w ≤ cap) → eqb (a % 2) 0 ≡ false → w ≤ cap
-  odd a w h e = let ne : a % 2 ≡ 0 → ⊥ = eqb-false (a % 2) 0 e in h (omega arith)
+  -- an angle that is not Clifford is odd
+  odd : (a : ℕ) → countsNonClifford (angleKind a) ≡ true → a % 2 ≡ 1
+  odd a = go (eqb a 0) (eqb (a % 2) 1) refl
+    where
+      go : (b c : Bool) → eqb (a % 2) 1 ≡ c → countsNonClifford (cond b NoKind (cond c Pi8 Clifford)) ≡ true → a % 2 ≡ 1
+      go true c p e = absurd (true≢false (sym e))
+      go false true p e = eqb-true (a % 2) 1 p
+      go false false p e = absurd (true≢false (sym e))
 
   pub most-within : (ops : List PbcOp) → AllWithin cap (map (meaning n k nodes) ops) → weightsOf ops .nonClifford ≤ cap
-  unfolding meaning
+  unfolding meaning axisKind
   most-within [] h = omega arith
-  most-within (Rotate x a ∷ ops) h = raised (eqb (eighthsOf a % 2) 0) (weightOf (x .0 .word)) (weightsOf ops) (odd (eighthsOf a) (weightOf (x .0 .word)) (h .0)) (most-within ops (h .1))
-  most-within (Measure x m t ∷ ops) h = raised false (weightOf (x .0 .word)) (weightsOf ops) (λ e. h .0) (most-within ops (h .1))
-  most-within (ConditionalRotate x a m ∷ ops) h = raised (eqb (eighthsOf a % 2) 0) (weightOf (x .0 .word)) (weightsOf ops) (λ e. h .0) (most-within ops (h .1))
+  most-within (Rotate x a ∷ ops) h = raised-within (countsNonClifford (angleKind (eighthsOf a))) (weightOf (x .0 .word)) (weightsOf ops .nonClifford) (λ e. h .0 (odd (eighthsOf a) e)) (most-within ops (h .1))
+  most-within (Measure x m t ∷ ops) h = raised-within true (weightOf (x .0 .word)) (weightsOf ops .nonClifford) (λ e. h .0) (most-within ops (h .1))
+  most-within (ConditionalRotate x a m ∷ ops) h = raised-within (countsNonClifford (angleKind (eighthsOf a))) (weightOf (x .0 .word)) (weightsOf ops .nonClifford) (λ e. h .0) (most-within ops (h .1))
   most-within (Malformed ∷ ops) h = absurd (h .0)
 
 ops-without : (op : ℕ → From PbcOp) (i k : ℕ) → withoutIndex (opsFrom op i k) ≡ opsFrom (λ j. op j .what) i k
@@ -172,11 +179,11 @@ ops-without op i (suc k) = ap (λ l. op i .what ∷ l) (ops-without op (suc i) k
 -- the report on any circuit whose operations are within the cap
 pub report-within : (h : Header) (nodes ops scratch pool : List ℕ) (limit : ℕ) (r : Report) (cap : ℕ) → reportStep h nodes ops scratch pool limit .answer ≡ fine r
     → AllWithin cap (withoutIndex (operationsIn h nodes ops)) → r .weights .nonClifford ≤ cap
-unfolding operationsIn
+unfolding operationsIn reportStep
 report-within h nodes ops scratch pool limit r cap p w =
     subst (λ (m : Weights). m .nonClifford ≤ cap)
-    (sym (report-reads h nodes ops scratch pool limit r p
-    ∙ ap (λ axes. largest axes (map (λ w. weight (image (h .qubits) (h .nodes) nodes w .letters)) (wordsOf axes))) (axes-are (opAt h ops) (h .operations))))
+    (sym (report-reads true h nodes ops scratch pool limit r p
+    ∙ ap (λ axes. largest true axes (map (λ w. weight (image (h .qubits) (h .nodes) nodes w .letters)) (wordsOf axes))) (axes-are (opAt h ops) (h .operations))))
     (most-within (h .qubits) (h .nodes) nodes cap (opsFrom (opAt h ops) 0 (h .operations)) (subst (AllWithin cap) plain w))
   where
     plain : withoutIndex (map (mapFrom (meaning (h .qubits) (h .nodes) nodes)) (opsFrom (opFrom h ops) 0 (h .operations)))

@@ -12,7 +12,7 @@ word-at-requires : tie.Need-word-at-requires
 word-at-requires c κs = search needs
 
 returns : tie.Need-returns
-returns c = λ h sound. rw (c .word-at .ensures) (clifford-read h (c .before .before .args .operations .now) (c .before .before .args .index) sound)
+returns c = λ h sound. rw (c .word-at .ensures) (clifford-read h (c .before .before .args .operations .now) (c .before .before .args .index) sound (c .before .before .args .zeros))
 
 pub counts-as-clifford-spec : {M : Type 1} → statement M
 counts-as-clifford-spec = tie.close (tie.spec mul-word-at word-at-requires returns)

@@ -73,7 +73,7 @@ returns c =
     let pre = back12 .before .before .before .before .before .before .before .before .before .before .before .before .pre in
     report-refused (args .operations .now) (pre .0) (pre .1) (pre .2) (zero-all .ensures) (count-axes .ensures) (count-axes .kept .1 .1 .0)
     (args .limit) (args .pool .now) (begin .ensures (axes-rootable (args .operations .now) (pre .0) (pre .1) (pre .2) (zero-all .ensures)
-    (count-axes .ensures) (count-axes .kept .1 .1 .0))) (ap evaluatedOut (e .given .1))
+    (count-axes .ensures) (count-axes .kept .1 .1 .0))) (args .zeros) (ap evaluatedOut (e .given .1))
 
 same-length-3 : tie.Need-same-length-3
 same-length-3 c =
@@ -103,7 +103,7 @@ returns-2 c =
     (zero-all .ensures) (count-axes .ensures) (count-axes .kept .1 .1 .0))) (ap evaluatedOut (left .given .1))) ∙ sym (ap maxWeightsOf (report-is
     (args .operations .now) (pre .0) (pre .1) (pre .2) (zero-all .ensures) (count-axes .ensures) (count-axes .kept .1 .1 .0) (args .limit)
     (args .pool .now) (begin .ensures (axes-rootable (args .operations .now) (pre .0) (pre .1) (pre .2) (zero-all .ensures) (count-axes .ensures)
-    (count-axes .kept .1 .1 .0))) (ap evaluatedOut (left .given .1))))
+    (count-axes .kept .1 .1 .0))) (ap evaluatedOut (left .given .1)) (args .zeros)))
 
 pub report-walk-spec : {M : Type 1} → statement M
 report-walk-spec =
