@@ -97,20 +97,15 @@ module _ (a : ℕ) (low : a < 8) where
       go false true p q = refl
       go false false p q = refl
 
-  even-counts : (zeros : Bool) → (eqb (a % 2) 0 && (zeros || not (eqb a 0))) ≡ countsClifford zeros (angleKind (a % 8 % 8))
-  even-counts zeros = go (eqb a 0) (eqb (a % 2) 0) (eqb (a % 2) 1) zeros refl refl refl ∙ ap (countsClifford zeros) (sym kind-is)
+  even-counts : (zeros : Bool) → (not (eqb (a % 2) 1) && (zeros || not (eqb a 0))) ≡ countsClifford zeros (angleKind (a % 8 % 8))
+  even-counts zeros = go (eqb a 0) (eqb (a % 2) 1) zeros refl refl ∙ ap (countsClifford zeros) (sym kind-is)
     where
-      go : (b c d zeros : Bool) → eqb a 0 ≡ b → eqb (a % 2) 0 ≡ c → eqb (a % 2) 1 ≡ d → (c && (zeros || not b)) ≡ countsClifford zeros (cond b NoKind (cond d Pi8 Clifford))
-      go true true d zeros p q r = sym (or-false zeros)
-      go true false d zeros p q r = let e : a ≡ 0 = eqb-true a 0 p in let f : a % 2 ≡ 0 → ⊥ = eqb-false (a % 2) 0 q in absurd (f (omega arith))
-      go false true true zeros p q r = let e : a % 2 ≡ 0 = eqb-true (a % 2) 0 q in let f : a % 2 ≡ 1 = eqb-true (a % 2) 1 r in absurd (omega arith)
-      go false true false true p q r = refl
-      go false true false false p q r = refl
-      go false false true zeros p q r = refl
-      go false false false zeros p q r =
-          let e : a % 2 ≡ 0 → ⊥ = eqb-false (a % 2) 0 q in
-          let f : a % 2 ≡ 1 → ⊥ = eqb-false (a % 2) 1 r in
-          absurd (e (omega (arith, f)))
+      go : (b c zeros : Bool) → eqb a 0 ≡ b → eqb (a % 2) 1 ≡ c → (not c && (zeros || not b)) ≡ countsClifford zeros (cond b NoKind (cond c Pi8 Clifford))
+      go true true zeros p q = let e : a ≡ 0 = eqb-true a 0 p in let f : a % 2 ≡ 1 = eqb-true (a % 2) 1 q in absurd (omega arith)
+      go true false zeros p q = sym (or-false zeros)
+      go false true zeros p q = refl
+      go false false true p q = refl
+      go false false false p q = refl
 
 module _ (h : Header) (owner cbits a w m t : ℕ) where
   -- the angle of a formed rotation
@@ -126,7 +121,7 @@ module _ (h : Header) (owner cbits a w m t : ℕ) where
   word-as (suc (suc zero)) s = formed axisWord h (ltb a 8 && eqb t 0) _ (λ e. refl) s
   word-as (suc (suc (suc k))) s = absurd (true≢false s)
 
-  other-as : (k : ℕ) → isBadOp h (decodeOpAs k owner cbits a w m t) ≡ false → (eqb k 1 || eqb (a % 2) 1) ≡ countsNonClifford (axisKind (decodeOpAs k owner cbits a w m t))
+  other-as : (k : ℕ) → isBadOp h (decodeOpAs k owner cbits a w m t) ≡ false → (eqb (k % 2) 1 || eqb (a % 2) 1) ≡ countsNonClifford (axisKind (decodeOpAs k owner cbits a w m t))
   unfolding axisKind
   other-as zero s = formed (λ op. countsNonClifford (axisKind op)) h (ltb a 8 && eqb m 0 && eqb t 0) _ (λ e. odd-counts a (turn-low e)) s
   other-as (suc zero) s = formed (λ op. countsNonClifford (axisKind op)) h (eqb a 0 && leb t cbits) _ (λ e. refl) s
@@ -134,12 +129,20 @@ module _ (h : Header) (owner cbits a w m t : ℕ) where
   other-as (suc (suc (suc k))) s = absurd (true≢false s)
 
   clifford-as : (zeros : Bool) (k : ℕ) → isBadOp h (decodeOpAs k owner cbits a w m t) ≡ false
-      → (not (eqb k 1) && eqb (a % 2) 0 && (zeros || not (eqb a 0))) ≡ countsClifford zeros (axisKind (decodeOpAs k owner cbits a w m t))
+      → (not (eqb (k % 2) 1 || eqb (a % 2) 1) && (zeros || not (eqb a 0))) ≡ countsClifford zeros (axisKind (decodeOpAs k owner cbits a w m t))
   unfolding axisKind
   clifford-as zeros zero s = formed (λ op. countsClifford zeros (axisKind op)) h (ltb a 8 && eqb m 0 && eqb t 0) _ (λ e. even-counts a (turn-low e) zeros) s
   clifford-as zeros (suc zero) s = formed (λ op. countsClifford zeros (axisKind op)) h (eqb a 0 && leb t cbits) _ (λ e. refl) s
   clifford-as zeros (suc (suc zero)) s = formed (λ op. countsClifford zeros (axisKind op)) h (ltb a 8 && eqb t 0) _ (λ e. even-counts a (low (eqb t 0) e) zeros) s
   clifford-as zeros (suc (suc (suc k))) s = absurd (true≢false s)
+
+-- an angle that is not 0
+past-three : (first : ℕ) → ltb 3 first ≡ not (eqb (first / 4) 0)
+past-three first = go (ltb 3 first) refl
+  where
+    go : (b : Bool) → ltb 3 first ≡ b → b ≡ not (eqb (first / 4) 0)
+    go true p = let lt = ltb-true 3 first p in sym (ap not (ne-eqb (first / 4) 0 (λ e. omega (arith, lt, e))))
+    go false p = let le = ltb-false 3 first p in sym (ap not (eq-eqb (first / 4) 0 (omega (arith, le))))
 
 module _ (h : Header) (ops : List ℕ) (i : ℕ) (sound : isBadOp h (opAt h ops i) ≡ false) where
   pub word-read : getD ops (5 * i + 1) 0 ≡ weighedAt h ops i .word
@@ -147,13 +150,18 @@ module _ (h : Header) (ops : List ℕ) (i : ℕ) (sound : isBadOp h (opAt h ops 
   word-read =
       word-as h (h .owner) (h .cbits) (getD ops (5 * i) 0 / 4) (getD ops (5 * i + 1) 0) (getD ops (5 * i + 2) 0) (getD ops (5 * i + 3) 0) (getD ops (5 * i) 0 % 4) sound
 
-  pub other-read : (eqb (getD ops (5 * i) 0 % 4) 1 || eqb (getD ops (5 * i) 0 / 4 % 2) 1) ≡ countsNonClifford (weighedAt h ops i .kind)
-  unfolding opAt decodeOp
-  other-read =
-      other-as h (h .owner) (h .cbits) (getD ops (5 * i) 0 / 4) (getD ops (5 * i + 1) 0) (getD ops (5 * i + 2) 0) (getD ops (5 * i + 3) 0) (getD ops (5 * i) 0 % 4) sound
+  abbrev first : ℕ
+  first = getD ops (5 * i) 0
 
-  pub clifford-read : (zeros : Bool)
-      → (not (eqb (getD ops (5 * i) 0 % 4) 1) && eqb (getD ops (5 * i) 0 / 4 % 2) 0 && (zeros || not (eqb (getD ops (5 * i) 0 / 4) 0))) ≡ countsClifford zeros (weighedAt h ops i .kind)
+  same-parity : first % 2 ≡ first % 4 % 2
+  same-parity = omega arith
+
+  pub other-read : (eqb (first % 2) 1 || eqb (first / 4 % 2) 1) ≡ countsNonClifford (weighedAt h ops i .kind)
+  unfolding opAt decodeOp
+  other-read = rw same-parity (other-as h (h .owner) (h .cbits) (first / 4) (getD ops (5 * i + 1) 0) (getD ops (5 * i + 2) 0) (getD ops (5 * i + 3) 0) (first % 4) sound)
+
+  pub clifford-read : (zeros : Bool) → (not (eqb (first % 2) 1 || eqb (first / 4 % 2) 1) && (zeros || ltb 3 first)) ≡ countsClifford zeros (weighedAt h ops i .kind)
   unfolding opAt decodeOp
   clifford-read zeros =
-      clifford-as h (h .owner) (h .cbits) (getD ops (5 * i) 0 / 4) (getD ops (5 * i + 1) 0) (getD ops (5 * i + 2) 0) (getD ops (5 * i + 3) 0) zeros (getD ops (5 * i) 0 % 4) sound
+      rw (same-parity, past-three first)
+      (clifford-as h (h .owner) (h .cbits) (first / 4) (getD ops (5 * i + 1) 0) (getD ops (5 * i + 2) 0) (getD ops (5 * i + 3) 0) zeros (first % 4) sound)

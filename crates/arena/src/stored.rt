@@ -8,6 +8,7 @@ use crate::limits::OPERATION_WORDS;
 use crate::pool::wide;
 ghost use mathlib.Core.Path.{_≡_};
 ghost use mathlib.Core.Bool.{true, false, _||_};
+ghost use mathlib.Core.List.{List};
 ghost use Prim.Native.Nat.{ℕ, _+_, _*_, _≤_, _<_};
 ghost use lib.ListN.{length, getD};
 ghost use Rattle.arena.specs.Limits.{maxQubits, nodeWords, operationWords};
@@ -205,20 +206,25 @@ pub(crate) fn axis_word(operations: &[u32], index: u32) -> usize
     wide(word_at(operations, OPERATION_WORDS * (index as usize) + 1))
 }
 
-// Whether an operation that is not bad counts as Clifford in a weight report: no measurement, and an even angle; zeros says whether 0 counts.
-pub(crate) fn counts_as_clifford(operations: &[u32], index: u32, zeros: bool) -> bool
-    ensures { λ r. ⌜ ((h : Header) → isBadOp h (opAt h (now (operations .entry)) index) ≡ false
-        → r ≡ countsClifford zeros (weighedAt h (now (operations .entry)) index .kind)) ⌝ }
+// The first word of an operation.
+pub(crate) fn first_word(operations: &[u32], index: u32) -> u32
+    ensures { λ r. ⌜ r ≡ getD (now (operations .entry)) (operationWords * index) 0 ⌝ }
 {
-    let first = word_at(operations, OPERATION_WORDS * (index as usize));
-    !(first % 4 == 1) & (first / 4 % 2 == 0) & (zeros | (first / 4 != 0))
+    word_at(operations, OPERATION_WORDS * (index as usize))
 }
 
-// Whether it counts as not Clifford: a measurement, or an odd angle.
-pub(crate) fn counts_as_non_clifford(operations: &[u32], index: u32) -> bool
-    ensures { λ r. ⌜ ((h : Header) → isBadOp h (opAt h (now (operations .entry)) index) ≡ false
-        → r ≡ countsNonClifford (weighedAt h (now (operations .entry)) index .kind)) ⌝ }
+// Whether an operation that is not bad, with this first word, counts as not Clifford in a weight report: a measurement, or an odd angle.
+pub(crate) fn counts_as_non_clifford(first: u32) -> bool
+    ensures { λ r. ⌜ ((h : Header) (ops : List ℕ) (i : ℕ) → first ≡ getD ops (operationWords * i) 0 → isBadOp h (opAt h ops i) ≡ false
+        → r ≡ countsNonClifford (weighedAt h ops i .kind)) ⌝ }
 {
-    let first = word_at(operations, OPERATION_WORDS * (index as usize));
-    (first % 4 == 1) | (first / 4 % 2 == 1)
+    (first % 2 == 1) | (first / 4 % 2 == 1)
+}
+
+// Whether it counts as Clifford: neither, and zeros says whether an angle of 0 counts.
+pub(crate) fn counts_as_clifford(first: u32, zeros: bool) -> bool
+    ensures { λ r. ⌜ ((h : Header) (ops : List ℕ) (i : ℕ) → first ≡ getD ops (operationWords * i) 0 → isBadOp h (opAt h ops i) ≡ false
+        → r ≡ countsClifford zeros (weighedAt h ops i .kind)) ⌝ }
+{
+    !((first % 2 == 1) | (first / 4 % 2 == 1)) & (zeros | (3 < first))
 }

@@ -18,6 +18,7 @@ use crate::scratch::zero_all;
 use crate::stored::axis_word;
 use crate::stored::counts_as_clifford;
 use crate::stored::counts_as_non_clifford;
+use crate::stored::first_word;
 ghost use mathlib.Core.Path.{_≡_};
 ghost use Prim.Native.Nat.{_-_, _≤_};
 ghost use lib.ListN.{length};
@@ -113,9 +114,10 @@ fn weigh_axes(
         match weigh_root(header, nodes, s, pool, limit, w, left) {
             AxisWeight::Refused(e) => return MaxAxisWeights::Refused(e),
             AxisWeight::Weighed(k, rest) => {
-                let other = counts_as_non_clifford(operations, i);
+                let first = first_word(operations, i);
+                let other = counts_as_non_clifford(first);
                 non_clifford = raised(other, k, non_clifford);
-                let even = counts_as_clifford(operations, i, zeros);
+                let even = counts_as_clifford(first, zeros);
                 clifford = raised(even, k, clifford);
                 left = rest;
                 i += 1;

@@ -1,18 +1,11 @@
 -- `counts_as_clifford` meets its contract.
-use Prim.Native.Nat.{_-_}
-use borrow.Author.Needs.{needs}
+use mathlib.Core.Path.{_≡_}
 use Rattle.arena.proofs.SoundOperations.{clifford-read}
 use Rattle.arena.proofs.stored.counts_as_clifford.Statement.{statement}
 use Rattle.arena.proofs.stored.counts_as_clifford.Tie as tie
 
-mul-word-at : tie.Need-mul-word-at
-mul-word-at c = search needs
-
-word-at-requires : tie.Need-word-at-requires
-word-at-requires c κs = search needs
-
 returns : tie.Need-returns
-returns c = λ h sound. rw (c .word-at .ensures) (clifford-read h (c .before .before .args .operations .now) (c .before .before .args .index) sound (c .before .before .args .zeros))
+returns c = λ h ops i e sound. rw e (clifford-read h ops i sound (c .args .zeros))
 
 pub counts-as-clifford-spec : {M : Type 1} → statement M
-counts-as-clifford-spec = tie.close (tie.spec mul-word-at word-at-requires returns)
+counts-as-clifford-spec = tie.close (tie.spec returns)

@@ -72,6 +72,9 @@ returns c =
 enum-known-k : tie.Need-enum-known-k Inv-loop μ-loop
 enum-known-k c = search needs
 
+first-word-requires : tie.Need-first-word-requires Inv-loop μ-loop
+first-word-requires c κs = search needs
+
 counts-as-non-clifford-requires : tie.Need-counts-as-non-clifford-requires Inv-loop μ-loop
 counts-as-non-clifford-requires c κs = search needs
 
@@ -86,27 +89,28 @@ raised-requires-2 c κs = search needs
 
 add-i : tie.Need-add-i Inv-loop μ-loop
 add-i c =
-    let loop-test = c .before .before .before .before .before .before .before .before .before .before .before .before .before .before .before .loop-test in
-    let good = c .before .before .before .before .before .before .before .before .before .before .before .before .before .before .before .before .before .before .before .before .before .good in
+    let loop-test = c .before .before .before .before .before .before .before .before .before .before .before .before .before .before .before .before .loop-test in
+    let good = c .before .before .before .before .before .before .before .before .before .before .before .before .before .before .before .before .before .before .before .before .before .before .good in
     record { fits = omega (arith, loop-test .taken, good .0) }
 
 loop-less : tie.Need-loop-less Inv-loop μ-loop
-loop-less c = omega (arith, c .before .before .before .before .before .before .before .before .before .before .before .before .before .before .before .loop-test .taken)
+loop-less c = omega (arith, c .before .before .before .before .before .before .before .before .before .before .before .before .before .before .before .before .loop-test .taken)
 
 loop-again : tie.Need-loop-again Inv-loop μ-loop
 loop-again c =
     let raised = c .before .before .raised in
-    let k = c .before .before .before .before .before .k in
-    let weigh-root = c .before .before .before .before .before .before .before .before .before .before .before .weigh-root in
-    let back11 = c .before .before .before .before .before .before .before .before .before .before .before in
-    let loop-test = back11 .before .before .before .before .loop-test in
-    let the-loop = back11 .before .before .before .before .before .loop in
-    let args = back11 .before .before .before .before .before .before .before .before .before .before .args in
+    let first = c .before .before .before .before .first-word .ensures in
+    let k = c .before .before .before .before .before .before .k in
+    let weigh-root = c .before .before .before .before .before .before .before .before .before .before .before .before .weigh-root in
+    let back12 = c .before .before .before .before .before .before .before .before .before .before .before .before in
+    let loop-test = back12 .before .before .before .before .loop-test in
+    let the-loop = back12 .before .before .before .before .before .loop in
+    let args = back12 .before .before .before .before .before .before .before .before .before .before .args in
     λ g.
     let sound = g .sound _ (loop-test .taken) in
-    let word = back11 .before .before .before .axis-word .ensures (args .header) sound in
+    let word = back12 .before .before .before .axis-word .ensures (args .header) sound in
     weigh-turn g (args .zeros) (the-loop .inv g) (loop-test .taken) word (weigh-root .ensures (axis-rooted g (the-loop .inv g .rest) (loop-test .taken) word))
-    (ap axisWeightOut (k .given .1)) (c .before .before .before .counts-as-non-clifford .ensures (args .header) sound) (c .before .counts-as-clifford .ensures (args .header) sound)
+    (ap axisWeightOut (k .given .1)) (c .before .before .before .counts-as-non-clifford .ensures (args .header) _ _ first sound) (c .before .counts-as-clifford .ensures (args .header) _ _ first sound)
     (weigh-root .kept .1 .1 .0 ∙ the-loop .inv g .long) (weigh-root .kept .1 .1 .1 .0 ∙ the-loop .inv g .pool-long) (raised .ensures) (c .raised2 .ensures)
 
 same-length-3 : tie.Need-same-length-3 Inv-loop μ-loop
@@ -132,6 +136,7 @@ weigh-axes-spec =
     same-length-2
     returns
     enum-known-k
+    first-word-requires
     counts-as-non-clifford-requires
     raised-requires
     counts-as-clifford-requires
