@@ -9,8 +9,7 @@ use lib.Dec.{leb, ltb, eqb}
 use lib.ListN.{getD}
 use Rattle.arena.specs.Limits.{maxGates, handMark}
 use Rattle.arena.specs.References.{nodeIn}
-use Rattle.arena.specs.Operations.{PbcOp, Malformed, OfGate, ByHand, NoSource, NoKind, Pi8, Clifford, decodeOpAs, decodeOp, sourceOf, angleKind, axisKind}
-use Rattle.arena.specs.Readers.{countsNonClifford, countsClifford}
+use Rattle.arena.specs.Operations.{PbcOp, Malformed, OfGate, ByHand, NoSource, Measurement, decodeOpAs, decodeOp, sourceOf, angleKind, axisKind}
 use Rattle.arena.specs.Store.{Header, foreign, unknown, exceedsOperations}
 use Rattle.arena.specs.Expansion.{opAt, isBadOp, isNoSource, axisWord}
 use Rattle.arena.specs.Code.Roots.{weighedAt}
@@ -83,66 +82,22 @@ formed : {A : Type 0} (f : PbcOp → A) (h : Header) (t : Bool) (op : PbcOp) {v 
 formed f h true op e s = e refl
 formed f h false op e s = absurd (true≢false s)
 
--- how an angle counts in a report
-module _ (a : ℕ) (low : a < 8) where
-  kind-is : angleKind (a % 8 % 8) ≡ cond (eqb a 0) NoKind (cond (eqb (a % 2) 1) Pi8 Clifford)
-  kind-is = let e : a % 8 % 8 ≡ a = omega arith in ap angleKind e
-
-  odd-counts : eqb (a % 2) 1 ≡ countsNonClifford (angleKind (a % 8 % 8))
-  odd-counts = go (eqb a 0) (eqb (a % 2) 1) refl refl ∙ ap countsNonClifford (sym kind-is)
-    where
-      go : (b c : Bool) → eqb a 0 ≡ b → eqb (a % 2) 1 ≡ c → c ≡ countsNonClifford (cond b NoKind (cond c Pi8 Clifford))
-      go true true p q = let e : a ≡ 0 = eqb-true a 0 p in let f : a % 2 ≡ 1 = eqb-true (a % 2) 1 q in absurd (omega arith)
-      go true false p q = refl
-      go false true p q = refl
-      go false false p q = refl
-
-  even-counts : (zeros : Bool) → (not (eqb (a % 2) 1) && (zeros || not (eqb a 0))) ≡ countsClifford zeros (angleKind (a % 8 % 8))
-  even-counts zeros = go (eqb a 0) (eqb (a % 2) 1) zeros refl refl ∙ ap (countsClifford zeros) (sym kind-is)
-    where
-      go : (b c zeros : Bool) → eqb a 0 ≡ b → eqb (a % 2) 1 ≡ c → (not c && (zeros || not b)) ≡ countsClifford zeros (cond b NoKind (cond c Pi8 Clifford))
-      go true true zeros p q = let e : a ≡ 0 = eqb-true a 0 p in let f : a % 2 ≡ 1 = eqb-true (a % 2) 1 q in absurd (omega arith)
-      go true false zeros p q = sym (or-false zeros)
-      go false true zeros p q = refl
-      go false false true p q = refl
-      go false false false p q = refl
-
 module _ (h : Header) (owner cbits a w m t : ℕ) where
-  -- the angle of a formed rotation
-  low : (b : Bool) → (ltb a 8 && b) ≡ true → a < 8
-  low b e = ltb-true a 8 (both-true (ltb a 8) b e .0)
-
-  turn-low : (ltb a 8 && eqb m 0 && eqb t 0) ≡ true → a < 8
-  turn-low e = low (eqb m 0) (both-true (ltb a 8 && eqb m 0) (eqb t 0) e .0)
-
   word-as : (k : ℕ) → isBadOp h (decodeOpAs k owner cbits a w m t) ≡ false → w ≡ axisWord (decodeOpAs k owner cbits a w m t)
   word-as zero s = formed axisWord h (ltb a 8 && eqb m 0 && eqb t 0) _ (λ e. refl) s
   word-as (suc zero) s = formed axisWord h (eqb a 0 && leb t cbits) _ (λ e. refl) s
   word-as (suc (suc zero)) s = formed axisWord h (ltb a 8 && eqb t 0) _ (λ e. refl) s
   word-as (suc (suc (suc k))) s = absurd (true≢false s)
 
-  other-as : (k : ℕ) → isBadOp h (decodeOpAs k owner cbits a w m t) ≡ false → (eqb (k % 2) 1 || eqb (a % 2) 1) ≡ countsNonClifford (axisKind (decodeOpAs k owner cbits a w m t))
-  unfolding axisKind
-  other-as zero s = formed (λ op. countsNonClifford (axisKind op)) h (ltb a 8 && eqb m 0 && eqb t 0) _ (λ e. odd-counts a (turn-low e)) s
-  other-as (suc zero) s = formed (λ op. countsNonClifford (axisKind op)) h (eqb a 0 && leb t cbits) _ (λ e. refl) s
-  other-as (suc (suc zero)) s = formed (λ op. countsNonClifford (axisKind op)) h (ltb a 8 && eqb t 0) _ (λ e. odd-counts a (low (eqb t 0) e)) s
-  other-as (suc (suc (suc k))) s = absurd (true≢false s)
+  reduced : angleKind (a % 8) ≡ angleKind (a % 8 % 8)
+  reduced = let e : a % 8 ≡ a % 8 % 8 = omega arith in ap angleKind e
 
-  clifford-as : (zeros : Bool) (k : ℕ) → isBadOp h (decodeOpAs k owner cbits a w m t) ≡ false
-      → (not (eqb (k % 2) 1 || eqb (a % 2) 1) && (zeros || not (eqb a 0))) ≡ countsClifford zeros (axisKind (decodeOpAs k owner cbits a w m t))
+  kind-as : (k : ℕ) → isBadOp h (decodeOpAs k owner cbits a w m t) ≡ false → cond (eqb (k % 2) 1) Measurement (angleKind (a % 8)) ≡ axisKind (decodeOpAs k owner cbits a w m t)
   unfolding axisKind
-  clifford-as zeros zero s = formed (λ op. countsClifford zeros (axisKind op)) h (ltb a 8 && eqb m 0 && eqb t 0) _ (λ e. even-counts a (turn-low e) zeros) s
-  clifford-as zeros (suc zero) s = formed (λ op. countsClifford zeros (axisKind op)) h (eqb a 0 && leb t cbits) _ (λ e. refl) s
-  clifford-as zeros (suc (suc zero)) s = formed (λ op. countsClifford zeros (axisKind op)) h (ltb a 8 && eqb t 0) _ (λ e. even-counts a (low (eqb t 0) e) zeros) s
-  clifford-as zeros (suc (suc (suc k))) s = absurd (true≢false s)
-
--- an angle that is not 0
-past-three : (first : ℕ) → ltb 3 first ≡ not (eqb (first / 4) 0)
-past-three first = go (ltb 3 first) refl
-  where
-    go : (b : Bool) → ltb 3 first ≡ b → b ≡ not (eqb (first / 4) 0)
-    go true p = let lt = ltb-true 3 first p in sym (ap not (ne-eqb (first / 4) 0 (λ e. omega (arith, lt, e))))
-    go false p = let le = ltb-false 3 first p in sym (ap not (eq-eqb (first / 4) 0 (omega (arith, le))))
+  kind-as zero s = formed axisKind h (ltb a 8 && eqb m 0 && eqb t 0) _ (λ e. reduced) s
+  kind-as (suc zero) s = formed axisKind h (eqb a 0 && leb t cbits) _ (λ e. refl) s
+  kind-as (suc (suc zero)) s = formed axisKind h (ltb a 8 && eqb t 0) _ (λ e. reduced) s
+  kind-as (suc (suc (suc k))) s = absurd (true≢false s)
 
 module _ (h : Header) (ops : List ℕ) (i : ℕ) (sound : isBadOp h (opAt h ops i) ≡ false) where
   pub word-read : getD ops (5 * i + 1) 0 ≡ weighedAt h ops i .word
@@ -156,12 +111,6 @@ module _ (h : Header) (ops : List ℕ) (i : ℕ) (sound : isBadOp h (opAt h ops 
   same-parity : first % 2 ≡ first % 4 % 2
   same-parity = omega arith
 
-  pub other-read : (eqb (first % 2) 1 || eqb (first / 4 % 2) 1) ≡ countsNonClifford (weighedAt h ops i .kind)
+  pub kind-read : cond (eqb (first % 2) 1) Measurement (angleKind (first / 4 % 8)) ≡ weighedAt h ops i .kind
   unfolding opAt decodeOp
-  other-read = rw same-parity (other-as h (h .owner) (h .cbits) (first / 4) (getD ops (5 * i + 1) 0) (getD ops (5 * i + 2) 0) (getD ops (5 * i + 3) 0) (first % 4) sound)
-
-  pub clifford-read : (zeros : Bool) → (not (eqb (first % 2) 1 || eqb (first / 4 % 2) 1) && (zeros || ltb 3 first)) ≡ countsClifford zeros (weighedAt h ops i .kind)
-  unfolding opAt decodeOp
-  clifford-read zeros =
-      rw (same-parity, past-three first)
-      (clifford-as h (h .owner) (h .cbits) (first / 4) (getD ops (5 * i + 1) 0) (getD ops (5 * i + 2) 0) (getD ops (5 * i + 3) 0) zeros (first % 4) sound)
+  kind-read = rw same-parity (kind-as h (h .owner) (h .cbits) (first / 4) (getD ops (5 * i + 1) 0) (getD ops (5 * i + 2) 0) (getD ops (5 * i + 3) 0) (first % 4) sound)

@@ -160,7 +160,7 @@ impl AxisKind {
     }
 }
 
-fn kind_of(eighths: u8) -> AxisKind
+pub(crate) fn kind_of(eighths: u8) -> AxisKind
     ensures { λ r. ⌜ r ≡ angleKind eighths ⌝ }
 {
     if eighths == 0 {

@@ -5,17 +5,17 @@ use crate::limits::HAND_MARK;
 use crate::limits::MAX_GATES;
 use crate::limits::NODE_WORDS;
 use crate::limits::OPERATION_WORDS;
+use crate::op::AxisKind;
+use crate::op::kind_of;
 use crate::pool::wide;
 ghost use mathlib.Core.Path.{_≡_};
 ghost use mathlib.Core.Bool.{true, false, _||_};
-ghost use mathlib.Core.List.{List};
 ghost use Prim.Native.Nat.{ℕ, _+_, _*_, _≤_, _<_};
 ghost use lib.ListN.{length, getD};
 ghost use Rattle.arena.specs.Limits.{maxQubits, nodeWords, operationWords};
 ghost use Rattle.arena.specs.Nodes.{decode, nodeAt};
 ghost use Rattle.arena.specs.Expansion.{isMalformed, anyMalformed, badNodes, opAt, isBadOp, isNoSource, isBadAt, anyBadOp, badOperations};
 ghost use Rattle.arena.specs.Operations.{decodeOp, sourceOf};
-ghost use Rattle.arena.specs.Readers.{countsNonClifford, countsClifford};
 ghost use Rattle.arena.specs.Code.Stored.{isProduct, isSingle, isIdentity, isRotation, isMeasurement, isConditional, isSource};
 ghost use Rattle.arena.specs.Store.{Header};
 ghost use Rattle.arena.specs.Code.Roots.{weighedAt};
@@ -206,25 +206,13 @@ pub(crate) fn axis_word(operations: &[u32], index: u32) -> usize
     wide(word_at(operations, OPERATION_WORDS * (index as usize) + 1))
 }
 
-// The first word of an operation.
-pub(crate) fn first_word(operations: &[u32], index: u32) -> u32
-    ensures { λ r. ⌜ r ≡ getD (now (operations .entry)) (operationWords * index) 0 ⌝ }
+// The kind of the axis of an operation that is not bad.
+pub(crate) fn kind_at(operations: &[u32], index: u32) -> AxisKind
+    ensures { λ r. ⌜ ((h : Header) → isBadOp h (opAt h (now (operations .entry)) index) ≡ false → r ≡ weighedAt h (now (operations .entry)) index .kind) ⌝ }
 {
-    word_at(operations, OPERATION_WORDS * (index as usize))
-}
-
-// Whether an operation that is not bad, with this first word, counts as not Clifford in a weight report: a measurement, or an odd angle.
-pub(crate) fn counts_as_non_clifford(first: u32) -> bool
-    ensures { λ r. ⌜ ((h : Header) (ops : List ℕ) (i : ℕ) → first ≡ getD ops (operationWords * i) 0 → isBadOp h (opAt h ops i) ≡ false
-        → r ≡ countsNonClifford (weighedAt h ops i .kind)) ⌝ }
-{
-    (first % 2 == 1) | (first / 4 % 2 == 1)
-}
-
-// Whether it counts as Clifford: neither, and zeros says whether an angle of 0 counts.
-pub(crate) fn counts_as_clifford(first: u32, zeros: bool) -> bool
-    ensures { λ r. ⌜ ((h : Header) (ops : List ℕ) (i : ℕ) → first ≡ getD ops (operationWords * i) 0 → isBadOp h (opAt h ops i) ≡ false
-        → r ≡ countsClifford zeros (weighedAt h ops i .kind)) ⌝ }
-{
-    !((first % 2 == 1) | (first / 4 % 2 == 1)) & (zeros | (3 < first))
+    let first = word_at(operations, OPERATION_WORDS * (index as usize));
+    if first % 2 == 1 {
+        return AxisKind::Measurement;
+    }
+    kind_of((first / 4 % 8) as u8)
 }

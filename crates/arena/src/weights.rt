@@ -6,6 +6,7 @@ use crate::error::PbcError;
 use crate::expansion::MaxAxisWeights;
 use crate::header::Header;
 use crate::materialize::Evaluated;
+use crate::op::AxisKind;
 use crate::pool::Ledger;
 use crate::pool::cap_of;
 use crate::roots::Shown;
@@ -16,15 +17,13 @@ use crate::roots::wipe;
 use crate::scratch::add_use;
 use crate::scratch::zero_all;
 use crate::stored::axis_word;
-use crate::stored::counts_as_clifford;
-use crate::stored::counts_as_non_clifford;
-use crate::stored::first_word;
+use crate::stored::kind_at;
 ghost use mathlib.Core.Path.{_≡_};
 ghost use Prim.Native.Nat.{_-_, _≤_};
 ghost use lib.ListN.{length};
 ghost use Rattle.arena.specs.References.{nodeIn};
 ghost use Rattle.arena.specs.Nodes.{nodeAt};
-ghost use Rattle.arena.specs.Readers.{raised, reportWalk};
+ghost use Rattle.arena.specs.Readers.{countsNonClifford, countsClifford, raised, reportWalk};
 ghost use Rattle.arena.specs.Store.{Header};
 ghost use Rattle.arena.specs.Expansion.{maxWeightsOf, reportBy, reportStep, kindReportStep};
 ghost use Rattle.arena.specs.Code.Results.{Says, axisWeightOut};
@@ -44,6 +43,28 @@ pub(crate) fn count_axes(header: Header, operations: &[u32], s: &mut [u32])
         add_use(s, w / 4);
         i += 1;
     }
+}
+
+// Whether a weight report counts an axis of this kind as not Clifford.
+fn counts_as_non_clifford(kind: AxisKind) -> bool
+    ensures { λ r. ⌜ r ≡ countsNonClifford kind ⌝ }
+{
+    match kind {
+        AxisKind::None => false,
+        AxisKind::Pi8 => true,
+        AxisKind::Clifford => false,
+        AxisKind::Measurement => true,
+    }
+}
+
+// Whether it counts it as Clifford; zeros says so of an angle of 0, which has no kind.
+fn counts_as_clifford(kind: AxisKind, zeros: bool) -> bool
+    ensures { λ r. ⌜ r ≡ countsClifford zeros kind ⌝ }
+{
+    let AxisKind::None = kind else {
+        return !counts_as_non_clifford(kind);
+    };
+    zeros
 }
 
 // The larger of the two, where the weight counts.
@@ -114,10 +135,10 @@ fn weigh_axes(
         match weigh_root(header, nodes, s, pool, limit, w, left) {
             AxisWeight::Refused(e) => return MaxAxisWeights::Refused(e),
             AxisWeight::Weighed(k, rest) => {
-                let first = first_word(operations, i);
-                let other = counts_as_non_clifford(first);
+                let kind = kind_at(operations, i);
+                let other = counts_as_non_clifford(kind);
                 non_clifford = raised(other, k, non_clifford);
-                let even = counts_as_clifford(first, zeros);
+                let even = counts_as_clifford(kind, zeros);
                 clifford = raised(even, k, clifford);
                 left = rest;
                 i += 1;

@@ -2,6 +2,7 @@
 use mathlib.Core.Path.{ap, _∙_}
 use Prim.Native.Nat.{_-_}
 use native.Mathlib.Omega.{arith}
+use Rattle.arena.specs.Readers.{countsNonClifford, countsClifford}
 use Rattle.arena.specs.Code.Results.{axisWeightOut}
 use Rattle.arena.specs.Code.Roots.{Weighing}
 use Rattle.arena.proofs.steps.Weights.{WeighAt, weigh-begin, axis-rooted, weigh-refused, weigh-turn, weigh-end}
@@ -72,8 +73,8 @@ returns c =
 enum-known-k : tie.Need-enum-known-k Inv-loop μ-loop
 enum-known-k c = search needs
 
-first-word-requires : tie.Need-first-word-requires Inv-loop μ-loop
-first-word-requires c κs = search needs
+kind-at-requires : tie.Need-kind-at-requires Inv-loop μ-loop
+kind-at-requires c κs = search needs
 
 counts-as-non-clifford-requires : tie.Need-counts-as-non-clifford-requires Inv-loop μ-loop
 counts-as-non-clifford-requires c κs = search needs
@@ -99,7 +100,7 @@ loop-less c = omega (arith, c .before .before .before .before .before .before .b
 loop-again : tie.Need-loop-again Inv-loop μ-loop
 loop-again c =
     let raised = c .before .before .raised in
-    let first = c .before .before .before .before .first-word .ensures in
+    let kind-at = c .before .before .before .before .kind-at in
     let k = c .before .before .before .before .before .before .k in
     let weigh-root = c .before .before .before .before .before .before .before .before .before .before .before .before .weigh-root in
     let back12 = c .before .before .before .before .before .before .before .before .before .before .before .before in
@@ -109,8 +110,9 @@ loop-again c =
     λ g.
     let sound = g .sound _ (loop-test .taken) in
     let word = back12 .before .before .before .axis-word .ensures (args .header) sound in
+    let kind = kind-at .ensures (args .header) sound in
     weigh-turn g (args .zeros) (the-loop .inv g) (loop-test .taken) word (weigh-root .ensures (axis-rooted g (the-loop .inv g .rest) (loop-test .taken) word))
-    (ap axisWeightOut (k .given .1)) (c .before .before .before .counts-as-non-clifford .ensures (args .header) _ _ first sound) (c .before .counts-as-clifford .ensures (args .header) _ _ first sound)
+    (ap axisWeightOut (k .given .1)) (c .before .before .before .counts-as-non-clifford .ensures ∙ ap countsNonClifford kind) (c .before .counts-as-clifford .ensures ∙ ap (countsClifford (args .zeros)) kind)
     (weigh-root .kept .1 .1 .0 ∙ the-loop .inv g .long) (weigh-root .kept .1 .1 .1 .0 ∙ the-loop .inv g .pool-long) (raised .ensures) (c .raised2 .ensures)
 
 same-length-3 : tie.Need-same-length-3 Inv-loop μ-loop
@@ -136,7 +138,7 @@ weigh-axes-spec =
     same-length-2
     returns
     enum-known-k
-    first-word-requires
+    kind-at-requires
     counts-as-non-clifford-requires
     raised-requires
     counts-as-clifford-requires
