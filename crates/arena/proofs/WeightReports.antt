@@ -1,7 +1,7 @@
 -- The two weight reports beside each other, and their numbers by the images of the axes.
 use mathlib.Core.Path.{_≡_, refl, ap, ap₂, sym, _∙_, subst}
 use mathlib.Core.Logic.{_≢_}
-use mathlib.Core.Bool.{Bool, true, false}
+use mathlib.Core.Bool.{Bool, true, false, true≢false}
 use mathlib.Core.List.{List, [], _∷_, _++_, map}
 use Prim.Native.Nat.{ℕ, zero, suc, _+_, _≤_, _<_, max}
 use native.Mathlib.Omega.{arith}
@@ -93,10 +93,7 @@ raised-least false x m = omega arith
 
 raised-own : (b : Bool) (x m : ℕ) → b ≡ true → x ≤ raised b x m
 raised-own true x m e = omega arith
-raised-own false x m e = absurd (true-is-not-false e)
-  where
-    true-is-not-false : false ≡ true → ⊥
-    true-is-not-false z = let one : _≡_ {A = ℕ} 0 1 = cc in omega arith
+raised-own false x m e = absurd (true≢false (sym e))
 
 module _ (counts : AxisKind → Bool) where
   abbrev most : List Weighed → List ℕ → ℕ
