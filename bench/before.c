@@ -34,6 +34,7 @@ AXES(before_pbc_expand_axes);
 
 enum { NODES = 131072, OPERATIONS = 5 * 65536, FRAME = 512, PLANES = 4096, SCRATCH = 262144, POOL = 196608, ROWS = 257 * 65536, LISTS = 8, NO_POOL = 18 };
 enum { CONVERSION, REPORT, AXES_IN_ONE_WALK, CALLS };
+enum { MEASURE = 12 };
 
 typedef struct {
     Convert convert;
@@ -78,6 +79,7 @@ static List random_list(uint32_t qubits, size_t gates, uint64_t *seed) {
         w[1] = next(seed) % qubits;
         do w[2] = next(seed) % qubits; while (w[2] == w[1]);
         do w[3] = next(seed) % qubits; while (w[3] == w[1] || w[3] == w[2]);
+        if (w[0] == MEASURE) w[2] = (uint32_t)i;
     }
     return list;
 }

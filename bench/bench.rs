@@ -206,7 +206,7 @@ fn line(form: &str, size: u32, text: &str, cap: Option<u32>) -> Workload {
 /// Clifford+T: of a hundred gates fifty t and tdg, ten h, ten s and sdg, ten x and z, fifteen cnot and cz, five measurements.
 fn random_list(r: &mut Random, qubits: u32, gates: usize) -> Vec<u32> {
     let mut words = Vec::new();
-    for _ in 0..gates {
+    for i in 0..gates {
         let a = r.below(qubits);
         let b = (a + 1 + r.below(qubits - 1)) % qubits;
         words.extend(match r.below(100) {
@@ -219,7 +219,7 @@ fn random_list(r: &mut Random, qubits: u32, gates: usize) -> Vec<u32> {
             75..80 => [2, a, 0, 0],
             80..90 => [8, a, b, 0],
             90..95 => [9, a, b, 0],
-            _ => [12, a, 0, 0],
+            _ => [12, a, i as u32, 0],
         });
     }
     words
@@ -229,7 +229,7 @@ fn random(qubits: u32, gates: usize, lists: usize, cap: Option<u32>) -> Workload
     let mut r = Random(0x9e37_79b9_7f4a_7c15 ^ gates as u64 ^ (qubits as u64) << 32);
     let lists = (0..lists).map(|_| random_list(&mut r, qubits, gates)).collect();
     let form = format!("random {qubits} qubits");
-    Workload { family: "random circuits", name: format!("{form} {gates} gates"), form, qubits, cbits: 1, cap, lists }
+    Workload { family: "random circuits", name: format!("{form} {gates} gates"), form, qubits, cbits: 65536, cap, lists }
 }
 
 /// Each thing is run in turn, in some rounds after one that is not counted: the mean over the things of each one's least time.

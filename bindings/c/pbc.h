@@ -134,6 +134,7 @@ enum pbc_refusal {
     PBC_NON_HERMITIAN_AXIS = 19,        /* the phase is i or -i */
     PBC_BAD_TEXT = 20,                  /* operand: the byte, from 0, where no statement of the subset begins */
     PBC_NO_GATE_ROOM = 21,              /* more gates in the text than lent */
+    PBC_TARGET_TAKEN = 24,              /* index: gate; operand: the classical bit that an earlier gate measures into */
     PBC_TOO_SHORT = 255                 /* header below 6 words, or answer below 4 */
 };
 
@@ -166,6 +167,8 @@ static inline const char *pbc_refusal_name(uint32_t number)
     };
     if (number < sizeof names / sizeof *names)
         return names[number];
+    if (number == PBC_TARGET_TAKEN)
+        return "TargetTaken";
     return number == PBC_TOO_SHORT ? "TooShort" : "Unknown";
 }
 

@@ -37,9 +37,10 @@ static uint32_t below(uint32_t most)
     return (seed >> 8) % most;
 }
 
-/* A gate of a kind on different qubits, into bit 0. */
-static void put_gate(uint32_t *gate, uint32_t kind)
+/* The list's gate i is of a kind, on different qubits, into bit i. */
+static void put_gate(size_t i, uint32_t kind)
 {
+    uint32_t *gate = gates + PBC_GATE_WORDS * i;
     uint32_t a = below(QUBITS), b = (a + 1 + below(QUBITS - 1)) % QUBITS, c = a;
     while (c == a || c == b)
         c = below(QUBITS);
@@ -47,7 +48,7 @@ static void put_gate(uint32_t *gate, uint32_t kind)
     int three = kind == PBC_GATE_CCX || kind == PBC_GATE_CCZ;
     gate[0] = kind;
     gate[1] = a;
-    gate[2] = two || three ? b : 0;
+    gate[2] = two || three ? b : kind == PBC_GATE_MEASURE ? (uint32_t)i : 0;
     gate[3] = three ? c : 0;
 }
 
@@ -56,7 +57,7 @@ static const uint32_t kinds[] = {PBC_GATE_H,  PBC_GATE_X,   PBC_GATE_Z,   PBC_GA
 
 static uint32_t convert(uint64_t cap, size_t count)
 {
-    return pbc_convert(QUBITS, 1, OWNER, cap, gates, PBC_GATE_WORDS * count, LENT(nodes), LENT(operations), LENT(frame), LENT(planes), LENT(header),
+    return pbc_convert(QUBITS, GATES, OWNER, cap, gates, PBC_GATE_WORDS * count, LENT(nodes), LENT(operations), LENT(frame), LENT(planes), LENT(header),
                        LENT(answer));
 }
 
@@ -84,7 +85,7 @@ static void sizes_suffice(void)
     static const uint64_t caps[] = {PBC_NO_CAP, 3, 4};
     for (int round = 0; round < 300; round++) {
         for (size_t i = 0; i < GATES; i++)
-            put_gate(gates + PBC_GATE_WORDS * i, kinds[below(LENGTH(kinds))]);
+            put_gate(i, kinds[below(LENGTH(kinds))]);
         for (size_t c = 0; c < LENGTH(caps); c++) {
             expect("convert", convert(caps[c], GATES), PBC_ACCEPTED);
             expect("weights", weights(), PBC_ACCEPTED);
@@ -92,7 +93,7 @@ static void sizes_suffice(void)
     }
     for (size_t k = 0; k < LENGTH(kinds); k++) {
         for (size_t i = 0; i < GATES; i++)
-            put_gate(gates + PBC_GATE_WORDS * i, i % 4 == 3 ? (uint32_t)PBC_GATE_MEASURE : kinds[k]);
+            put_gate(i, i % 4 == 3 ? (uint32_t)PBC_GATE_MEASURE : kinds[k]);
         int doubly = kinds[k] == PBC_GATE_CCX || kinds[k] == PBC_GATE_CCZ;
         expect("convert", convert(doubly ? 3 : 1, GATES), PBC_ACCEPTED);
         expect("weights", weights(), PBC_ACCEPTED);
@@ -210,6 +211,19 @@ static void zero_turns_weigh_nothing(void)
     expect("a turn by 2", answer[1], 1);
 }
 
+/* The second measurement into a bit is refused, with its gate and the bit; a measurement that is added is not. */
+static void targets_are_taken_once(void)
+{
+    static const uint32_t list[] = {PBC_GATE_MEASURE, 0, 2, 0, PBC_GATE_MEASURE, 1, 1, 0, PBC_GATE_MEASURE, 1, 2, 0, 99, 0, 0, 0};
+    memcpy(gates, list, sizeof list);
+    expect("convert", convert(PBC_NO_CAP, 4), PBC_TARGET_TAKEN);
+    expect("the gate", answer[0], 2);
+    expect("the bit", answer[1], 2);
+    expect("convert", convert(PBC_NO_CAP, 2), PBC_ACCEPTED);
+    expect("measure", pbc_measure(LENT(header), LENT(operations), OWNER, 4, 3, LENT(answer)), PBC_ACCEPTED);
+    expect("weights", weights(), PBC_ACCEPTED);
+}
+
 /* The first bytes of the rows have this value; then all are 9. */
 static void expect_rows(const char *what, size_t count, uint64_t value)
 {
@@ -222,7 +236,7 @@ static void expect_rows(const char *what, size_t count, uint64_t value)
 static void rows_are_the_axes(void)
 {
     for (size_t i = 0; i < GATES; i++)
-        put_gate(gates + PBC_GATE_WORDS * i, kinds[below(LENGTH(kinds))]);
+        put_gate(i, kinds[below(LENGTH(kinds))]);
     expect("convert", convert(3, GATES), PBC_ACCEPTED);
     size_t used = PBC_ROWS_BYTES(QUBITS, header[PBC_OPERATIONS]);
     expect("weights", weights(), PBC_ACCEPTED);
@@ -436,6 +450,7 @@ static void names(void)
         expect("name", (uint64_t)strcmp(pbc_refusal_name(number), some[number]), 0);
     expect("the last but one", (uint64_t)strcmp(pbc_refusal_name(PBC_BAD_TEXT), "BadText"), 0);
     expect("the last name", (uint64_t)strcmp(pbc_refusal_name(PBC_NO_GATE_ROOM), "NoGateRoom"), 0);
+    expect("past the gap", (uint64_t)strcmp(pbc_refusal_name(PBC_TARGET_TAKEN), "TargetTaken"), 0);
     expect("too short", (uint64_t)strcmp(pbc_refusal_name(PBC_TOO_SHORT), "TooShort"), 0);
     expect("unknown", (uint64_t)strcmp(pbc_refusal_name(22), "Unknown"), 0);
     expect("i", pbc_times(PBC_PAULI_X, PBC_PAULI_Y), 4 * PBC_PHASE_I + PBC_PAULI_Z);
@@ -468,7 +483,7 @@ static void threads_read_one_circuit(void)
     pthread_t thread[THREADS];
     uint64_t sum[THREADS + 1] = {0};
     for (size_t i = 0; i < GATES; i++)
-        put_gate(gates + PBC_GATE_WORDS * i, kinds[below(LENGTH(kinds))]);
+        put_gate(i, kinds[below(LENGTH(kinds))]);
     expect("convert", convert(PBC_NO_CAP, GATES), PBC_ACCEPTED);
     read_all(&sum[THREADS]);
     for (int i = 0; i < THREADS; i++)
@@ -488,6 +503,7 @@ int main(int count, char **arguments)
     operations_name_their_gates();
     hand_is_marked();
     zero_turns_weigh_nothing();
+    targets_are_taken_once();
     rows_are_the_axes();
     texts_are_gates();
     gates_for_text_suffice();

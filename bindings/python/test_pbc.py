@@ -20,10 +20,10 @@ NAMES = ["h", "x", "z", "s", "sdg", "t", "tdg", "cnot", "cz", "ccx", "ccz", "mea
 def random_gates(seed, qubits, count, names=NAMES):
     pick = random.Random(seed)
     gates = []
-    for _ in range(count):
+    for i in range(count):
         name = pick.choice(names)
         operands = pick.sample(range(qubits), 1 if name == "measure" else _gates._KINDS[name].operands)
-        gates.append((name, *operands, 0) if name == "measure" else (name, *operands))
+        gates.append((name, *operands, i) if name == "measure" else (name, *operands))
     return gates
 
 
@@ -84,7 +84,7 @@ class Threads(unittest.TestCase):
 class Axes(unittest.TestCase):
     def test_each_is_the_expansion_of_its_operation(self):
         for cap in (None, 3):
-            circuit = pbc.to_pbc(5, 1, random_gates(4, 5, 60), cap)
+            circuit = pbc.to_pbc(5, 60, random_gates(4, 5, 60), cap)
             circuit.rotate(circuit.single(2, pbc.Y).scaled(pbc.MINUS_ONE), 3)
             axes = circuit.axes(10**6)
             each = [circuit.expand(operation.axis, 10**6) for operation in circuit.operations]
@@ -297,14 +297,14 @@ class Rooms(unittest.TestCase):
 
     def test_one_call_converts(self):
         for cap in (None, 3, 8):
-            circuit, calls = self.converted(16, 1, random_gates(2, 16, 3000), cap)
+            circuit, calls = self.converted(16, 3000, random_gates(2, 16, 3000), cap)
             self.assertEqual(calls, 1)
             self.assertEqual((len(circuit._nodes), len(circuit._operations)), (2 * circuit._header[3], 5 * circuit._header[4]))
 
     def test_without_a_cap_the_rooms_are_exact(self):
         for name in NAMES:
             gates = random_gates(3, 3, 5, [name])
-            circuit = pbc.to_pbc(3, 1, gates)
+            circuit = pbc.to_pbc(3, 5, gates)
             self.assertEqual(_gates.needs(3, {name: 5}, False), (len(circuit.pauli_nodes), len(circuit.operations)), name)
 
     def test_under_a_cap_they_suffice(self):
@@ -317,6 +317,13 @@ class Rooms(unittest.TestCase):
             self.assertGreaterEqual(operations, len(circuit.operations))
             if circuit.max_axis_weights(1000).clifford:
                 self.assertEqual(operations, len(circuit.operations), name)
+
+    def test_one_target_has_one_measurement(self):
+        with self.assertRaises(pbc.PbcError) as raised:
+            pbc.to_pbc(2, 2, [("measure", 0, 1), ("t", 0), ("measure", 1, 1)])
+        it = raised.exception
+        self.assertEqual((it.number, it.name, it.index, it.operand), (24, "TargetTaken", 2, 1))
+        self.assertEqual(str(it), "gate 2: classical bit 1 is taken")
 
     def test_limits_refuse(self):
         for gates, name in [([("swap", 0, 1)] * 65536, "NoNodes"), ([("h", 0)] * 65537, "BrokenGateList")]:

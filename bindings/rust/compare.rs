@@ -223,10 +223,15 @@ impl Comparison {
     }
 
     fn convert(&mut self, n: u32, cbits: u32, cap: Option<u32>, words: &[u32]) -> Option<Both> {
-        let (circuit, _) = driver::circuit(n as usize, cbits as usize, words);
+        let repeated = driver::taken(words);
+        let (circuit, _) = driver::circuit(n as usize, cbits as usize, &words[..repeated.map_or(words.len(), |(index, _)| 4 * index + 4)]);
         let list: Vec<_> = words.chunks(4).map(gate).collect();
         let rust = pbc::to_pbc(&circuit, cap.and_then(|cap| NonZeroUsize::new(cap as usize)));
         let ours = bound::to_pbc(n, cbits, &list, cap.and_then(NonZeroU32::new));
+        if let (Ok(_), Some((index, bit))) = (&rust, repeated) {
+            assert_eq!(ours.err(), Some(bound::PbcError::TargetTaken { index: index as u64, bit: bit.into() }), "24 is missing");
+            return None;
+        }
         self.agree(rust, ours, words).map(|(rust, ours)| Both::of(rust, ours))
     }
 

@@ -2,6 +2,7 @@
 //! The fifth words of operations that were stored or added by hand are kept beside the Rust's circuit, which has four.
 use crate::circuit::{Circuit, Gate, GateKind};
 use crate::pbc::{AxisKind, ExpandedPauli, Pauli, PauliAngle, PauliNode, PauliRef, PbcCircuit, PbcError, PbcOp, Phase, to_pbc};
+use std::collections::HashSet;
 use std::fmt::Write as _;
 use std::io::{BufRead, Write};
 use std::num::NonZeroUsize;
@@ -78,6 +79,12 @@ pub fn circuit(n: usize, cbits: usize, words: &[u32]) -> (Circuit, Option<(usize
         }
     }
     (circuit, None)
+}
+
+/// The first record that measures into a bit of an earlier one: its place and the bit. The Rust takes it; here it is 24.
+pub fn taken(words: &[u32]) -> Option<(usize, u32)> {
+    let mut bits = HashSet::new();
+    words.chunks(4).enumerate().find(|(_, w)| w[0] == 12 && !bits.insert(w[2])).map(|(index, w)| (index, w[2]))
 }
 
 fn node_words(node: &PauliNode) -> [u32; 2] {
@@ -350,12 +357,15 @@ impl Driver {
         if words.len() % 4 != 0 {
             return Some("err 2 0 0".into());
         }
-        let (circuit, stop) = circuit(n as usize, cbits as usize, &words);
+        let repeated = taken(&words);
+        let read = repeated.map_or(words.len(), |(index, _)| 4 * index + 4);
+        let (circuit, stop) = circuit(n as usize, cbits as usize, &words[..read]);
         let cap = cap.map(|w| NonZeroUsize::new(w as usize).expect("the Rust has no cap 0"));
-        Some(match (to_pbc(&circuit, cap), stop) {
-            (Err(e), _) => refusal(&e, 0),
-            (Ok(_), Some((index, kind))) => format!("err 5 {index} {kind}"),
-            (Ok(c), None) => {
+        Some(match (to_pbc(&circuit, cap), stop, repeated) {
+            (Err(e), ..) => refusal(&e, 0),
+            (Ok(_), Some((index, kind)), _) => format!("err 5 {index} {kind}"),
+            (Ok(_), None, Some((index, bit))) => format!("err 24 {index} {bit}"),
+            (Ok(c), None, None) => {
                 self.fifths = vec![None; c.operations().len()];
                 self.circuit = c;
                 self.dump()

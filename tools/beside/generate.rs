@@ -1,6 +1,7 @@
 //! Commands for both sides. The limits of the walks are taken from the Rust: the work that a walk needs, and one less.
 use crate::driver::{Driver, HAND, circuit, word};
 use crate::pbc::PauliRef;
+use std::collections::HashSet;
 use std::io::Write;
 
 pub struct Random(pub u64);
@@ -50,9 +51,9 @@ fn operands(random: &mut Random, kind: u32, n: u32) -> Option<[u32; 3]> {
     Some(out)
 }
 
-/// Sound gates of these kinds; ccx and ccz only where `doubly`.
+/// Sound gates of these kinds; ccx and ccz only where `doubly`. In one list of four measurements may go into one bit twice.
 pub fn gates(random: &mut Random, n: u32, cbits: u32, count: u32, doubly: bool) -> Vec<u32> {
-    let mut words = Vec::new();
+    let (mut words, mut bits, again) = (Vec::new(), HashSet::new(), random.one_in(4));
     for _ in 0..count {
         let kind = KINDS[random.below(16) as usize];
         if !doubly && (kind == 10 || kind == 11) || kind == 12 && cbits == 0 {
@@ -61,6 +62,9 @@ pub fn gates(random: &mut Random, n: u32, cbits: u32, count: u32, doubly: bool) 
         if let Some(mut q) = operands(random, kind, n) {
             if kind == 12 {
                 q[1] = random.below(cbits);
+                if !bits.insert(q[1]) && !again {
+                    continue;
+                }
             }
             words.extend([kind, q[0], q[1], q[2]]);
         }

@@ -12,6 +12,7 @@ REFUSALS = [
     None, "TooManyQubits", "BrokenGateList", "BadStore", "ForeignPauli", "UnsupportedGate", "NonCliffordFrameGate", "QubitOutOfRange",
     "RepeatedOperand", "ClassicalBitOutOfRange", "UnknownMeasurement", "CapTooSmall", "NoPlanes", "NoFrame", "NoNodes", "NoOperations",
     "NoScratch", "ExpansionLimit", "NoPool", "NonHermitianAxis", "BadText", "NoGateRoom",
+    None, None, "TargetTaken",
 ]
 
 _MESSAGES = [
@@ -21,7 +22,7 @@ _MESSAGES = [
     "measurement is not defined in this circuit", "the cap is 0, or below 3 with a ccx or ccz", "too few plane words",
     "too few frame words", "over 65,536 nodes", "over 65,536 operations", "too few scratch words", "the work is above the limit",
     "over 65,535 factors at once", "rotation and measurement axes must be Hermitian", "no statement of the subset begins here",
-    "too few gate words",
+    "too few gate words", None, None, "classical bit {operand} is taken",
 ]
 
 

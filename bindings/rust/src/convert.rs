@@ -214,8 +214,9 @@ mod tests {
     #[test]
     fn without_a_cap_the_needs_are_exact() {
         for gate in CLIFFORDS.into_iter().chain(OTHERS) {
-            let gates = [gate, H(2), gate];
-            assert_eq!(used(&to_pbc(3, 1, &gates, None).unwrap()), needs(&gates, false), "{gate:?}");
+            let again = if let Measure(qubit, _) = gate { Measure(qubit, 1) } else { gate };
+            let gates = [gate, H(2), again];
+            assert_eq!(used(&to_pbc(3, 2, &gates, None).unwrap()), needs(&gates, false), "{gate:?}");
         }
     }
 

@@ -86,6 +86,13 @@ pub enum PbcError {
     },
     /// As `NoPlanes`, of the gates of a text.
     NoGateRoom,
+    /// An earlier gate measures into this classical bit.
+    TargetTaken {
+        /// The gate's place in the list.
+        index: u64,
+        /// The classical bit.
+        bit: u64,
+    },
 }
 
 impl PbcError {
@@ -114,6 +121,7 @@ impl PbcError {
             19 => Self::NonHermitianAxis,
             20 => Self::BadText { place: operand, line: 0, column: 0 },
             21 => Self::NoGateRoom,
+            24 => Self::TargetTaken { index, bit: operand },
             other => unreachable!("the library returned {other}"),
         }
     }
@@ -154,6 +162,7 @@ impl fmt::Display for PbcError {
             Self::NonHermitianAxis => f.write_str("rotation and measurement axes must be Hermitian"),
             Self::BadText { line, column, .. } => write!(f, "line {line}, column {column}: no statement of the subset begins here"),
             Self::NoGateRoom => f.write_str("too few gate words"),
+            Self::TargetTaken { index, bit } => write!(f, "gate {index}: classical bit {bit} is taken"),
         }
     }
 }

@@ -127,3 +127,14 @@ fn a_frame_gate_turns_the_output() {
     assert_eq!(circuit.push_output_clifford(H(2)).unwrap_err(), PbcError::QubitOutOfRange { index: 0, qubit: 2 });
     assert_eq!(circuit.push_output_clifford(Cz(1, 1)).unwrap_err(), PbcError::RepeatedOperand { index: 0, qubit: 1 });
 }
+
+#[test]
+fn one_target_has_one_measurement() {
+    let refusal = to_pbc(2, 2, &[Measure(0, 1), T(0), Measure(1, 1)], None).unwrap_err();
+    assert_eq!(refusal, PbcError::TargetTaken { index: 2, bit: 1 });
+    assert_eq!(refusal.to_string(), "gate 2: classical bit 1 is taken");
+    let mut circuit = to_pbc(2, 2, &[Measure(0, 1), Measure(1, 0)], None).unwrap();
+    let z = circuit.single(0, pbc::Pauli::Z).unwrap();
+    circuit.measure(z, Some(1)).unwrap();
+    assert_eq!(circuit.measurement_count(), 3);
+}

@@ -3,7 +3,7 @@ use mathlib.Core.Bool.{Bool, true, false}
 use Prim.Native.Nat.{ℕ}
 pub use Rattle.arena.specs.declared.error.PbcError.the-variants.{the-data as PbcError, TooManyQubits, BrokenGateList, BadStore, ForeignPauli, UnsupportedGate, NonCliffordFrameGate}
 pub use Rattle.arena.specs.declared.error.PbcError.the-variants.{QubitOutOfRange, RepeatedOperand, ClassicalBitOutOfRange, UnknownMeasurement, CapTooSmall, NoPlanes, NoFrame, NoNodes}
-pub use Rattle.arena.specs.declared.error.PbcError.the-variants.{NoOperations, NoScratch, ExpansionLimit, NoPool, NonHermitianAxis, BadText, NoGateRoom}
+pub use Rattle.arena.specs.declared.error.PbcError.the-variants.{NoOperations, NoScratch, ExpansionLimit, NoPool, NonHermitianAxis, BadText, NoGateRoom, TargetTaken}
 pub use Rattle.arena.specs.declared.error.Refusal.{Refusal}
 pub use Rattle.arena.specs.declared.error.Checked.the-variants.{the-data as Checked, Fine, Wrong}
 
@@ -11,7 +11,7 @@ infixl 10 _⟫_⇒_
 abbrev pub refusalOf : ℕ → ℕ → ℕ → Refusal
 refusalOf number index operand = record { number = number; index = index; operand = operand }
 
--- number, the offending gate's place in the list (0 where no gate of a list is at fault), and the kind for 5 and 6, the qubit or bit for 7 to 9, the place in the text for 20
+-- number, the offending gate's place in the list (0 where no gate of a list is at fault), and the kind for 5 and 6, the qubit or bit for 7 to 9 and 24, the place in the text for 20
 abbrev pub refusalIn : PbcError → Refusal
 refusalIn TooManyQubits = refusalOf 1 0 0
 refusalIn BrokenGateList = refusalOf 2 0 0
@@ -34,6 +34,7 @@ refusalIn NoPool = refusalOf 18 0 0
 refusalIn NonHermitianAxis = refusalOf 19 0 0
 refusalIn (BadText place) = refusalOf 20 0 place
 refusalIn NoGateRoom = refusalOf 21 0 0
+refusalIn (TargetTaken index bit) = refusalOf 24 index bit
 
 -- the checks so far, then one more: the first test that holds decides
 unfoldable pub _⟫_⇒_ : Checked → Bool → PbcError → Checked

@@ -26,6 +26,7 @@ pub enum PbcError {
     NonHermitianAxis,
     BadText(u64),
     NoGateRoom,
+    TargetTaken(u64, u64),
 }
 
 /// What a refusal returns.
@@ -72,6 +73,7 @@ impl PbcError {
             PbcError::NonHermitianAxis => made(19, 0, 0),
             PbcError::BadText(place) => made(20, 0, place),
             PbcError::NoGateRoom => made(21, 0, 0),
+            PbcError::TargetTaken(index, bit) => made(24, index, bit),
         }
     }
 

@@ -12,10 +12,11 @@ use Rattle.pauli.specs.Gates.{AllValid}
 use Rattle.arena.specs.Limits.{nodeWords, operationWords}
 use Rattle.arena.specs.Store.{breaksLimit, exceedsNodes}
 use Rattle.arena.proofs.Accepted.{passed-before, test-passed, left-false, right-false, sound, NodeRoom, node-room}
-use Rattle.convert.specs.Types.{Header, Checked, Fine}
+use Rattle.arena.specs.Errors.{_⟫_⇒_}
+use Rattle.convert.specs.Types.{Header, UnsupportedGate, ClassicalBitOutOfRange, Checked, Fine}
 use Rattle.convert.specs.Records.{GateKind, KindH, KindX, KindZ, KindS, KindSdg, KindT, KindTdg, KindCnot, KindCz, KindCcx, KindCcz, KindMeasure, KindY, KindSx, KindSwap, KindCy, Unsupported, Record, records, kinds, kindOf, Elementary, lowerAs, lower, placedFrom, lowerFrom, lowerAll, bare, AllProper}
 use Rattle.convert.specs.Frame.{qubitsOf, member, operandsChecked, gateNodes, total, frameGates, namesUnused, cliffordCheck}
-use Rattle.convert.specs.Conversion.{Limits, Input, isUnsupported, isMeasure, recordChecked, recordsChecked, gatesIn, capTooSmall, wordEnd, gatesCheck, convertCheck, gatesChecked, roomChecked}
+use Rattle.convert.specs.Conversion.{Limits, Input, isUnsupported, isMeasure, takenWith, recordChecked, recordsChecked, gatesIn, capTooSmall, wordEnd, gatesCheck, convertCheck, gatesChecked, roomChecked}
 use Rattle.convert.proofs.meaning.Words.{map-append}
 
 -- ---- operands
@@ -25,7 +26,7 @@ unfolding operandsChecked
 passed-operands k n i seen [] e = e
 passed-operands k n i seen (q ∷ qs) e = passed-before _ _ _ (passed-before _ _ _ (passed-operands _ n i (q ∷ seen) qs e))
 
-operand-low : (k : Checked) (n i : ℕ) (seen : List ℕ) (q : ℕ) (qs : List ℕ) → operandsChecked k n i seen (q ∷ qs) ≡ Fine → q < n
+pub operand-low : (k : Checked) (n i : ℕ) (seen : List ℕ) (q : ℕ) (qs : List ℕ) → operandsChecked k n i seen (q ∷ qs) ≡ Fine → q < n
 unfolding operandsChecked
 operand-low k n i seen q qs e = leb-false n q (test-passed _ _ _ (passed-before _ _ _ (passed-operands _ n i (q ∷ seen) qs e)))
 
@@ -82,23 +83,25 @@ pub bare-placed : (i j : ℕ) (es : List Elementary) → bare (placedFrom i j es
 bare-placed i j [] = refl
 bare-placed i j (e ∷ es) = ap (λ l. e ∷ l) (bare-placed i (suc j) es)
 
-pub passed-records : (k : Checked) (n cbits i : ℕ) (rs : List Record) → recordsChecked k n cbits i rs ≡ Fine → k ≡ Fine
+pub passed-records : (k : Checked) (n cbits i : ℕ) (taken : List ℕ) (rs : List Record) → recordsChecked k n cbits i taken rs ≡ Fine → k ≡ Fine
 unfolding recordsChecked recordChecked
-passed-records k n cbits i [] e = e
-passed-records k n cbits i (r ∷ rs) e =
-    passed-before _ _ _ (passed-operands _ n i [] (qubitsOf (kindOf (r .kind)) (r .a) (r .b) (r .c)) (passed-before _ _ _ (passed-records _ n cbits (suc i) rs e)))
+passed-records k n cbits i taken [] e = e
+passed-records k n cbits i taken (r ∷ rs) e =
+    passed-before _ _ _ (passed-operands _ n i [] (qubitsOf (kindOf (r .kind)) (r .a) (r .b) (r .c))
+    (passed-before _ _ _ (passed-before _ _ _ (passed-records _ n cbits (suc i) (takenWith r taken) rs e))))
 
-pub proper-records : (k : Checked) (n cbits i : ℕ) (rs : List Record) → recordsChecked k n cbits i rs ≡ Fine → AllProper n cbits (bare (lowerFrom i rs))
+pub proper-records : (k : Checked) (n cbits i : ℕ) (taken : List ℕ) (rs : List Record) → recordsChecked k n cbits i taken rs ≡ Fine → AllProper n cbits (bare (lowerFrom i rs))
 unfolding recordsChecked recordChecked lowerFrom lower
-proper-records k n cbits i [] e = tt
-proper-records k n cbits i (r ∷ rs) e =
+proper-records k n cbits i taken [] e = tt
+proper-records k n cbits i taken (r ∷ rs) e =
     rw (map-append _ (placedFrom i 0 (lower r)) (lowerFrom (suc i) rs), bare-placed i 0 (lower r))
     (proper-append n cbits (lower r) (bare (lowerFrom (suc i) rs))
     (proper-lower _ n cbits i (kindOf (r .kind)) (r .a) (r .b) (r .c) (passed-before _ _ _ here) (test-passed _ _ _ here))
-    (proper-records _ n cbits (suc i) rs e))
+    (proper-records _ n cbits (suc i) (takenWith r taken) rs e))
   where
-    here : recordChecked k n cbits i r ≡ Fine
-    here = passed-records _ n cbits (suc i) rs e
+    here : (operandsChecked (k ⟫ isUnsupported (kindOf (r .kind)) ⇒ UnsupportedGate i (r .kind)) n i [] (qubitsOf (kindOf (r .kind)) (r .a) (r .b) (r .c))
+        ⟫ isMeasure (kindOf (r .kind)) && leb cbits (r .b) ⇒ ClassicalBitOutOfRange i (r .b)) ≡ Fine
+    here = passed-before _ _ _ (passed-records _ n cbits (suc i) (takenWith r taken) rs e)
 
 -- the kinds are in the list
 abbrev pub AllKnown : List Record → Type 0
@@ -118,12 +121,13 @@ kind-known j false h e = absurd (differ (rw (past-end kinds j Unsupported (ltb-f
     differ : true ≡ false → ⊥
     differ e = let z : _≡_ {A = ℕ} 0 1 = cc in omega arith
 
-pub known-records : (k : Checked) (n cbits i : ℕ) (rs : List Record) → recordsChecked k n cbits i rs ≡ Fine → AllKnown rs
+pub known-records : (k : Checked) (n cbits i : ℕ) (taken : List ℕ) (rs : List Record) → recordsChecked k n cbits i taken rs ≡ Fine → AllKnown rs
 unfolding recordsChecked recordChecked
-known-records k n cbits i [] e = tt
-known-records k n cbits i (r ∷ rs) e =
-    let here = passed-operands _ n i [] (qubitsOf (kindOf (r .kind)) (r .a) (r .b) (r .c)) (passed-before _ _ _ (passed-records _ n cbits (suc i) rs e)) in
-    (kind-known (r .kind) (ltb (r .kind) 21) refl (test-passed _ _ _ here), known-records _ n cbits (suc i) rs e)
+known-records k n cbits i taken [] e = tt
+known-records k n cbits i taken (r ∷ rs) e =
+    let here = passed-operands _ n i [] (qubitsOf (kindOf (r .kind)) (r .a) (r .b) (r .c))
+    (passed-before _ _ _ (passed-before _ _ _ (passed-records _ n cbits (suc i) (takenWith r taken) rs e))) in
+    (kind-known (r .kind) (ltb (r .kind) 21) refl (test-passed _ _ _ here), known-records _ n cbits (suc i) (takenWith r taken) rs e)
 
 -- ---- an accepted conversion
 
@@ -147,10 +151,10 @@ accepted l x e₁₅ =
     let e₁₂ = passed-before _ _ _ e₁₃ in
     let e₁₁ = passed-before _ _ _ e₁₂ in
     let e₉ = passed-before _ _ _ e₁₁ in
-    let e₂ = passed-records _ (x .qubits) (x .cbits) 0 (records (x .gates)) e₉ in
+    let e₂ = passed-records _ (x .qubits) (x .cbits) 0 [] (records (x .gates)) e₉ in
     let e₁ = passed-before _ _ _ e₂ in
     record {
-      proper = proper-records _ (x .qubits) (x .cbits) 0 (records (x .gates)) e₉;
+      proper = proper-records _ (x .qubits) (x .cbits) 0 [] (records (x .gates)) e₉;
       cap = test-passed _ _ _ e₁₁;
       gate-words = ltb-false _ _ (right-false (not (eqb (length (x .gates) % 4) 0)) _ (test-passed _ _ _ e₂));
       qubits = ltb-false _ _ (left-false (ltb (l .qubits) (x .qubits)) _ (test-passed _ _ _ e₁));

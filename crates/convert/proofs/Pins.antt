@@ -6,7 +6,7 @@ use lib.ListN.{replicate, drop}
 use Rattle.pauli.specs.Table.{start, step}
 use Rattle.arena.specs.Errors.{_⟫_⇒_}
 use Rattle.arena.specs.Builder.{headerOf}
-use Rattle.convert.specs.Types.{TooManyQubits, BrokenGateList, UnsupportedGate, QubitOutOfRange, RepeatedOperand, ClassicalBitOutOfRange, CapTooSmall, NoPlanes, NoFrame, NoNodes, NoOperations, PbcError}
+use Rattle.convert.specs.Types.{TooManyQubits, BrokenGateList, UnsupportedGate, QubitOutOfRange, RepeatedOperand, ClassicalBitOutOfRange, TargetTaken, CapTooSmall, NoPlanes, NoFrame, NoNodes, NoOperations, PbcError}
 use Rattle.convert.specs.Records.{Cap, NoCap, AtMost, records, kindOf, lowerAs, lower, lowerFrom, lowerAll}
 use Rattle.convert.specs.Plain.{plainBegin, flushFrom, tested, exceeds, flushed, performAs, plainStep, plainRun, rowsAfter, tableRun}
 use Rattle.convert.specs.Frame.{startArena, pushed, multiplied, frameStep, qubitsOf, operandsChecked}
@@ -190,6 +190,7 @@ planes-untouched :
     ∷ capped 2 (gate 0 2 0 0) 14 0 4 12
     ∷ capped 2 (gate 8 1 1 0) 14 0 4 12
     ∷ capped 2 (gate 12 0 2 0) 14 0 4 12
+    ∷ capped 2 (gate 12 0 1 0 ++ gate 12 1 1 0) 14 10 4 12
     ∷ capped 0 [] 14 0 4 12
     ∷ capped 2 [] 14 0 4 7
     ∷ [])
@@ -200,6 +201,7 @@ planes-untouched :
     ∷ refused (QubitOutOfRange 1 2) (nines 12)
     ∷ refused (RepeatedOperand 1 1) (nines 12)
     ∷ refused (ClassicalBitOutOfRange 1 2) (nines 12)
+    ∷ refused (TargetTaken 2 1) (nines 12)
     ∷ refused CapTooSmall (nines 12)
     ∷ refused NoPlanes (nines 7)
     ∷ []
@@ -250,3 +252,48 @@ past-bits = refl
 too-many-bits : convertStep (bits 65537 65535) .answer ≡ ConvertedRefused TooManyQubits
 unfolding bits
 too-many-bits = refl
+
+-- ---- one target, one measurement (E10 of document 02)
+
+-- what a list answers, of two qubits and so many classical bits, with room for everything
+answered : ℕ → List ℕ → Converted
+unfolding lent
+answered cbits gates = convertStep (lent 2 cbits NoCap gates 30 30 4 0) .answer
+
+-- the second of two into one bit is refused, whatever its qubit and however far behind
+taken-twice :
+    answered 64 (gate 12 0 63 0 ++ gate 12 0 63 0)
+    ∷ answered 65536 (gate 12 0 65535 0 ++ gate 12 1 65535 0)
+    ∷ answered 65 (gate 12 0 64 0 ++ gate 0 0 64 0 ++ gate 12 0 0 0 ++ gate 12 1 64 7)
+    ∷ []
+    ≡ ConvertedRefused (TargetTaken 1 63) ∷ ConvertedRefused (TargetTaken 1 65535) ∷ ConvertedRefused (TargetTaken 3 64) ∷ []
+unfolding answered
+taken-twice = refl
+
+-- different bits are accepted, and the second operand of another gate takes none
+taken-once :
+    answered 65 (gate 12 0 0 0 ++ gate 12 0 64 0)
+    ∷ answered 2 (gate 8 0 1 0 ++ gate 0 0 1 0 ++ gate 12 0 1 0)
+    ∷ []
+    ≡ ConvertedMade (headerOf 2 65 7 5 2 2) ∷ ConvertedMade (headerOf 2 2 7 7 1 1) ∷ []
+unfolding answered
+taken-once = refl
+
+-- the first faulty gate decides; within a gate 7 and 9 come first; 11 comes after
+taken-in-order :
+    answered 2 (gate 12 0 0 0 ++ gate 12 0 0 0 ++ gate 7 0 0 0)
+    ∷ answered 2 (gate 12 0 0 0 ++ gate 7 0 0 0 ++ gate 12 0 0 0)
+    ∷ answered 2 (gate 12 0 0 0 ++ gate 12 2 0 0)
+    ∷ answered 2 (gate 12 0 2 0 ++ gate 12 0 2 0)
+    ∷ answered 2 (gate 12 0 0 0 ++ gate 12 0 2 0 ++ gate 12 0 0 0)
+    ∷ convertStep (lent 2 2 (AtMost 0) (gate 12 0 0 0 ++ gate 12 0 0 0) 30 30 4 0) .answer
+    ∷ []
+    ≡ ConvertedRefused (TargetTaken 1 0)
+    ∷ ConvertedRefused (UnsupportedGate 1 7)
+    ∷ ConvertedRefused (QubitOutOfRange 1 2)
+    ∷ ConvertedRefused (ClassicalBitOutOfRange 0 2)
+    ∷ ConvertedRefused (ClassicalBitOutOfRange 1 2)
+    ∷ ConvertedRefused (TargetTaken 1 0)
+    ∷ []
+unfolding answered lent
+taken-in-order = refl

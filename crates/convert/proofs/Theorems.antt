@@ -21,17 +21,18 @@ use Rattle.arena.specs.Expansion.{badNodes, badOperations, expandStep, hermitia
 use Rattle.arena.proofs.NodeRows.{image-older}
 use Rattle.arena.proofs.Readable.{both-false}
 use Rattle.arena.proofs.Theorems.{expand-bad, hermitian-bad, report-bad}
-use Rattle.convert.specs.Types.{Header, PauliRef, PbcError, BadStore, Fine, Wrong}
+use Rattle.convert.specs.Types.{Header, PauliRef, PbcError, BadStore, TargetTaken, Fine, Wrong}
 use Rattle.convert.specs.Records.{KindY, KindSx, KindSwap, KindCy, Cap, AtMost, records, lowerAll, kindOf, Elementary, Placed, bare, mapFrom, withoutIndex, AllProper}
 use Rattle.convert.specs.Plain.{plainBegin, flushFrom, plainRun}
 use Rattle.convert.specs.Paper.{AllHermitian}
 use Rattle.convert.specs.Frame.{Arena, frameGates, cliffordCheck, opened}
 use Rattle.convert.specs.Words.{Words, decoded, meaning, opFrom, opsFrom, operationsIn, wordRun, startWords}
-use Rattle.convert.specs.Conversion.{limits, Input, gatesIn, plainEnd, tableEnd, paperEnd, wordEnd, convertCheck, convertedHeader, ConvertedMade, ConvertedRefused, convertWithin, convertStep}
+use Rattle.convert.specs.Conversion.{Limits, limits, Input, gatesIn, plainEnd, tableEnd, paperEnd, wordEnd, gatesCheck, convertCheck, convertedHeader, ConvertedMade, ConvertedRefused, convertWithin, convertStep}
 use Rattle.convert.specs.Later.{Circuit, converted, LaterCall, callFrame, later, laters, AllCarried}
 use Rattle.convert.specs.Statement.{AllWithin, Capped, Frame, Means, frameImages, Converts, endTable, endGates, Demand3}
 use Rattle.convert.specs.Lowering.{ruleY, ruleSx, ruleSwap, ruleCy, loweredActs}
 use Rattle.convert.specs.Sources.{All, OfRecord, unflushedIndices, NeverFall, Sources}
+use Rattle.convert.specs.Targets.{At, OperationInto, Repeats, TargetsDiffer}
 use Rattle.convert.specs.Circuits.{HandCircuits}
 use Rattle.convert.proofs.meaning.Nodes.{image-append}
 use Rattle.convert.proofs.meaning.FrameRows.{Keeps, kept-map, Shows, shown}
@@ -41,13 +42,15 @@ use Rattle.convert.proofs.meaning.Signs.{hermitian}
 use Rattle.convert.proofs.Accepted.{accepted, FitsGate, fits-gate}
 use Rattle.convert.proofs.meaning.Cap.{capped}
 use Rattle.convert.proofs.meaning.Sources.{paper-below, paper-named, paper-never-falls}
+use Rattle.convert.proofs.meaning.Repeats.{refused-repeats, repeats-refused, refused-early, early-refused}
+use Rattle.convert.proofs.meaning.Targets.{records-apart, operations-apart}
 use Rattle.convert.proofs.calls.Table.{framed, shows-framed, later-framed, Good, good-laters, made-step, meant-input, agrees-input, good-converted}
 use Rattle.convert.proofs.meaning.Lowered.{y-acts, sx-acts, swap-acts, cy-acts}
 use Rattle.convert.proofs.HandCircuits.{hand-circuits}
 use Rattle.convert.proofs.meaning.Operations.{ops-read}
 use Rattle.convert.proofs.calls.Readable.{rowsOpened, gate-shows, reads-nodes, reads-back, reads-laters}
 use Rattle.convert.proofs.calls.Operations.{operates-on, operates-back, operates-laters}
-use Rattle.convert.proofs.calls.Converted.{sized-words, reads-converted, operates-converted, report-within, converted-made}
+use Rattle.convert.proofs.calls.Converted.{sized-words, reads-converted, operates-converted, report-within, converted-made, converted-refused}
 
 -- ---- Means
 
@@ -174,6 +177,27 @@ sources x e = record {
   where
     papers : paperEnd x .operations ≡ operationsIn (convertedHeader x) (convertStep x .nodes) (convertStep x .operations)
     papers = sym (converts x e .operations)
+
+-- ---- E10 of document 02: one target, one measurement
+
+-- 24 is answered for record i and bit b exactly if i is the first faulty record and an earlier one measures into b too
+pub target-taken : (l : Limits) (x : Input) (i b : ℕ)
+    → (gatesCheck l x ≡ Wrong (TargetTaken i b) → Repeats l x i b) × (Repeats l x i b → gatesCheck l x ≡ Wrong (TargetTaken i b))
+target-taken l x i b = (refused-repeats l x i b, repeats-refused l x i b)
+
+-- and so by the whole conversion
+pub target-refused : (x : Input) (i b : ℕ)
+    → (convertStep x .answer ≡ ConvertedRefused (TargetTaken i b) → Repeats limits x i b) × (Repeats limits x i b → convertStep x .answer ≡ ConvertedRefused (TargetTaken i b))
+unfolding convertStep convertWithin
+target-refused x i b = (λ p. refused-repeats limits x i b (refused-early limits x i b (converted-refused x (TargetTaken i b) p)), λ R. rw (early-refused limits x i b (repeats-refused limits x i b R)))
+
+-- an accepted conversion measures into each classical bit at most once
+pub targets-differ : (x : Input) → convertCheck limits x ≡ Fine → TargetsDiffer x
+targets-differ x e = record {
+  records-differ = records-apart limits x e;
+  operations-differ = subst (λ os. (i j b c : ℕ) → i < j → At (λ o. OperationInto b (o .what)) os i → At (λ o. OperationInto c (o .what)) os j → b ≢ c)
+      (sym (converts x e .operations)) (operations-apart limits x e);
+}
 
 -- ---- demand 3
 

@@ -10,5 +10,7 @@ pub mod Signs
 pub mod Pending
 pub mod Cap
 pub mod Sources
+pub mod Repeats
+pub mod Targets
 pub mod Operations
 pub mod Lowered

@@ -3,3 +3,4 @@ pub mod RawPlanes
 pub mod Needs
 pub mod Raw
 pub mod Tables
+pub mod Marks

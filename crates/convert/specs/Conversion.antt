@@ -1,5 +1,5 @@
 -- What a conversion answers, and what it leaves in the slices lent: for acceptance and every refusal.
-use mathlib.Core.Bool.{Bool, false, not, _&&_, _||_}
+use mathlib.Core.Bool.{Bool, false, cond, not, _&&_, _||_}
 use mathlib.Core.List.{List, [], _∷_}
 use Prim.Native.Nat.{ℕ, suc, _*_, _/_, _%_}
 use lib.Dec.{ltb, leb, eqb}
@@ -9,11 +9,11 @@ use Rattle.pauli.specs.Table.{start}
 use Rattle.arena.specs.Limits.{maxQubits, maxCbits, maxNodes, maxOperations, maxGates, nodeWords, operationWords}
 use Rattle.arena.specs.Errors.{_⟫_⇒_}
 use Rattle.arena.specs.Builder.{overlay, headerOf}
-use Rattle.convert.specs.Types.{Header, TooManyQubits, BrokenGateList, UnsupportedGate, ClassicalBitOutOfRange, CapTooSmall, NoPlanes, NoFrame, NoNodes, NoOperations, Checked, Fine, Wrong}
+use Rattle.convert.specs.Types.{Header, TooManyQubits, BrokenGateList, UnsupportedGate, ClassicalBitOutOfRange, TargetTaken, CapTooSmall, NoPlanes, NoFrame, NoNodes, NoOperations, Checked, Fine, Wrong}
 use Rattle.convert.specs.Records.{GateKind, NoShape, ThreeQubits, Measured, hasShape, Cap, NoCap, AtMost, Record, records, kindOf, Elementary, Placed, lowerAll, bare}
 use Rattle.convert.specs.Plain.{Plain, flushFrom, plainBegin, plainRun, tableRun}
 use Rattle.convert.specs.Paper.{Paper, paperRun, paperBegin}
-use Rattle.convert.specs.Frame.{qubitsOf, operandsChecked}
+use Rattle.convert.specs.Frame.{qubitsOf, member, operandsChecked}
 use Rattle.convert.specs.Words.{Words, flat, startWords, wordRun}
 use Rattle.convert.specs.Planes.{partWords, packed}
 pub use Rattle.convert.specs.declared.convert.Converted.the-variants.{the-data as Converted, Made as ConvertedMade, Refused as ConvertedRefused}
@@ -62,16 +62,21 @@ isDoubly k = hasShape k ThreeQubits
 abbrev pub isMeasure : GateKind → Bool
 isMeasure k = hasShape k Measured
 
--- the checks so far, then those of gate i: 5, then 7 and 8 operand by operand, then 9
-unfoldable pub recordChecked : Checked → ℕ → ℕ → ℕ → Record → Checked
-recordChecked k n cbits i r =
+-- the classical bits that are measured into so far, and by record r
+abbrev pub takenWith : Record → List ℕ → List ℕ
+takenWith r taken = cond (isMeasure (kindOf (r .kind))) (r .b ∷ taken) taken
+
+-- the checks so far, then those of gate i: 5, then 7 and 8 operand by operand, then 9, then 24 where earlier gates measure into these bits
+unfoldable pub recordChecked : Checked → ℕ → ℕ → ℕ → (taken : List ℕ) → Record → Checked
+recordChecked k n cbits i taken r =
     operandsChecked (k ⟫ isUnsupported (kindOf (r .kind)) ⇒ UnsupportedGate i (r .kind)) n i [] (qubitsOf (kindOf (r .kind)) (r .a) (r .b) (r .c))
     ⟫ isMeasure (kindOf (r .kind)) && leb cbits (r .b) ⇒ ClassicalBitOutOfRange i (r .b)
+    ⟫ isMeasure (kindOf (r .kind)) && member (r .b) taken ⇒ TargetTaken i (r .b)
 
 -- gate by gate, the first faulty gate deciding
-unfoldable pub recordsChecked : Checked → ℕ → ℕ → ℕ → List Record → Checked
-recordsChecked k n cbits i [] = k
-recordsChecked k n cbits i (r ∷ rs) = recordsChecked (recordChecked k n cbits i r) n cbits (suc i) rs
+unfoldable pub recordsChecked : Checked → ℕ → ℕ → ℕ → (taken : List ℕ) → List Record → Checked
+recordsChecked k n cbits i taken [] = k
+recordsChecked k n cbits i taken (r ∷ rs) = recordsChecked (recordChecked k n cbits i taken r) n cbits (suc i) (takenWith r taken) rs
 
 -- ---- the other checks
 
@@ -108,14 +113,14 @@ pub record Limits : Type 0 where
 abbrev pub limits : Limits
 limits = record { qubits = maxQubits; cbits = maxCbits; gateWords = maxGateWords; nodes = maxNodes; operations = maxOperations }
 
--- 1, 2, then 5, 7, 8, 9 gate by gate, then 11, 12, where so many plane words are lent
+-- 1, 2, then 5, 7, 8, 9, 24 gate by gate, then 11, 12, where so many plane words are lent
 unfoldable pub gatesChecked : Limits → (n cbits : ℕ) → Cap → List ℕ → (planes : ℕ) → Checked
 gatesChecked l n cbits cap gs planes =
     recordsChecked
     (Fine
     ⟫ ltb (l .qubits) n || ltb (l .cbits) cbits ⇒ TooManyQubits
     ⟫ not (eqb (length gs % 4) 0) || ltb (l .gateWords) (length gs) ⇒ BrokenGateList)
-    n cbits 0 (records gs)
+    n cbits 0 [] (records gs)
     ⟫ capTooSmall cap (records gs) ⇒ CapTooSmall
     ⟫ planesTooFew cap n planes ⇒ NoPlanes
 

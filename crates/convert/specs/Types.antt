@@ -10,7 +10,7 @@ pub use Rattle.arena.specs.declared.op.Target.the-variants.{the-data as Target,
 pub use Rattle.arena.specs.declared.op.PbcOp.the-variants.{the-data as PbcOp, Rotate, Measure, ConditionalRotate, Malformed}
 pub use Rattle.arena.specs.declared.error.PbcError.the-variants.{the-data as PbcError, TooManyQubits, BrokenGateList, BadStore, UnsupportedGate, NonCliffordFrameGate, QubitOutOfRange}
 pub use Rattle.arena.specs.declared.error.PbcError.the-variants.{RepeatedOperand, ClassicalBitOutOfRange, CapTooSmall, NoPlanes, NoFrame, NoNodes, NoOperations, ExpansionLimit, NoPool}
-pub use Rattle.arena.specs.declared.error.PbcError.the-variants.{NonHermitianAxis}
+pub use Rattle.arena.specs.declared.error.PbcError.the-variants.{NonHermitianAxis, TargetTaken}
 pub use Rattle.arena.specs.declared.error.Checked.the-variants.{the-data as Checked, Fine, Wrong}
 pub use Rattle.arena.specs.declared.builder.Singled.the-variants.{the-data as Singled, Made as SingledMade, Refused as SingledRefused}
 pub use Rattle.arena.specs.declared.builder.Multiplied.the-variants.{the-data as Multiplied, Made as MultipliedMade, Refused as MultipliedRefused}

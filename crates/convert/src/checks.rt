@@ -1,10 +1,12 @@
-//! The checks of a conversion and of a frame gate, in document 01's order.
+//! The checks of a conversion and of a frame gate, in the order of documents 01 and 02.
 
 use crate::cap::Cap;
 use crate::gate::GateKind;
 use crate::gate::Shape;
 use crate::gate::number_at;
 use crate::gate::operand_at;
+use crate::targets::take_bit;
+use crate::targets::take_target;
 use arena::Checked;
 use arena::Header;
 use arena::MAX_CBITS;
@@ -17,21 +19,26 @@ use arena::OPERATION_WORDS;
 use arena::PbcError;
 ghost use mathlib.Core.Path.{_≡_};
 ghost use mathlib.Core.Bool.{true};
-ghost use mathlib.Core.List.{[]};
-ghost use Prim.Native.Nat.{ℕ, min};
+ghost use mathlib.Core.List.{List, []};
+ghost use Prim.Native.Nat.{ℕ, _*_, _<_, _≤_, min};
 ghost use lib.Dec.{leb};
-ghost use lib.ListN.{take};
+ghost use lib.ListN.{length, take};
+ghost use Rattle.arena.specs.Limits.{maxCbits};
 ghost use Rattle.arena.specs.Errors.{_⟫_⇒_};
 ghost use Rattle.convert.specs.Types.{QubitOutOfRange, Fine};
 ghost use Rattle.convert.specs.Records.{records};
 ghost use Rattle.convert.specs.Frame.{qubitsOf, operandsChecked, namesUnused, cliffordCheck};
-ghost use Rattle.convert.specs.Conversion.{recordChecked, recordsChecked, anyDoubly, capTooSmall, planesTooFew, gatesChecked, roomChecked, limits};
+ghost use Rattle.convert.specs.Conversion.{takenWith, recordChecked, recordsChecked, anyDoubly, capTooSmall, planesTooFew, gatesChecked, roomChecked, limits};
 ghost use Rattle.convert.specs.Planes.{partWords};
 ghost use Rattle.convert.specs.Code.Raw.{recordOf};
-ghost use Rattle.convert.specs.Code.Tables.{tableOf, boundOf, othersOf, Passes, AllPass};
+ghost use Rattle.convert.specs.Code.Marks.{Marks};
+ghost use Rattle.convert.specs.Code.Tables.{tableOf, boundOf, apartOf, Passes, AllPass};
 
 /// The most words of a gate list.
 pub const MAX_GATE_WORDS: usize = 4 * (MAX_GATES as usize);
+
+// A mark for each classical bit.
+const TARGET_WORDS: usize = (MAX_CBITS as usize) / 64;
 
 // A qubit of gate i.
 fn check_operand(checked: Checked, n: u32, i: u64, q: u32) -> Checked
@@ -64,7 +71,7 @@ fn check_qubits(checked: Checked, n: u32, i: u64, kind: GateKind, a: u32, b: u32
     )
 }
 
-// Gate i: 5, then 7 and 8, then 9.
+// Gate i: 5, then 7 and 8, then 9, then 24; its target is taken from now on.
 fn check_record(
     checked: Checked,
     n: u32,
@@ -74,23 +81,31 @@ fn check_record(
     a: u32,
     b: u32,
     c: u32,
+    taken: &mut [u64],
 ) -> Checked
-    ensures { λ r. ⌜ r ≡ recordChecked checked n cbits i (recordOf number a b c) ⌝ }
+    requires { ⌜ cbits ≤ 64 * length (now taken) ⌝ }
+    ensures { λ r. ⌜ ((bits : List ℕ) → Marks bits (now (taken .entry)) → r ≡ recordChecked checked n cbits i bits (recordOf number a b c)) ⌝ }
+    ensures { λ _. ⌜ ((bits : List ℕ) → Marks bits (now (taken .entry)) → Marks (takenWith (recordOf number a b c) bits) (now (taken .exit))) ⌝ }
 {
     let kind = GateKind::of(number);
+    let measured = kind.has_shape(Shape::Measured);
+    let held = (b as usize) / 64 < taken.len();
+    let again = take_bit(taken, measured & held, b as usize);
     let known = checked.refuse_if(
         kind.has_shape(Shape::None),
         PbcError::UnsupportedGate(i, number as u64),
     );
-    check_qubits(known, n, i, kind, a, b, c).refuse_if(
-        kind.has_shape(Shape::Measured) & (cbits <= b),
-        PbcError::ClassicalBitOutOfRange(i, b as u64),
-    )
+    check_qubits(known, n, i, kind, a, b, c)
+        .refuse_if(
+            measured & (cbits <= b),
+            PbcError::ClassicalBitOutOfRange(i, b as u64),
+        )
+        .refuse_if(again, PbcError::TargetTaken(i, b as u64))
 }
 
-// What the second operand of each kind stays below. Tables are lent, so that no read copies one.
-fn bounds(n: u64, cbits: u64) -> [u64; 21]
-    ensures { λ r. ⌜ r ≡ tableOf (boundOf n cbits) ⌝ }
+// What the second operand of each kind stays below; of a measurement the table says nothing. Tables are lent, so that no read copies one.
+fn bounds(n: u64) -> [u64; 21]
+    ensures { λ r. ⌜ r ≡ tableOf (boundOf n) ⌝ }
 {
     let any: u64 = 4294967296;
     [
@@ -106,7 +121,7 @@ fn bounds(n: u64, cbits: u64) -> [u64; 21]
         n,
         n,
         n,
-        cbits,
+        0,
         0,
         0,
         any,
@@ -118,38 +133,41 @@ fn bounds(n: u64, cbits: u64) -> [u64; 21]
     ]
 }
 
-// The qubits of each kind past the first.
-fn others() -> [u64; 21]
-    ensures { λ r. ⌜ r ≡ tableOf othersOf ⌝ }
+// A bit above every operand for the kinds whose second is no qubit: with it that one is never the first.
+fn apart() -> [u64; 21]
+    ensures { λ r. ⌜ r ≡ tableOf apartOf ⌝ }
 {
+    let any: u64 = 4294967296;
     [
+        any,
+        any,
+        any,
+        any,
+        any,
+        any,
+        any,
         0,
         0,
         0,
         0,
         0,
+        any,
         0,
         0,
-        0,
-        1,
-        1,
-        2,
-        2,
-        0,
-        0,
+        any,
+        any,
         0,
         0,
         0,
         0,
-        0,
-        1,
-        1,
     ]
 }
 
-// Whether a record passes its checks, by its kind's entries: no jump by kind, which a processor would have to guess.
-fn is_sound(n: usize, bound: u64, more: u64, a: usize, b: usize, c: usize) -> bool
-    ensures { λ r. ⌜ (r ≡ true → Passes n bound more a b c) ⌝ }
+// Whether a record that is no measurement passes its checks, by its kind's entries. Of the jumps by kind, which a processor would have to guess,
+// one is left: ccx and ccz, 10 and 11.
+fn is_sound(n: usize, number: usize, bound: u64, above: u64, a: usize, b: usize, c: usize) -> bool
+    requires { ⌜ number < 21 ⌝ }
+    ensures { λ r. ⌜ (r ≡ true → Passes n number bound above a b c) ⌝ }
 {
     if n <= a {
         return false;
@@ -157,18 +175,26 @@ fn is_sound(n: usize, bound: u64, more: u64, a: usize, b: usize, c: usize) -> bo
     if bound <= (b as u64) {
         return false;
     }
-    if (0 < more) & (b == a) {
+    if ((b as u64) | above) == (a as u64) {
         return false;
     }
-    if more < 2 {
+    if !(number / 2 == 5) {
         return true;
     }
     (c < n) & (!(c == a) & !(c == b))
 }
 
-// Whether every gate passes its checks, by the tables.
-fn sound_by(n: usize, limits: &[u64; 21], more: &[u64; 21], gates: &[u32]) -> bool
-    ensures { λ r. ⌜ (r ≡ true → AllPass n (now (limits .entry)) (now (more .entry)) (now (gates .entry))) ⌝ }
+// Whether every gate passes its checks, by the tables and a mark for each classical bit. What the tables do not pass can still be a measurement.
+fn sound_by(
+    n: usize,
+    cbits: usize,
+    limits: &[u64; 21],
+    above: &[u64; 21],
+    gates: &[u32],
+    taken: &mut [u64],
+) -> bool
+    requires { ⌜ (cbits ≤ 64 * length (now taken)) × Marks [] (now taken) ⌝ }
+    ensures { λ r. ⌜ (r ≡ true → AllPass n cbits (now (limits .entry)) (now (above .entry)) (now (gates .entry))) ⌝ }
 {
     let count = gates.len() / 4;
     let mut i: usize = 0;
@@ -180,7 +206,11 @@ fn sound_by(n: usize, limits: &[u64; 21], more: &[u64; 21], gates: &[u32]) -> bo
         let a = operand_at(gates, i, 1);
         let b = operand_at(gates, i, 2);
         let c = operand_at(gates, i, 3);
-        if !is_sound(n, limits[number], more[number], a, b, c) {
+        if is_sound(n, number, limits[number], above[number], a, b, c) {
+            i += 1;
+            continue;
+        }
+        if !take_target(taken, n, cbits, number == 12, a, b) {
             return false;
         }
         i += 1;
@@ -188,22 +218,58 @@ fn sound_by(n: usize, limits: &[u64; 21], more: &[u64; 21], gates: &[u32]) -> bo
     true
 }
 
-// Whether every gate passes its checks.
-fn all_sound(n: u32, cbits: u32, gates: &[u32]) -> bool
-    ensures { λ r. ⌜ (r ≡ true → ((checked : Checked) → recordsChecked checked n cbits 0 (records (now (gates .entry))) ≡ checked)) ⌝ }
+// Whether every gate passes its checks, with marks for few classical bits: to clear those of all would show on a short list.
+fn sound_few(n: u32, cbits: u32, gates: &[u32]) -> bool
+    requires { ⌜ cbits ≤ 1024 ⌝ }
+    ensures { λ r. ⌜ (r ≡ true → ((checked : Checked) → recordsChecked checked n cbits 0 [] (records (now (gates .entry))) ≡ checked)) ⌝ }
 {
-    let limits = bounds(n as u64, cbits as u64);
-    let more = others();
-    sound_by(n as usize, &limits, &more, gates)
+    let mut words = [0u64; 16];
+    let limits = bounds(n as u64);
+    let above = apart();
+    sound_by(
+        n as usize,
+        cbits as usize,
+        &limits,
+        &above,
+        gates,
+        &mut words,
+    )
 }
 
-// Every gate of the list, the first faulty one deciding. Where none is faulty, that is seen faster.
-fn check_records(before: Checked, n: u32, cbits: u32, gates: &[u32]) -> Checked
-    ensures { λ r. ⌜ r ≡ recordsChecked before n cbits 0 (records (now (gates .entry))) ⌝ }
+// The same, with marks for all.
+fn sound_many(n: u32, cbits: u32, gates: &[u32]) -> bool
+    requires { ⌜ cbits ≤ maxCbits ⌝ }
+    ensures { λ r. ⌜ (r ≡ true → ((checked : Checked) → recordsChecked checked n cbits 0 [] (records (now (gates .entry))) ≡ checked)) ⌝ }
 {
-    if all_sound(n, cbits, gates) {
-        return before;
+    let mut words = [0u64; TARGET_WORDS];
+    let limits = bounds(n as u64);
+    let above = apart();
+    sound_by(
+        n as usize,
+        cbits as usize,
+        &limits,
+        &above,
+        gates,
+        &mut words,
+    )
+}
+
+// The same, with marks for as many as there are.
+fn all_sound(n: u32, cbits: u32, gates: &[u32]) -> bool
+    requires { ⌜ cbits ≤ maxCbits ⌝ }
+    ensures { λ r. ⌜ (r ≡ true → ((checked : Checked) → recordsChecked checked n cbits 0 [] (records (now (gates .entry))) ≡ checked)) ⌝ }
+{
+    if cbits <= 1024 {
+        return sound_few(n, cbits, gates);
     }
+    sound_many(n, cbits, gates)
+}
+
+// Every gate of the list, the first faulty one deciding.
+fn check_each(before: Checked, n: u32, cbits: u32, gates: &[u32], taken: &mut [u64]) -> Checked
+    requires { ⌜ (cbits ≤ 64 * length (now taken)) × Marks [] (now taken) ⌝ }
+    ensures { λ r. ⌜ r ≡ recordsChecked before n cbits 0 [] (records (now (gates .entry))) ⌝ }
+{
     let count = gates.len() / 4;
     let mut checked = before;
     let mut i: usize = 0;
@@ -217,10 +283,26 @@ fn check_records(before: Checked, n: u32, cbits: u32, gates: &[u32]) -> Checked
             gates[4 * i + 1],
             gates[4 * i + 2],
             gates[4 * i + 3],
+            taken,
         );
         i += 1;
     }
     checked
+}
+
+// The same, where 1 refuses too many classical bits. Where no gate is faulty, that is seen faster.
+fn check_records(before: Checked, n: u32, cbits: u32, gates: &[u32]) -> Checked
+    requires { ⌜ (before ≡ Fine → cbits ≤ maxCbits) ⌝ }
+    ensures { λ r. ⌜ r ≡ recordsChecked before n cbits 0 [] (records (now (gates .entry))) ⌝ }
+{
+    if MAX_CBITS < cbits {
+        return before;
+    }
+    if !all_sound(n, cbits, gates) {
+        let mut taken = [0u64; TARGET_WORDS];
+        return check_each(before, n, cbits, gates, &mut taken);
+    }
+    before
 }
 
 // Whether the list has a ccx or ccz.

@@ -10,6 +10,7 @@ mod frame;
 mod gate;
 mod later;
 mod planes;
+mod targets;
 mod write;
 
 pub use cap::Cap;

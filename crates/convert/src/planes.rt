@@ -178,7 +178,7 @@ fn clear(planes: &mut [u64], first: usize, count: usize)
     }
 }
 
-fn bit(k: usize) -> u64
+pub(crate) fn bit(k: usize) -> u64
     requires { ⌜ k < 64 ⌝ }
     ensures { λ r. ⌜ r ≡ 2 ^ k ⌝ }
 {

@@ -1,6 +1,6 @@
 //! Functions for C, and for what can call C, over the public functions of the crates below.
 //!
-//! A slice passes as a pointer and a length. Every function but `pbc_angle` and `pbc_times` returns 0, or the refusal's number (1 to 21),
+//! A slice passes as a pointer and a length. Every function but `pbc_angle` and `pbc_times` returns 0, or the refusal's number (1 to 21, or 24),
 //! or 255 where `header` has fewer than six words or `answer` fewer than four: then it does nothing at all.
 //! `pbc_read_qasm` and `pbc_text_position` are about a text, and have no header.
 //! - `header`, six words: qubits, cbits, owner, nodes, operations, measurements. Where a call is accepted and changes them they are written anew.

@@ -11,7 +11,7 @@ use Rattle.pauli.specs.Rows.{single}
 use Rattle.arena.proofs.Accepted.{passed-before, test-passed}
 use Rattle.convert.specs.Records.{Record, kinds, kindOf, Elementary, lowerAs, lower, placedFrom, lowerFrom, bare, AllProper}
 use Rattle.convert.specs.Frame.{qubitsOf}
-use Rattle.convert.specs.Conversion.{isUnsupported, isMeasure, recordChecked, recordsChecked}
+use Rattle.convert.specs.Conversion.{isUnsupported, isMeasure, takenWith, recordChecked, recordsChecked}
 use Rattle.convert.proofs.Accepted.{passed-operands, passed-records, bare-placed}
 use Rattle.convert.proofs.meaning.Words.{map-append}
 use Rattle.operators.specs.Types.{GateKind, KindH, KindX, KindZ, KindS, KindSdg, KindT, KindTdg, KindCnot, KindCz, KindCcx, KindCcz, KindMeasure, KindY, KindSx, KindSwap, KindCy, Unsupported, Z, Checked, Fine}
@@ -75,12 +75,12 @@ abbrev pub AllSupported : List Record → Type 0
 AllSupported [] = Unit {0}
 AllSupported (r ∷ rs) = (isUnsupported (kindOf (r .kind)) ≡ false) × AllSupported rs
 
-pub supported-records : (k : Checked) (n cbits i : ℕ) (rs : List Record) → recordsChecked k n cbits i rs ≡ Fine → AllSupported rs
+pub supported-records : (k : Checked) (n cbits i : ℕ) (taken : List ℕ) (rs : List Record) → recordsChecked k n cbits i taken rs ≡ Fine → AllSupported rs
 unfolding recordsChecked recordChecked
-supported-records k n cbits i [] e = tt
-supported-records k n cbits i (r ∷ rs) e = (
-  test-passed _ _ _ (passed-operands _ n i [] (qubitsOf (kindOf (r .kind)) (r .a) (r .b) (r .c)) (passed-before _ _ _ (passed-records _ n cbits (suc i) rs e))),
-  supported-records _ n cbits (suc i) rs e,
+supported-records k n cbits i taken [] e = tt
+supported-records k n cbits i taken (r ∷ rs) e = (
+  test-passed _ _ _ (passed-operands _ n i [] (qubitsOf (kindOf (r .kind)) (r .a) (r .b) (r .c)) (passed-before _ _ _ (passed-before _ _ _ (passed-records _ n cbits (suc i) (takenWith r taken) rs e)))),
+  supported-records _ n cbits (suc i) (takenWith r taken) rs e,
 )
 
 proper-left : (n c : ℕ) (es fs : List Elementary) → AllProper n c (es ++ fs) → AllProper n c es

@@ -224,7 +224,7 @@ width-place n j = wide-start n .widths j
 supported : (x : Input) → convertCheck limits x ≡ Fine → AllSupported (records (x .gates))
 unfolding convertCheck roomChecked gatesCheck gatesChecked
 supported x e₁₅ =
-    supported-records _ (x .qubits) (x .cbits) 0 (records (x .gates))
+    supported-records _ (x .qubits) (x .cbits) 0 [] (records (x .gates))
     (passed-before _ _ _ (passed-before _ _ _ (passed-before _ _ _ (passed-before _ _ _ (passed-before _ _ _ e₁₅)))))
 
 -- the operators of an accepted conversion, with the gates since its last flush

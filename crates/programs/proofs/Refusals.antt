@@ -12,7 +12,7 @@ use Rattle.qasm.proofs.Truth.{and-left, and-right}
 use Rattle.arena.specs.Errors.{refusalIn, _⟫_⇒_}
 use Rattle.convert.specs.Records.{Record, records, kindOf}
 use Rattle.convert.specs.Frame.{operandsChecked, qubitsOf}
-use Rattle.convert.specs.Conversion.{Input, Limits, limits, isUnsupported, recordChecked, recordsChecked, planesAfter, gatesCheck, gatesChecked, roomChecked, convertCheck, convertAs, convertWithin, convertStep}
+use Rattle.convert.specs.Conversion.{Input, Limits, limits, isUnsupported, takenWith, recordChecked, recordsChecked, planesAfter, gatesCheck, gatesChecked, roomChecked, convertCheck, convertAs, convertWithin, convertStep}
 use Rattle.programs.specs.Types.{PbcError, Checked, Fine, Wrong}
 use Rattle.programs.specs.Programs.{gateRecord, refusedWith}
 use Rattle.programs.proofs.Gates.{supported}
@@ -56,6 +56,7 @@ pub record Apart (t : ℕ) : Type 0 where
   pub seven : eqb 7 t ≡ false
   pub eight : eqb 8 t ≡ false
   pub nine : eqb 9 t ≡ false
+  pub twenty-four : eqb 24 t ≡ false
   pub eleven : eqb 11 t ≡ false
   pub twelve : eqb 12 t ≡ false
   pub thirteen : eqb 13 t ≡ false
@@ -69,15 +70,18 @@ module _ (t : ℕ) (apart : Apart t) where
   operands k n i seen (q ∷ qs) h =
       operands _ n i (q ∷ seen) qs (passes t _ _ _ (apart .eight) (passes t k _ _ (apart .seven) h))
 
-  one-record : (k : Checked) (n cbits i : ℕ) (r : Record) → Avoids t k → isUnsupported (kindOf (r .kind)) && eqb 5 t ≡ false → Avoids t (recordChecked k n cbits i r)
+  one-record : (k : Checked) (n cbits i : ℕ) (taken : List ℕ) (r : Record) → Avoids t k → isUnsupported (kindOf (r .kind)) && eqb 5 t ≡ false
+      → Avoids t (recordChecked k n cbits i taken r)
   unfolding recordChecked
-  one-record k n cbits i r h known =
-      passes t _ _ _ (apart .nine) (operands _ n i [] (qubitsOf (kindOf (r .kind)) (r .a) (r .b) (r .c)) (avoids t k (isUnsupported (kindOf (r .kind))) _ h known))
+  one-record k n cbits i taken r h known =
+      let read = operands _ n i [] (qubitsOf (kindOf (r .kind)) (r .a) (r .b) (r .c)) (avoids t k (isUnsupported (kindOf (r .kind))) _ h known) in
+      passes t _ _ _ (apart .twenty-four) (passes t _ _ _ (apart .nine) read)
 
-  all-records : (k : Checked) (n cbits i : ℕ) (rs : List Record) → Avoids t k → KnownFor t rs → Avoids t (recordsChecked k n cbits i rs)
+  all-records : (k : Checked) (n cbits i : ℕ) (taken : List ℕ) (rs : List Record) → Avoids t k → KnownFor t rs → Avoids t (recordsChecked k n cbits i taken rs)
   unfolding recordsChecked
-  all-records k n cbits i [] h known = h
-  all-records k n cbits i (r ∷ rs) h known = all-records (recordChecked k n cbits i r) n cbits (suc i) rs (one-record k n cbits i r h (known .0)) (known .1)
+  all-records k n cbits i taken [] h known = h
+  all-records k n cbits i taken (r ∷ rs) h known =
+      all-records (recordChecked k n cbits i taken r) n cbits (suc i) (takenWith r taken) rs (one-record k n cbits i taken r h (known .0)) (known .1)
 
   -- the whole conversion, where the test of 2 gives another number or fails
   checks : (l : Limits) (x : Input) → (not (eqb (length (x .gates) % 4) 0) || ltb (l .gateWords) (length (x .gates))) && eqb 2 t ≡ false
@@ -85,7 +89,7 @@ module _ (t : ℕ) (apart : Apart t) where
   unfolding convertCheck roomChecked gatesCheck gatesChecked
   checks l x two known =
       let begun = avoids t _ (not (eqb (length (x .gates) % 4) 0) || ltb (l .gateWords) (length (x .gates))) _ (passes t Fine _ _ (apart .one) (apart .fine)) two in
-      let gates = all-records _ (x .qubits) (x .cbits) 0 (records (x .gates)) begun known in
+      let gates = all-records _ (x .qubits) (x .cbits) 0 [] (records (x .gates)) begun known in
       passes t _ _ _ (apart .fifteen) (passes t _ _ _ (apart .fourteen) (passes t _ _ _ (apart .thirteen) (passes t _ _ _ (apart .twelve) (passes t _ _ _ (apart .eleven) gates))))
 
   pub answered : (x : Input) → (not (eqb (length (x .gates) % 4) 0) || ltb (limits .gateWords) (length (x .gates))) && eqb 2 t ≡ false
@@ -98,10 +102,10 @@ module _ (t : ℕ) (apart : Apart t) where
       as-checked (Wrong e) h = h
 
 pub apart-five : Apart 5
-apart-five = record { fine = refl; one = refl; seven = refl; eight = refl; nine = refl; eleven = refl; twelve = refl; thirteen = refl; fourteen = refl; fifteen = refl }
+apart-five = record { fine = refl; one = refl; seven = refl; eight = refl; nine = refl; twenty-four = refl; eleven = refl; twelve = refl; thirteen = refl; fourteen = refl; fifteen = refl }
 
 pub apart-two : Apart 2
-apart-two = record { fine = refl; one = refl; seven = refl; eight = refl; nine = refl; eleven = refl; twelve = refl; thirteen = refl; fourteen = refl; fifteen = refl }
+apart-two = record { fine = refl; one = refl; seven = refl; eight = refl; nine = refl; twenty-four = refl; eleven = refl; twelve = refl; thirteen = refl; fourteen = refl; fifteen = refl }
 
 -- records that all have a kind
 pub known-five : (gs : List Text.Record) → supported gs ≡ true → KnownFor 5 (map gateRecord gs)

@@ -139,16 +139,16 @@ unfolding gatesChecked lowerAll
 gates-fit n cbits cap gs m e₁₂ =
     let e₁₁ = passed-before _ _ _ e₁₂ in
     let e₉ = passed-before _ _ _ e₁₁ in
-    let e₂ = passed-records _ n cbits 0 (records gs) e₉ in
+    let e₂ = passed-records _ n cbits 0 [] (records gs) e₉ in
     let e₁ = passed-before _ _ _ e₂ in
-    let w = proper-records _ n cbits 0 (records gs) e₉ in
+    let w = proper-records _ n cbits 0 [] (records gs) e₉ in
     let c : cbits ≤ 65536 = ltb-false _ _ (right-false (ltb 256 n) _ (test-passed _ _ _ e₁)) in
     record {
       qubits = ltb-false _ _ (left-false (ltb 256 n) _ (test-passed _ _ _ e₁));
       cbits-fit = c;
       size = ltb-false _ _ (right-false (not (eqb (length gs % 4) 0)) _ (test-passed _ _ _ e₂));
       fits = record {
-        known = known-at gs (known-records _ n cbits 0 (records gs) e₉);
+        known = known-at gs (known-records _ n cbits 0 [] (records gs) e₉);
         each = λ i h. proper-b n cbits (kindOf (getD gs (4 * i) 0)) (getD gs (4 * i + 1) 0) (getD gs (4 * i + 2) 0) (getD gs (4 * i + 3) 0) (proper-at n cbits gs w i h);
         bits = λ i h. proper-max n cbits (kindOf (getD gs (4 * i) 0)) (getD gs (4 * i + 1) 0) (getD gs (4 * i + 2) 0) (getD gs (4 * i + 3) 0) c (proper-at n cbits gs w i h);
       };
@@ -275,8 +275,14 @@ over-frame q cap gs fs fs′ fs″ e₁ e₂ len =
 
 -- ---- the checks, one after the other
 
+-- past 1 the classical bits are few enough
+pub bits-checked : (n cbits : ℕ) (gs : List ℕ) (r₁ r₂ : Checked) → r₁ ≡ (Fine ⟫ ltb maxQubits n || ltb maxCbits cbits ⇒ TooManyQubits)
+    → r₂ ≡ (r₁ ⟫ not (eqb (length gs % 4) 0) || ltb maxGateWords (length gs) ⇒ BrokenGateList) → r₂ ≡ Fine → cbits ≤ maxCbits
+bits-checked n cbits gs r₁ r₂ e₁ e₂ e =
+    ltb-false _ _ (right-false (ltb maxQubits n) _ (test-passed _ _ _ (sym e₁ ∙ passed-before _ _ _ (sym e₂ ∙ e))))
+
 pub gates-checked : (n cbits : ℕ) (cap : Cap) (gs : List ℕ) (m : ℕ) (r₁ r₂ r₃ r₄ r₅ : Checked) (x y : Bool) → r₁ ≡ (Fine ⟫ ltb maxQubits n || ltb maxCbits cbits ⇒ TooManyQubits)
-    → r₂ ≡ (r₁ ⟫ not (eqb (length gs % 4) 0) || ltb maxGateWords (length gs) ⇒ BrokenGateList) → r₃ ≡ recordsChecked r₂ n cbits 0 (records gs)
+    → r₂ ≡ (r₁ ⟫ not (eqb (length gs % 4) 0) || ltb maxGateWords (length gs) ⇒ BrokenGateList) → r₃ ≡ recordsChecked r₂ n cbits 0 [] (records gs)
     → x ≡ capTooSmall cap (records gs) → r₄ ≡ (r₃ ⟫ x ⇒ CapTooSmall) → y ≡ planesTooFew cap n m → r₅ ≡ (r₄ ⟫ y ⇒ NoPlanes) → r₅ ≡ gatesChecked limits n cbits cap gs m
 unfolding gatesChecked
 gates-checked n cbits cap gs m r₁ r₂ r₃ r₄ r₅ x y e₁ e₂ e₃ ex e₄ ey e₅ = rw (e₅, e₄, e₃, e₂, e₁, ex, ey)

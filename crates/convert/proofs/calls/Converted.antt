@@ -22,11 +22,11 @@ use Rattle.arena.proofs.Overlay.{length-overlay}
 use Rattle.arena.proofs.Accepted.{Sound}
 use Rattle.arena.proofs.Readable.{both-false, formed-over}
 use Rattle.arena.proofs.walk.Readers.{report-reads}
-use Rattle.convert.specs.Types.{Header, PbcOp, Rotate, Measure, ConditionalRotate, Malformed, Checked, Fine, Wrong}
+use Rattle.convert.specs.Types.{Header, PbcError, PbcOp, Rotate, Measure, ConditionalRotate, Malformed, Checked, Fine, Wrong}
 use Rattle.convert.specs.Records.{records, From, mapFrom, withoutIndex}
 use Rattle.convert.specs.Plain.{plainBegin}
 use Rattle.convert.specs.Words.{startWords, flat, decoded, meaning, opFrom, opsFrom, operationsIn}
-use Rattle.convert.specs.Conversion.{limits, Input, gatesIn, plainEnd, wordEnd, gatesCheck, convertCheck, planesAfter, convertedHeader, ConvertedMade, convertAs, convertWithin, convertStep}
+use Rattle.convert.specs.Conversion.{limits, Input, gatesIn, plainEnd, wordEnd, gatesCheck, convertCheck, planesAfter, convertedHeader, ConvertedMade, ConvertedRefused, convertAs, convertWithin, convertStep}
 use Rattle.convert.specs.Later.{converted}
 use Rattle.convert.specs.Statement.{AllWithin}
 use Rattle.convert.specs.Sources.{All}
@@ -201,3 +201,11 @@ converted-made x h = go (convertCheck limits x) refl
         → (convertCheck limits x ≡ Fine) × (h ≡ convertedHeader x)
     go Fine p e = let same : convertedHeader x ≡ h = cc in (p, sym same)
     go (Wrong y) p e = let z : _≡_ {A = ℕ} 0 1 = cc in absurd (omega arith)
+
+pub converted-refused : (x : Input) (error : PbcError) → convertStep x .answer ≡ ConvertedRefused error → convertCheck limits x ≡ Wrong error
+unfolding convertStep convertWithin
+converted-refused x error = go (convertCheck limits x) refl
+  where
+    go : (c : Checked) → convertCheck limits x ≡ c → convertAs c (planesAfter (gatesCheck limits x) x) x .answer ≡ ConvertedRefused error → convertCheck limits x ≡ Wrong error
+    go Fine p e = let z : _≡_ {A = ℕ} 0 1 = cc in absurd (omega arith)
+    go (Wrong y) p e = let same : y ≡ error = cc in p ∙ ap Wrong same

@@ -6,7 +6,7 @@ use Prim.Native.Nat.{ℕ, _+_, _*_}
 use Rattle.pauli.specs.Gates.{Gate, gateH, gateX, gateZ, gateS, gateSdg, gateCnot, gateCz}
 use Rattle.convert.specs.Types.{Checked}
 use Rattle.convert.specs.Records.{GateKind, Shape, NoShape, OneQubit, TwoQubits, ThreeQubits, Measured, shapeOf, kinds, kindOf, Record, records, Elementary, clifford, elT, elTdg, elCcx, elCcz, elMeasure, lowerAs}
-use Rattle.convert.specs.Conversion.{recordChecked, recordsChecked}
+use Rattle.convert.specs.Conversion.{isMeasure, recordChecked, recordsChecked}
 use Rattle.convert.specs.Code.Raw.{recordOf, costOf, closed, firstWordOf}
 use Rattle.convert.specs.declared.count.Needed.{Needed}
 
@@ -15,37 +15,38 @@ tableOf f = map f kinds
 
 -- ---- soundness
 
--- what the second operand stays below: for one qubit every word passes, for what is not supported none
-abbrev pub boundBy : ℕ → ℕ → Shape → ℕ
-boundBy n cbits NoShape = 0
-boundBy n cbits OneQubit = 4294967296
-boundBy n cbits TwoQubits = n
-boundBy n cbits ThreeQubits = n
-boundBy n cbits Measured = cbits
+-- what the second operand stays below: for one qubit every word passes, for what is not supported none; nor for a measurement, of which the table says nothing
+abbrev pub boundBy : ℕ → Shape → ℕ
+boundBy n NoShape = 0
+boundBy n OneQubit = 4294967296
+boundBy n TwoQubits = n
+boundBy n ThreeQubits = n
+boundBy n Measured = 0
 
-abbrev pub boundOf : ℕ → ℕ → GateKind → ℕ
-boundOf n cbits kind = boundBy n cbits (shapeOf kind)
+abbrev pub boundOf : ℕ → GateKind → ℕ
+boundOf n kind = boundBy n (shapeOf kind)
 
--- the qubits past the first
-abbrev pub othersBy : Shape → ℕ
-othersBy NoShape = 0
-othersBy OneQubit = 0
-othersBy TwoQubits = 1
-othersBy ThreeQubits = 2
-othersBy Measured = 0
+-- what keeps the second operand from being the first, where it is no qubit
+abbrev pub apartBy : Shape → ℕ
+apartBy NoShape = 0
+apartBy OneQubit = 4294967296
+apartBy TwoQubits = 0
+apartBy ThreeQubits = 0
+apartBy Measured = 4294967296
 
-abbrev pub othersOf : GateKind → ℕ
-othersOf kind = othersBy (shapeOf kind)
+abbrev pub apartOf : GateKind → ℕ
+apartOf kind = apartBy (shapeOf kind)
 
--- a record with these operands passes its checks, whatever came before, if this is its kind's entry
-abbrev pub Passes : ℕ → ℕ → ℕ → ℕ → ℕ → ℕ → Type 0
-Passes n bound others a b c =
-    (cbits number : ℕ) → bound ≡ boundOf n cbits (kindOf number) → others ≡ othersOf (kindOf number) → (checked : Checked) (i : ℕ) → recordChecked checked n cbits i (recordOf number a b c) ≡ checked
+-- a record with these operands is no measurement and passes its checks, whatever came before, if these are its kind's entries
+abbrev pub Passes : ℕ → ℕ → ℕ → ℕ → ℕ → ℕ → ℕ → Type 0
+Passes n number bound above a b c =
+    bound ≡ boundOf n (kindOf number) → above ≡ apartOf (kindOf number)
+    → (isMeasure (kindOf number) ≡ false) × ((checked : Checked) (cbits i : ℕ) (taken : List ℕ) → recordChecked checked n cbits i taken (recordOf number a b c) ≡ checked)
 
--- as do all records
-abbrev pub AllPass : ℕ → List ℕ → List ℕ → List ℕ → Type 0
-AllPass n bounds others gs =
-    (cbits : ℕ) → bounds ≡ tableOf (boundOf n cbits) → others ≡ tableOf othersOf → (checked : Checked) → recordsChecked checked n cbits 0 (records gs) ≡ checked
+-- all records pass their checks
+abbrev pub AllPass : ℕ → ℕ → List ℕ → List ℕ → List ℕ → Type 0
+AllPass n cbits bounds above gs =
+    bounds ≡ tableOf (boundOf n) → above ≡ tableOf apartOf → (checked : Checked) → recordsChecked checked n cbits 0 [] (records gs) ≡ checked
 
 -- ---- sums
 

@@ -1,27 +1,21 @@
-use borrow.Author.Needs.{needs}
 use Rattle.convert.proofs.checks.all_sound.Statement.{statement}
 use Rattle.convert.proofs.checks.all_sound.Tie as tie
 use Rattle.convert.proofs.checks.all_sound.Reads as reads
 use Rattle.convert.proofs.checks.all_sound.Lts as lts
-use Rattle.convert.proofs.checks.bounds.Reads as bounds-reads
-use Rattle.convert.proofs.checks.others.Reads as others-reads
-use Rattle.convert.proofs.checks.sound_by.Reads as sound-by-reads
+use Rattle.convert.proofs.checks.sound_few.Reads as sound-few-reads
+use Rattle.convert.proofs.checks.sound_many.Reads as sound-many-reads
 
-bounds-requires : tie.Need-bounds-requires
-bounds-requires c κs = search needs
-
-others-requires : tie.Need-others-requires
-others-requires c κs = search needs
-
-sound-by-requires : tie.Need-sound-by-requires
-sound-by-requires c κs = search needs
+sound-few-requires : tie.Need-sound-few-requires
+sound-few-requires c κs = c .if1 .taken
 
 returns : tie.Need-returns
-returns c e checked =
-    let others = c .before .before .before .others in
-    let bounds = c .before .before .before .before .bounds in
-    let args = c .before .before .before .before .before .before .args in
-    c .sound-by .ensures e (args .cbits) (bounds .ensures) (others .ensures) checked
+returns c = c .sound-few .ensures
+
+sound-many-requires : tie.Need-sound-many-requires
+sound-many-requires c κs = c .before .before .pre
+
+returns-2 : tie.Need-returns-2
+returns-2 c = c .sound-many .ensures
 
 pub all-sound-spec : {M : Type 1} → statement M
-all-sound-spec = tie.close (tie.spec bounds-requires others-requires sound-by-requires returns)
+all-sound-spec = tie.close (tie.spec sound-few-requires returns sound-many-requires returns-2)

@@ -1,4 +1,4 @@
-use Rattle.convert.proofs.buffers.Conversion.{gates-checked}
+use Rattle.convert.proofs.buffers.Conversion.{bits-checked, gates-checked}
 use borrow.Author.Needs.{needs}
 use Rattle.convert.proofs.checks.check_gates.Statement.{statement}
 use Rattle.convert.proofs.checks.check_gates.Tie as tie
@@ -12,7 +12,9 @@ refuse-if-requires-2 : tie.Need-refuse-if-requires-2
 refuse-if-requires-2 c κs = search needs
 
 check-records-requires : tie.Need-check-records-requires
-check-records-requires c κs = search needs
+check-records-requires c κs =
+    let args = c .before .before .before .args in
+    bits-checked (args .qubits) (args .cbits) (args .gates .now) _ _ (c .before .refuse-if .ensures) (c .refuse-if2 .ensures)
 
 cap-too-small-requires : tie.Need-cap-too-small-requires
 cap-too-small-requires c κs = search needs

@@ -131,6 +131,12 @@ enum-told-15 c = search needs
 made-requires-21 : tie.Need-made-requires-21
 made-requires-21 c κs = search needs
 
+enum-known-self-7 : tie.Need-enum-known-self-7
+enum-known-self-7 c = search needs
+
+made-requires-22 : tie.Need-made-requires-22
+made-requires-22 c κs = search needs
+
 returns : tie.Need-returns
 returns c = c .made .ensures ∙ sym (ap refusalIn (c .before .enum-told .given .1))
 
@@ -194,6 +200,9 @@ returns-20 c = c .made20 .ensures ∙ sym (ap refusalIn (c .before .before .self
 returns-21 : tie.Need-returns-21
 returns-21 c = c .made21 .ensures ∙ sym (ap refusalIn (c .before .enum-told15 .given .1))
 
+returns-22 : tie.Need-returns-22
+returns-22 c = c .made22 .ensures ∙ sym (ap refusalIn (c .before .before .self7 .given .1))
+
 pub refusal-spec : {M : Type 1} → statement M
 refusal-spec =
     tie.close
@@ -240,6 +249,8 @@ refusal-spec =
     made-requires-20
     enum-told-15
     made-requires-21
+    enum-known-self-7
+    made-requires-22
     returns
     returns-2
     returns-3
@@ -260,4 +271,5 @@ refusal-spec =
     returns-18
     returns-19
     returns-20
-    returns-21)
+    returns-21
+    returns-22)
