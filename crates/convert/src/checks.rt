@@ -218,51 +218,19 @@ fn sound_by(
     true
 }
 
-// Whether every gate passes its checks, with marks for few classical bits: to clear those of all would show on a short list.
-fn sound_few(n: u32, cbits: u32, gates: &[u32]) -> bool
-    requires { ⌜ cbits ≤ 1024 ⌝ }
-    ensures { λ r. ⌜ (r ≡ true → ((checked : Checked) → recordsChecked checked n cbits 0 [] (records (now (gates .entry))) ≡ checked)) ⌝ }
-{
-    let mut words = [0u64; 16];
-    let limits = bounds(n as u64);
-    let above = apart();
-    sound_by(
-        n as usize,
-        cbits as usize,
-        &limits,
-        &above,
-        gates,
-        &mut words,
-    )
-}
-
-// The same, with marks for all.
-fn sound_many(n: u32, cbits: u32, gates: &[u32]) -> bool
-    requires { ⌜ cbits ≤ maxCbits ⌝ }
-    ensures { λ r. ⌜ (r ≡ true → ((checked : Checked) → recordsChecked checked n cbits 0 [] (records (now (gates .entry))) ≡ checked)) ⌝ }
-{
-    let mut words = [0u64; TARGET_WORDS];
-    let limits = bounds(n as u64);
-    let above = apart();
-    sound_by(
-        n as usize,
-        cbits as usize,
-        &limits,
-        &above,
-        gates,
-        &mut words,
-    )
-}
-
-// The same, with marks for as many as there are.
+// Whether every gate passes its checks. A list with few classical bits gets few words for its marks: to clear those of all would show on a short one.
 fn all_sound(n: u32, cbits: u32, gates: &[u32]) -> bool
     requires { ⌜ cbits ≤ maxCbits ⌝ }
     ensures { λ r. ⌜ (r ≡ true → ((checked : Checked) → recordsChecked checked n cbits 0 [] (records (now (gates .entry))) ≡ checked)) ⌝ }
 {
+    let limits = bounds(n as u64);
+    let above = apart();
     if cbits <= 1024 {
-        return sound_few(n, cbits, gates);
+        let mut few = [0u64; 16];
+        return sound_by(n as usize, cbits as usize, &limits, &above, gates, &mut few);
     }
-    sound_many(n, cbits, gates)
+    let mut all = [0u64; TARGET_WORDS];
+    sound_by(n as usize, cbits as usize, &limits, &above, gates, &mut all)
 }
 
 // Every gate of the list, the first faulty one deciding.
