@@ -261,7 +261,7 @@ uint32_t pbc_push_output_clifford(uint64_t *header, size_t header_len, uint32_t 
  * PBC_PLANE_WORDS(qubits) words, and hold the frame's letters afterwards; without a cap they need none.
  * The fifth word of each operation is the index of the gate that it came from; a rotation that stands for a pending gate names that gate.
  * No value; writes the header.
- * Refuses with 1, 2, 5, 7, 8, 9, 11, 12, 13, 14, 15. */
+ * Refuses with 1, 2, then gate by gate 5, 7, 8, 9, 24, then 11, 12, 13, 14, 15. */
 uint32_t pbc_convert(uint32_t qubits, uint32_t cbits, uint64_t owner, uint64_t cap, const uint32_t *gates, size_t gates_len, uint32_t *nodes,
                      size_t nodes_len, uint32_t *operations, size_t operations_len, uint32_t *frame, size_t frame_len, uint64_t *planes,
                      size_t planes_len, uint64_t *header, size_t header_len, uint64_t *answer, size_t answer_len);

@@ -150,7 +150,7 @@ fn needs(gates: &[Gate], capped: bool) -> (usize, usize) {
 ///
 /// # Errors
 ///
-/// `TooManyQubits`, `BrokenGateList`, then of the first faulty gate `QubitOutOfRange`, `RepeatedOperand` or `ClassicalBitOutOfRange`,
+/// `TooManyQubits`, `BrokenGateList`, then of the first faulty gate `QubitOutOfRange`, `RepeatedOperand`, `ClassicalBitOutOfRange` or `TargetTaken`,
 /// then `CapTooSmall`, `NoNodes`, `NoOperations`.
 pub fn to_pbc(num_qubits: u32, num_cbits: u32, gates: &[Gate], max_weight: Option<NonZeroU32>) -> Result<PbcCircuit, PbcError> {
     let words: Vec<u32> = gates.iter().flat_map(|gate| gate.words()).collect();
