@@ -48,15 +48,18 @@ extern "C" {
 #define PBC_MAX_OPERATIONS 65536
 #define PBC_MAX_RECORDS 65536 /* that count */
 
-/* What always suffices, with any cap or none, as constant expressions where the arguments are. Where a limit cuts one of the three that are
- * counts (nodes, operations, records), the call can still be refused (14, 15, 18), and more would not help. */
+/* What always suffices, as constant expressions where the arguments are. Where a limit cuts one of the three that are counts (nodes, operations,
+ * records), the call can still be refused (14, 15, 18), and more would not help. */
 #define PBC_LEAST_(a, b) ((a) < (b) ? (a) : (b))
 /* Gates of a text of so many bytes: the shortest are of 7, as `h a[0];`. */
 #define PBC_GATES_FOR_TEXT(bytes) ((size_t)(bytes) / 7)
-/* Nodes of a circuit of so many qubits and gates; of a new circuit with 0 gates. A swap pushes 6, and a flush of it 3. */
+/* Nodes of a circuit of so many qubits and gates; of a new circuit with 0 gates. A swap pushes 6, and a flush of it 3. Under a cap of 1 or 2 the parts
+ * of a ccx or ccz push 12, and a flush of them 6: PBC_NARROW_NODES_FOR. */
 #define PBC_NODES_FOR(qubits, gates) PBC_LEAST_((size_t)PBC_MAX_NODES, 1 + 2 * (size_t)(qubits) + 9 * (size_t)(gates))
-/* Operations of so many gates. A flush of a swap writes 9, a ccx 7. */
+#define PBC_NARROW_NODES_FOR(qubits, gates) PBC_LEAST_((size_t)PBC_MAX_NODES, 1 + 2 * (size_t)(qubits) + 18 * (size_t)(gates))
+/* Operations of so many gates. A flush of a swap writes 9, a ccx 7. Under a cap of 1 or 2 the parts of a ccx write 7, and a flush of them 24. */
 #define PBC_OPERATIONS_FOR(gates) PBC_LEAST_((size_t)PBC_MAX_OPERATIONS, 9 * (size_t)(gates))
+#define PBC_NARROW_OPERATIONS_FOR(gates) PBC_LEAST_((size_t)PBC_MAX_OPERATIONS, 31 * (size_t)(gates))
 /* Records of a walk over so many nodes: a node holds a factor a qubit at the most, and record 0 is never lent. */
 #define PBC_RECORDS_FOR(qubits, nodes) PBC_LEAST_((size_t)PBC_MAX_RECORDS, 1 + (size_t)(qubits) * (size_t)(nodes))
 /* Words of gates, nodes, operations and pool, for so many of them. */
@@ -123,7 +126,7 @@ enum pbc_refusal {
     PBC_REPEATED_OPERAND = 8,           /* the same */
     PBC_CLASSICAL_BIT_OUT_OF_RANGE = 9, /* index: gate of a conversion; operand: bit */
     PBC_UNKNOWN_MEASUREMENT = 10,       /* another owner, or a number not yet given */
-    PBC_CAP_TOO_SMALL = 11,             /* 0; or 1 or 2 with a ccx or ccz */
+    PBC_CAP_TOO_SMALL = 11,             /* 0 */
     PBC_NO_PLANES = 12,                 /* too few plane words under a cap */
     PBC_NO_FRAME = 13,                  /* fewer than two frame words a qubit */
     PBC_NO_NODES = 14,                  /* more nodes needed than lent or allowed */
@@ -258,7 +261,8 @@ uint32_t pbc_push_output_clifford(uint64_t *header, size_t header_len, uint32_t 
 
 /* The circuit of a gate list. A cap over 4294967295 is none. Under a cap no axis of an odd angle or of a measurement has more letters other than
  * I: pending Clifford gates are written as rotations before one would, and those have at most two letters, whatever the cap. The planes then need
- * PBC_PLANE_WORDS(qubits) words, and hold the frame's letters afterwards; without a cap they need none.
+ * PBC_PLANE_WORDS(qubits) words, and hold the frame's letters afterwards; without a cap they need none. Under a cap of 1 or 2 a ccz is written first as
+ * thirteen gates of at most two qubits, and a ccx as the same between two h.
  * The fifth word of each operation is the index of the gate that it came from; a rotation that stands for a pending gate names that gate.
  * No value; writes the header.
  * Refuses with 1, 2, then gate by gate 5, 7, 8, 9, 24, then 11, 12, 13, 14, 15. */

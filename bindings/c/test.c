@@ -8,13 +8,13 @@
 #include <stdlib.h>
 #include <string.h>
 
-enum { OWNER = 7, QUBITS = 5, GATES = 60, MOST = PBC_NODES_FOR(QUBITS, GATES), THREADS = 4 };
+enum { OWNER = 7, QUBITS = 5, GATES = 60, MOST = PBC_NARROW_NODES_FOR(QUBITS, GATES), WRITTEN = PBC_NARROW_OPERATIONS_FOR(GATES), THREADS = 4 };
 
 static uint32_t gates[PBC_GATE_WORDS * GATES], frame[PBC_FRAME_WORDS(QUBITS)];
-static uint32_t nodes[PBC_NODES_WORDS(MOST)], operations[PBC_OPERATIONS_WORDS(PBC_OPERATIONS_FOR(GATES))];
+static uint32_t nodes[PBC_NODES_WORDS(MOST)], operations[PBC_OPERATIONS_WORDS(WRITTEN)];
 static uint32_t scratch[PBC_SCRATCH_WORDS(MOST)], pool[PBC_POOL_WORDS(PBC_RECORDS_FOR(QUBITS, MOST))];
 static uint64_t planes[PBC_PLANE_WORDS(QUBITS)], header[PBC_HEADER_WORDS], answer[PBC_ANSWER_WORDS];
-static uint8_t rows[PBC_ROWS_BYTES(QUBITS, PBC_OPERATIONS_FOR(GATES)) + 1];
+static uint8_t rows[PBC_ROWS_BYTES(QUBITS, WRITTEN) + 1];
 
 #define LENGTH(words) (sizeof(words) / sizeof *(words))
 #define LENT(words) (words), LENGTH(words)
@@ -55,10 +55,14 @@ static void put_gate(size_t i, uint32_t kind)
 static const uint32_t kinds[] = {PBC_GATE_H,  PBC_GATE_X,   PBC_GATE_Z,   PBC_GATE_S,       PBC_GATE_SDG, PBC_GATE_T,  PBC_GATE_TDG,  PBC_GATE_CNOT,
                                  PBC_GATE_CZ, PBC_GATE_CCX, PBC_GATE_CCZ, PBC_GATE_MEASURE, PBC_GATE_Y,   PBC_GATE_SX, PBC_GATE_SWAP, PBC_GATE_CY};
 
+/* With as many nodes and operations as pbc.h says suffice. */
 static uint32_t convert(uint64_t cap, size_t count)
 {
-    return pbc_convert(QUBITS, GATES, OWNER, cap, gates, PBC_GATE_WORDS * count, LENT(nodes), LENT(operations), LENT(frame), LENT(planes), LENT(header),
-                       LENT(answer));
+    int narrow = cap == 1 || cap == 2;
+    size_t most = narrow ? PBC_NARROW_NODES_FOR(QUBITS, count) : PBC_NODES_FOR(QUBITS, count);
+    size_t written = narrow ? PBC_NARROW_OPERATIONS_FOR(count) : PBC_OPERATIONS_FOR(count);
+    return pbc_convert(QUBITS, GATES, OWNER, cap, gates, PBC_GATE_WORDS * count, nodes, PBC_NODES_WORDS(most), operations,
+                       PBC_OPERATIONS_WORDS(written), LENT(frame), LENT(planes), LENT(header), LENT(answer));
 }
 
 static uint32_t weights(void)
@@ -82,7 +86,7 @@ static uint32_t expand_axes(size_t rows_len, size_t pool_len, uint64_t limit)
 /* Random lists, and lists of one kind before measurements, which have it flushed under a cap of 1. */
 static void sizes_suffice(void)
 {
-    static const uint64_t caps[] = {PBC_NO_CAP, 3, 4};
+    static const uint64_t caps[] = {PBC_NO_CAP, 1, 2, 3, 4};
     for (int round = 0; round < 300; round++) {
         for (size_t i = 0; i < GATES; i++)
             put_gate(i, kinds[below(LENGTH(kinds))]);
@@ -94,11 +98,12 @@ static void sizes_suffice(void)
     for (size_t k = 0; k < LENGTH(kinds); k++) {
         for (size_t i = 0; i < GATES; i++)
             put_gate(i, i % 4 == 3 ? (uint32_t)PBC_GATE_MEASURE : kinds[k]);
-        int doubly = kinds[k] == PBC_GATE_CCX || kinds[k] == PBC_GATE_CCZ;
-        expect("convert", convert(doubly ? 3 : 1, GATES), PBC_ACCEPTED);
+        expect("convert", convert(1, GATES), PBC_ACCEPTED);
         expect("weights", weights(), PBC_ACCEPTED);
     }
     expect("nodes of swaps", PBC_NODES_FOR(2, 10), 1 + 2 * 2 + 90);
+    expect("nodes of ccx in parts", PBC_NARROW_NODES_FOR(3, 10), 1 + 2 * 3 + 180);
+    expect("operations of ccx in parts", PBC_NARROW_OPERATIONS_FOR(10), 310);
     expect("the most nodes", PBC_NODES_FOR(256, 65536), PBC_MAX_NODES);
     expect("the most operations", PBC_OPERATIONS_FOR(65536), PBC_MAX_OPERATIONS);
     expect("the most records", PBC_RECORDS_FOR(256, 65536), PBC_MAX_RECORDS);

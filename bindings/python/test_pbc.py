@@ -305,18 +305,28 @@ class Rooms(unittest.TestCase):
         for name in NAMES:
             gates = random_gates(3, 3, 5, [name])
             circuit = pbc.to_pbc(3, 5, gates)
-            self.assertEqual(_gates.needs(3, {name: 5}, False), (len(circuit.pauli_nodes), len(circuit.operations)), name)
+            self.assertEqual(_gates.needs(3, {name: 5}, None), (len(circuit.pauli_nodes), len(circuit.operations)), name)
 
     def test_under_a_cap_they_suffice(self):
         for name in ["h", "x", "z", "s", "sdg", "cnot", "cz", "y", "sx", "swap", "cy"]:
             # All is pending where the measurement of a heavy axis has it written.
             gates = [(name, *range(_gates._KINDS[name].operands)), ("cnot", 0, 1), ("measure", 1, 0)]
             circuit = pbc.to_pbc(2, 1, gates, 1)
-            nodes, operations = _gates.needs(2, collections.Counter(gate[0] for gate in gates), True)
+            nodes, operations = _gates.needs(2, collections.Counter(gate[0] for gate in gates), 1)
             self.assertGreaterEqual(nodes, len(circuit.pauli_nodes))
             self.assertGreaterEqual(operations, len(circuit.operations))
             if circuit.max_axis_weights(1000).clifford:
                 self.assertEqual(operations, len(circuit.operations), name)
+
+    def test_toffolis_in_parts(self):
+        for name, cap, written in [("ccz", 2, 19), ("ccx", 1, 25)]:
+            gates = [("t", 0), (name, 0, 1, 2), ("t", 1)]
+            alone, calls = self.converted(3, 0, gates[1:2], cap)
+            self.assertEqual((len(alone.operations), calls), (written, 1))
+            circuit, calls = self.converted(3, 0, gates, cap)
+            self.assertEqual(calls, 1)
+            self.assertEqual({operation.gate for operation in circuit.operations}, {0, 1, 2})
+            self.assertLessEqual(circuit.max_axis_weights(10**4).non_clifford, cap)
 
     def test_one_target_has_one_measurement(self):
         with self.assertRaises(pbc.PbcError) as raised:
@@ -377,7 +387,7 @@ class Reading(unittest.TestCase):
             (lambda: circuit.measure(circuit.identity, 1), "ClassicalBitOutOfRange", "classical bit 1 is out of range"),
             (lambda: circuit.push_output_clifford("ccx", 0, 1, 2), "NonCliffordFrameGate", "the output frame does not accept ccx"),
             (lambda: pbc.to_pbc(1, 0, [("h", 0), ("h", 7)]), "QubitOutOfRange", "gate 1: qubit 7 is out of range"),
-            (lambda: pbc.to_pbc(1, 0, [], 0), "CapTooSmall", "the cap is 0, or below 3 with a ccx or ccz"),
+            (lambda: pbc.to_pbc(1, 0, [], 0), "CapTooSmall", "the cap is 0"),
             (lambda: pbc.to_pbc(257, 0, []), "TooManyQubits", "over 256 qubits, or over 65,536 classical bits"),
         ]:
             with self.assertRaises(pbc.PbcError) as raised:

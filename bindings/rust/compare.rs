@@ -2,7 +2,8 @@
 //! calls on what they become and on new circuits. Stops at the first answer that differs; else prints how many there were, and of the refusals
 //! how many of each kind.
 //!
-//! Not made are those inputs for which docs/DIFFERENCES.md lists another answer: sizes past the limits, and ccx and ccz under a cap below 3.
+//! Not made are those inputs for which docs/DIFFERENCES.md lists another answer: sizes past the limits. Under a cap of 1 or 2 the Rust is given the parts
+//! of ccx and ccz.
 //! The gate that an operation came from is the crate's alone: the other words are compared, and what was converted has a gate, what was added none.
 //! tools/beside/build puts this file among the Rust's.
 #![allow(dead_code, unused_imports, unused_variables)]
@@ -21,7 +22,7 @@ mod synthesis;
 
 use generate::{KINDS, Random, arity, gates};
 use std::collections::BTreeMap;
-use std::num::{NonZeroU32, NonZeroUsize};
+use std::num::NonZeroU32;
 
 const SEED: u64 = 0x9e37_79b9_7f4a_7c15;
 const CIRCUITS: u32 = 6_000;
@@ -224,9 +225,8 @@ impl Comparison {
 
     fn convert(&mut self, n: u32, cbits: u32, cap: Option<u32>, words: &[u32]) -> Option<Both> {
         let repeated = driver::taken(words);
-        let (circuit, _) = driver::circuit(n as usize, cbits as usize, &words[..repeated.map_or(words.len(), |(index, _)| 4 * index + 4)]);
         let list: Vec<_> = words.chunks(4).map(gate).collect();
-        let rust = pbc::to_pbc(&circuit, cap.and_then(|cap| NonZeroUsize::new(cap as usize)));
+        let rust = driver::converted(n as usize, cbits as usize, &words[..repeated.map_or(words.len(), |(index, _)| 4 * index + 4)], cap);
         let ours = bound::to_pbc(n, cbits, &list, cap.and_then(NonZeroU32::new));
         if let (Ok(_), Some((index, bit))) = (&rust, repeated) {
             assert_eq!(ours.err(), Some(bound::PbcError::TargetTaken { index: index as u64, bit: bit.into() }), "24 is missing");
@@ -402,7 +402,7 @@ impl Comparison {
         }
         let cap = [None, Some(1), Some(2), Some(3), Some(8), Some(above)][self.random.below(6) as usize];
         let count = self.random.below(if n > 8 { 600 } else { 60 });
-        let mut words = gates(&mut self.random, n, cbits, count, cap.is_none_or(|cap| cap > 2));
+        let mut words = gates(&mut self.random, n, cbits, count);
         if self.random.one_in(4) {
             self.damage(&mut words, n);
         }

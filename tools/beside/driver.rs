@@ -87,6 +87,36 @@ pub fn taken(words: &[u32]) -> Option<(usize, u32)> {
     words.chunks(4).enumerate().find(|(_, w)| w[0] == 12 && !bits.insert(w[2])).map(|(index, w)| (index, w[2]))
 }
 
+/// What the Rust makes of a list. Under a cap of 1 or 2 it is given the parts of ccx and ccz, if it takes the list as it is.
+pub fn converted(n: usize, cbits: usize, words: &[u32], cap: Option<u32>) -> Result<PbcCircuit, PbcError> {
+    let (whole, _) = circuit(n, cbits, words);
+    let cap = cap.map(|w| NonZeroUsize::new(w as usize).expect("the Rust has no cap 0"));
+    if cap.is_none_or(|cap| cap.get() > 2) {
+        return to_pbc(&whole, cap);
+    }
+    to_pbc(&whole, None)?;
+    to_pbc(&circuit(n, cbits, &parts(words)).0, cap)
+}
+
+/// The words of a list in which each ccz is written as thirteen gates, and each ccx as the same between two h: E4 of document 02.
+/// The Rust's own pass has another order (docs/DIFFERENCES.md).
+fn parts(words: &[u32]) -> Vec<u32> {
+    let (h, t, tdg, cnot) = (0, 5, 6, 8);
+    let mut list = Vec::new();
+    for w in words.chunks(4) {
+        let &[kind @ (10 | 11), a, b, d] = w else {
+            list.push([w[0], w[1], w[2], w[3]]);
+            continue;
+        };
+        let ends = if kind == 10 { vec![[h, d, 0, 0]] } else { vec![] };
+        list.extend(&ends);
+        list.extend([[cnot, b, d, 0], [tdg, d, 0, 0], [cnot, a, d, 0], [t, d, 0, 0], [cnot, b, d, 0], [tdg, d, 0, 0], [cnot, a, d, 0]]);
+        list.extend([[t, b, 0, 0], [t, d, 0, 0], [cnot, a, b, 0], [t, a, 0, 0], [tdg, b, 0, 0], [cnot, a, b, 0]]);
+        list.extend(&ends);
+    }
+    list.concat()
+}
+
 fn node_words(node: &PauliNode) -> [u32; 2] {
     match *node {
         PauliNode::Identity => [0, 0],
@@ -359,9 +389,8 @@ impl Driver {
         }
         let repeated = taken(&words);
         let read = repeated.map_or(words.len(), |(index, _)| 4 * index + 4);
-        let (circuit, stop) = circuit(n as usize, cbits as usize, &words[..read]);
-        let cap = cap.map(|w| NonZeroUsize::new(w as usize).expect("the Rust has no cap 0"));
-        Some(match (to_pbc(&circuit, cap), stop, repeated) {
+        let (_, stop) = circuit(n as usize, cbits as usize, &words[..read]);
+        Some(match (converted(n as usize, cbits as usize, &words[..read], cap), stop, repeated) {
             (Err(e), ..) => refusal(&e, 0),
             (Ok(_), Some((index, kind)), _) => format!("err 5 {index} {kind}"),
             (Ok(_), None, Some((index, bit))) => format!("err 24 {index} {bit}"),

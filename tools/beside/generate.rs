@@ -51,12 +51,12 @@ fn operands(random: &mut Random, kind: u32, n: u32) -> Option<[u32; 3]> {
     Some(out)
 }
 
-/// Sound gates of these kinds; ccx and ccz only where `doubly`. In one list of four measurements may go into one bit twice.
-pub fn gates(random: &mut Random, n: u32, cbits: u32, count: u32, doubly: bool) -> Vec<u32> {
+/// Sound gates of these kinds. In one list of four measurements may go into one bit twice.
+pub fn gates(random: &mut Random, n: u32, cbits: u32, count: u32) -> Vec<u32> {
     let (mut words, mut bits, again) = (Vec::new(), HashSet::new(), random.one_in(4));
     for _ in 0..count {
         let kind = KINDS[random.below(16) as usize];
-        if !doubly && (kind == 10 || kind == 11) || kind == 12 && cbits == 0 {
+        if kind == 12 && cbits == 0 {
             continue;
         }
         if let Some(mut q) = operands(random, kind, n) {
@@ -202,15 +202,10 @@ pub fn generate(seed: u64, lines: u64) {
         let n = if random.one_in(60) { WIDE[random.below(9) as usize] } else { random.below(9) };
         let cbits = random.below(4);
         let cap = cap(&mut random, n);
-        let doubly = cap.is_none_or(|c| c > 2);
         let count = if n > 8 { random.below(200) } else { random.below(24) };
-        let mut words = gates(&mut random, n, cbits, count, doubly);
+        let mut words = gates(&mut random, n, cbits, count);
         if random.one_in(6) {
             damage(&mut random, &mut words, n);
-            // a damaged list may hold what the Rust converts otherwise: ccx or ccz under a cap below 3
-            if !doubly && words.chunks(4).any(|g| g[0] == 10 || g[0] == 11) {
-                continue;
-            }
         }
         w.convert(n, cbits, cap, &words);
         w.walks(&mut random);
@@ -310,11 +305,7 @@ pub fn exhaust(qubits: u64, count: u64) {
     let mut places = vec![0usize; count as usize];
     loop {
         let words: Vec<u32> = places.iter().flat_map(|&p| all[p]).collect();
-        let doubly = words.chunks(4).any(|g| g[0] == 10 || g[0] == 11);
         for cap in [None, Some(1), Some(2), Some(3)] {
-            if doubly && cap.is_some_and(|c| c < 3) {
-                continue;
-            }
             w.convert(n, 1, cap, &words);
             w.read_axes();
         }

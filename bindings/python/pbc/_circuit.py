@@ -368,7 +368,7 @@ def to_pbc(num_qubits: int, num_cbits: int, gates: Iterable, max_weight: Optiona
     listed, counts = list_words(gates)
     given = (ctypes.c_uint32 * len(listed)).from_buffer(listed)
     small = min(qubits, MAX_QUBITS)
-    nodes, operations = needs(small, counts, max_weight is not None)
+    nodes, operations = needs(small, counts, max_weight)
     planes = words(0 if max_weight is None else 4 * small * max(1, -(-small // 64)), ctypes.c_uint64)
     made = PbcCircuit.__new__(PbcCircuit)
     made._start(words(NODE_WORDS * min(nodes, MAX_NODES)), words(OPERATION_WORDS * min(operations, MAX_OPERATIONS)), words(2 * small))

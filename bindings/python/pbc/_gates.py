@@ -42,6 +42,9 @@ _KINDS = {
 #: Kinds of gates, by name; cx is another name of cnot. measure takes a classical bit after its qubit.
 GATES = {name: kind.number for name, kind in _KINDS.items()}
 
+# Under a cap of 1 or 2 these are written as gates of at most two qubits: the parts' nodes and operations, and those of a flush of them.
+_IN_PARTS = {"ccx": _Kind(10, 3, 12, 7, 6, 24), "ccz": _Kind(11, 3, 12, 7, 6, 18)}
+
 _NAMES = {kind.number: name for name, kind in reversed(_KINDS.items())}
 
 
@@ -99,11 +102,11 @@ def list_words(gates):
         raise
 
 
-def needs(num_qubits, counts, capped):
+def needs(num_qubits, counts, cap):
     """The nodes and operations that suffice for a conversion; without a cap they are what it needs."""
-    nodes, operations = 1 + 2 * num_qubits, 0
+    nodes, operations, capped = 1 + 2 * num_qubits, 0, cap is not None
     for name, count in counts.items():
-        kind = _KINDS[name]
+        kind = _IN_PARTS[name] if cap in (1, 2) and name in _IN_PARTS else _KINDS[name]
         nodes += count * (kind.nodes + capped * kind.flushed_nodes)
         operations += count * (kind.operations + capped * kind.flushed_operations)
     return nodes, operations

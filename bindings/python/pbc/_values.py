@@ -19,7 +19,7 @@ _MESSAGES = [
     None, "over 256 qubits, or over 65,536 classical bits", "over 65,536 gates", "the circuit's words are damaged",
     "Pauli reference belongs to another circuit", "unsupported gate {name}", "the output frame does not accept {name}",
     "qubit {operand} is out of range", "qubit {operand} is repeated", "classical bit {operand} is out of range",
-    "measurement is not defined in this circuit", "the cap is 0, or below 3 with a ccx or ccz", "too few plane words",
+    "measurement is not defined in this circuit", "the cap is 0", "too few plane words",
     "too few frame words", "over 65,536 nodes", "over 65,536 operations", "too few scratch words", "the work is above the limit",
     "over 65,535 factors at once", "rotation and measurement axes must be Hermitian", "no statement of the subset begins here",
     "too few gate words", None, None, "classical bit {operand} is taken",

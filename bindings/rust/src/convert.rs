@@ -98,9 +98,12 @@ impl Gate {
         }
     }
 
-    /// The nodes and operations that it writes, then those that a flush of it writes.
-    fn needs(self) -> [u8; 4] {
+    /// The nodes and operations that it writes, then those that a flush of it writes. Under a cap of 1 or 2 (`narrow`) ccx and ccz are written as gates
+    /// of at most two qubits.
+    fn needs(self, narrow: bool) -> [u8; 4] {
         match self {
+            Self::Ccx(..) if narrow => [12, 7, 6, 24],
+            Self::Ccz(..) if narrow => [12, 7, 6, 18],
             Self::H(_) => [0, 0, 0, 3],
             Self::X(_) | Self::Z(_) => [0, 0, 0, 1],
             Self::S(_) | Self::Sdg(_) => [1, 0, 0, 1],
@@ -116,10 +119,11 @@ impl Gate {
 }
 
 /// The nodes and operations, besides the first nodes, that suffice for a conversion; without a cap they are what it needs.
-fn needs(gates: &[Gate], capped: bool) -> (usize, usize) {
+fn needs(gates: &[Gate], max_weight: Option<NonZeroU32>) -> (usize, usize) {
+    let narrow = max_weight.is_some_and(|cap| cap.get() < 3);
     gates.iter().fold((0, 0), |(nodes, operations), gate| {
-        let [pushed, written, flush_pushed, flush_written] = gate.needs();
-        let (flush_nodes, flush_operations) = if capped { (flush_pushed, flush_written) } else { (0, 0) };
+        let [pushed, written, flush_pushed, flush_written] = gate.needs(narrow);
+        let (flush_nodes, flush_operations) = if max_weight.is_some() { (flush_pushed, flush_written) } else { (0, 0) };
         (nodes + usize::from(pushed + flush_nodes), operations + usize::from(written + flush_operations))
     })
 }
@@ -128,6 +132,7 @@ fn needs(gates: &[Gate], capped: bool) -> (usize, usize) {
 ///
 /// Under `max_weight` no axis of an odd angle or of a measurement has more letters other than I: pending Clifford gates are written as
 /// rotations before one would. Those have at most two letters, whatever the cap. Each operation names its gate ([`PbcOp::gate`](crate::PbcOp::gate)).
+/// Under a `max_weight` of 1 or 2 a ccz is written first as thirteen gates of at most two qubits, and a ccx as the same between two h.
 /// Time and space are O(gates + qubits); under a cap O(qubits / 64) more a gate, and O(qubits² / 64) more a flush.
 ///
 /// ```
@@ -151,12 +156,12 @@ fn needs(gates: &[Gate], capped: bool) -> (usize, usize) {
 /// # Errors
 ///
 /// `TooManyQubits`, `BrokenGateList`, then of the first faulty gate `QubitOutOfRange`, `RepeatedOperand`, `ClassicalBitOutOfRange` or `TargetTaken`,
-/// then `CapTooSmall`, `NoNodes`, `NoOperations`.
+/// then `NoNodes`, `NoOperations`.
 pub fn to_pbc(num_qubits: u32, num_cbits: u32, gates: &[Gate], max_weight: Option<NonZeroU32>) -> Result<PbcCircuit, PbcError> {
     let words: Vec<u32> = gates.iter().flat_map(|gate| gate.words()).collect();
     let cap = max_weight.map_or(u64::MAX, |cap| u64::from(cap.get()));
     let mut planes = vec![0; if max_weight.is_some() { plane_words(num_qubits.min(MAX_QUBITS)) } else { 0 }];
-    let (nodes, operations) = needs(gates, max_weight.is_some());
+    let (nodes, operations) = needs(gates, max_weight);
     let mut circuit = PbcCircuit::room(num_qubits, nodes, operations);
     let PbcCircuit { header, nodes, operations, frame } = &mut circuit;
     ffi::pbc_convert(num_qubits, num_cbits, next_owner(), cap, &words, nodes, operations, frame, &mut planes, header)?;
@@ -198,6 +203,8 @@ mod tests {
 
     const CLIFFORDS: [Gate; 11] = [H(0), X(0), Z(0), S(0), Sdg(0), Cnot(0, 1), Cz(0, 1), Y(0), Sx(0), Swap(0, 1), Cy(0, 1)];
 
+    const ONE: Option<NonZeroU32> = NonZeroU32::new(1);
+
     const OTHERS: [Gate; 5] = [T(0), Tdg(0), Ccx(0, 1, 2), Ccz(0, 1, 2), Measure(0, 0)];
 
     fn used(circuit: &PbcCircuit) -> (usize, usize) {
@@ -216,7 +223,7 @@ mod tests {
         for gate in CLIFFORDS.into_iter().chain(OTHERS) {
             let again = if let Measure(qubit, _) = gate { Measure(qubit, 1) } else { gate };
             let gates = [gate, H(2), again];
-            assert_eq!(used(&to_pbc(3, 2, &gates, None).unwrap()), needs(&gates, false), "{gate:?}");
+            assert_eq!(used(&to_pbc(3, 2, &gates, None).unwrap()), needs(&gates, None), "{gate:?}");
         }
     }
 
@@ -225,11 +232,23 @@ mod tests {
         // The measured axis has weight 2 whatever the gate does, so all that is pending is written.
         for gate in CLIFFORDS {
             let gates = [gate, Cnot(2, 3), Measure(3, 0), H(0), Cz(0, 1), S(1)];
-            let circuit = to_pbc(4, 1, &gates, NonZeroU32::new(1)).unwrap();
-            let written = needs(&gates[..3], true);
-            let pending = needs(&gates[3..], false);
+            let circuit = to_pbc(4, 1, &gates, ONE).unwrap();
+            let written = needs(&gates[..3], ONE);
+            let pending = needs(&gates[3..], None);
             assert_eq!(used(&circuit), (written.0 + pending.0, written.1 + pending.1), "{gate:?}");
-            let most = needs(&gates, true);
+            let most = needs(&gates, ONE);
+            assert!(used(&circuit).0 <= most.0 && used(&circuit).1 <= most.1);
+        }
+    }
+
+    #[test]
+    fn toffolis_in_parts() {
+        for (gate, cap, written) in [(Ccz(0, 1, 2), 2, 19), (Ccx(0, 1, 2), 1, 25)] {
+            let circuit = to_pbc(3, 0, &[gate], NonZeroU32::new(cap)).unwrap();
+            assert_eq!(circuit.operations().len(), written);
+            assert!(circuit.operations().all(|operation| operation.gate() == Some(0)));
+            assert!(circuit.max_axis_weights(10_000).unwrap().non_clifford <= cap as usize);
+            let most = needs(&[gate], NonZeroU32::new(cap));
             assert!(used(&circuit).0 <= most.0 && used(&circuit).1 <= most.1);
         }
     }

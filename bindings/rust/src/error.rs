@@ -57,7 +57,7 @@ pub enum PbcError {
     },
     /// A measurement of another circuit.
     UnknownMeasurement,
-    /// A cap of 1 or 2 with a ccx or ccz.
+    /// A cap of 0, which no call of this crate can be given.
     CapTooSmall,
     /// A buffer of this crate is too short. No call leaves it so.
     NoPlanes,
@@ -151,7 +151,7 @@ impl fmt::Display for PbcError {
             Self::RepeatedOperand { index, qubit } => write!(f, "gate {index}: qubit {qubit} is repeated"),
             Self::ClassicalBitOutOfRange { index, bit } => write!(f, "gate {index}: classical bit {bit} is out of range"),
             Self::UnknownMeasurement => f.write_str("measurement is not defined in this circuit"),
-            Self::CapTooSmall => f.write_str("a ccx or ccz needs a cap of at least 3"),
+            Self::CapTooSmall => f.write_str("the cap is 0"),
             Self::NoPlanes => f.write_str("too few plane words"),
             Self::NoFrame => f.write_str("too few frame words"),
             Self::NoNodes => f.write_str("over 65,536 nodes"),

@@ -99,7 +99,6 @@ fn refusals_name_the_gate() {
     assert_eq!(refused(&[H(0), Cnot(5, 5)], None), PbcError::QubitOutOfRange { index: 1, qubit: 5 });
     assert_eq!(refused(&[Cnot(1, 1)], None), PbcError::RepeatedOperand { index: 0, qubit: 1 });
     assert_eq!(refused(&[Measure(0, 9)], None), PbcError::ClassicalBitOutOfRange { index: 0, bit: 9 });
-    assert_eq!(refused(&[Ccz(0, 1, 2)], cap(2)), PbcError::CapTooSmall);
     assert_eq!(to_pbc(257, 0, &[], None).unwrap_err(), PbcError::TooManyQubits);
     assert_eq!(refused(&vec![H(0); 65_537], None), PbcError::BrokenGateList);
 }

@@ -14,7 +14,9 @@ use Rattle.arena.specs.Store.{breaksLimit, exceedsNodes}
 use Rattle.arena.proofs.Accepted.{passed-before, test-passed, left-false, right-false, sound, NodeRoom, node-room}
 use Rattle.arena.specs.Errors.{_⟫_⇒_}
 use Rattle.convert.specs.Types.{Header, UnsupportedGate, ClassicalBitOutOfRange, Checked, Fine}
-use Rattle.convert.specs.Records.{GateKind, KindH, KindX, KindZ, KindS, KindSdg, KindT, KindTdg, KindCnot, KindCz, KindCcx, KindCcz, KindMeasure, KindY, KindSx, KindSwap, KindCy, Unsupported, Record, records, kinds, kindOf, Elementary, lowerAs, lower, placedFrom, lowerFrom, lowerAll, bare, AllProper}
+use Rattle.convert.specs.Records.{GateKind, KindH, KindX, KindZ, KindS, KindSdg, KindT, KindTdg, KindCnot, KindCz, KindCcx, KindCcz, KindMeasure, KindY, KindSx, KindSwap, KindCy, Unsupported, Record, records, kinds, kindOf, Elementary, lowerAs, lower, placedFrom, lowerFrom, lowerAll, bare, AllProper, isNarrow, lowerIn}
+use Rattle.convert.specs.Sources.{All}
+use Rattle.convert.proofs.counts.Parts.{proper-in}
 use Rattle.convert.specs.Frame.{qubitsOf, member, operandsChecked, gateNodes, total, frameGates, namesUnused, cliffordCheck}
 use Rattle.convert.specs.Conversion.{Limits, Input, isUnsupported, isMeasure, takenWith, recordChecked, recordsChecked, gatesIn, capTooSmall, wordEnd, gatesCheck, convertCheck, gatesChecked, roomChecked}
 use Rattle.convert.proofs.meaning.Words.{map-append}
@@ -42,7 +44,7 @@ pub two : (k : Checked) (n i a b : ℕ) (qs : List ℕ) → operandsChecked k n 
 unfolding operandsChecked
 two k n i a b qs e = (operand-low k n i [] a (b ∷ qs) e, operand-low _ n i (a ∷ []) b qs e, head-differs b a [] (operand-new _ n i (a ∷ []) b qs e))
 
-three : (k : Checked) (n i a b d : ℕ) → operandsChecked k n i [] (a ∷ b ∷ d ∷ []) ≡ Fine → (a < n) × (b < n) × (d < n) × (a ≢ b) × (a ≢ d) × (b ≢ d)
+pub three : (k : Checked) (n i a b d : ℕ) → operandsChecked k n i [] (a ∷ b ∷ d ∷ []) ≡ Fine → (a < n) × (b < n) × (d < n) × (a ≢ b) × (a ≢ d) × (b ≢ d)
 unfolding operandsChecked
 three k n i a b d e =
     let v = two k n i a b (d ∷ []) e in
@@ -90,23 +92,31 @@ passed-records k n cbits i taken (r ∷ rs) e =
     passed-before _ _ _ (passed-operands _ n i [] (qubitsOf (kindOf (r .kind)) (r .a) (r .b) (r .c))
     (passed-before _ _ _ (passed-before _ _ _ (passed-records _ n cbits (suc i) (takenWith r taken) rs e))))
 
-pub proper-records : (k : Checked) (n cbits i : ℕ) (taken : List ℕ) (rs : List Record) → recordsChecked k n cbits i taken rs ≡ Fine → AllProper n cbits (bare (lowerFrom i rs))
-unfolding recordsChecked recordChecked lowerFrom lower
+-- the gates of each record are proper
+abbrev pub AllLowered : ℕ → ℕ → List Record → Type 0
+AllLowered n cbits rs = All (λ r. AllProper n cbits (lower r)) rs
+
+pub proper-records : (k : Checked) (n cbits i : ℕ) (taken : List ℕ) (rs : List Record) → recordsChecked k n cbits i taken rs ≡ Fine → AllLowered n cbits rs
+unfolding recordsChecked recordChecked lower
 proper-records k n cbits i taken [] e = tt
 proper-records k n cbits i taken (r ∷ rs) e =
-    rw (map-append _ (placedFrom i 0 (lower r)) (lowerFrom (suc i) rs), bare-placed i 0 (lower r))
-    (proper-append n cbits (lower r) (bare (lowerFrom (suc i) rs))
-    (proper-lower _ n cbits i (kindOf (r .kind)) (r .a) (r .b) (r .c) (passed-before _ _ _ here) (test-passed _ _ _ here))
-    (proper-records _ n cbits (suc i) (takenWith r taken) rs e))
+    (proper-lower _ n cbits i (kindOf (r .kind)) (r .a) (r .b) (r .c) (passed-before _ _ _ here) (test-passed _ _ _ here), proper-records _ n cbits (suc i) (takenWith r taken) rs e)
   where
     here : (operandsChecked (k ⟫ isUnsupported (kindOf (r .kind)) ⇒ UnsupportedGate i (r .kind)) n i [] (qubitsOf (kindOf (r .kind)) (r .a) (r .b) (r .c))
         ⟫ isMeasure (kindOf (r .kind)) && leb cbits (r .b) ⇒ ClassicalBitOutOfRange i (r .b)) ≡ Fine
     here = passed-before _ _ _ (passed-records _ n cbits (suc i) (takenWith r taken) rs e)
 
+-- and so are all gates
+pub proper-lowered : (n cbits : ℕ) (narrow : Bool) (i : ℕ) (rs : List Record) → AllLowered n cbits rs → AllProper n cbits (bare (lowerFrom narrow i rs))
+unfolding lowerFrom
+proper-lowered n cbits narrow i [] w = tt
+proper-lowered n cbits narrow i (r ∷ rs) w =
+    rw (map-append _ (placedFrom i 0 (lowerIn narrow r)) (lowerFrom narrow (suc i) rs), bare-placed i 0 (lowerIn narrow r))
+    (proper-append n cbits (lowerIn narrow r) (bare (lowerFrom narrow (suc i) rs)) (proper-in n cbits narrow r (w .0)) (proper-lowered n cbits narrow (suc i) rs (w .1)))
+
 -- the kinds are in the list
 abbrev pub AllKnown : List Record → Type 0
-AllKnown [] = Unit {0}
-AllKnown (r ∷ rs) = (r .kind < 21) × AllKnown rs
+AllKnown rs = All (λ r. r .kind < 21) rs
 
 past-end : {A : Type 0} (xs : List A) (j : ℕ) (d : A) → length xs ≤ j → getD xs j d ≡ d
 past-end [] j d h = refl
@@ -133,7 +143,7 @@ known-records k n cbits i taken (r ∷ rs) e =
 
 pub record Accepted (l : Limits) (x : Input) : Type 0 where
   pub proper : AllProper (x .qubits) (x .cbits) (bare (gatesIn x))
-  pub cap : capTooSmall (x .cap) (records (x .gates)) ≡ false
+  pub cap : capTooSmall (x .cap) ≡ false
   pub gate-words : length (x .gates) ≤ l .gateWords
   pub qubits : x .qubits ≤ l .qubits
   pub cbits : x .cbits ≤ l .cbits
@@ -154,7 +164,7 @@ accepted l x e₁₅ =
     let e₂ = passed-records _ (x .qubits) (x .cbits) 0 [] (records (x .gates)) e₉ in
     let e₁ = passed-before _ _ _ e₂ in
     record {
-      proper = proper-records _ (x .qubits) (x .cbits) 0 [] (records (x .gates)) e₉;
+      proper = proper-lowered (x .qubits) (x .cbits) (isNarrow (x .cap)) 0 (records (x .gates)) (proper-records _ (x .qubits) (x .cbits) 0 [] (records (x .gates)) e₉);
       cap = test-passed _ _ _ e₁₁;
       gate-words = ltb-false _ _ (right-false (not (eqb (length (x .gates) % 4) 0)) _ (test-passed _ _ _ e₂));
       qubits = ltb-false _ _ (left-false (ltb (l .qubits) (x .qubits)) _ (test-passed _ _ _ e₁));

@@ -19,7 +19,7 @@ use Rattle.arena.specs.Builder.{singleCheck, singleStep, productCheck, productS
 use Rattle.arena.specs.Readers.{expandWalk}
 use Rattle.arena.specs.Expansion.{expandCheck, expandStep}
 use Rattle.convert.specs.Types.{X, Bit, NoTarget, PauliRef, TooManyQubits, BrokenGateList, UnsupportedGate, QubitOutOfRange, RepeatedOperand, ClassicalBitOutOfRange, CapTooSmall, NoPlanes, NoFrame, NoNodes, NoOperations, Fine, Wrong}
-use Rattle.convert.specs.Records.{Cap, NoCap, AtMost, records, kindOf, lowerAs, lower, lowerFrom, lowerAll}
+use Rattle.convert.specs.Records.{Cap, NoCap, AtMost, records, kindOf, lowerAs, lower, lowerFrom, lowerAll, partsOf, lowerIn}
 use Rattle.convert.specs.Plain.{plainBegin, flushFrom, tested, exceeds, flushed, performAs, plainStep, plainRun, rowsAfter, tableRun}
 use Rattle.convert.specs.Frame.{startArena, pushed, multiplied, frameStep, qubitsOf, operandsChecked, frameGates, frameRun, cliffordCheck, cliffordStep}
 use Rattle.convert.specs.Words.{startWords, flushGate, flushGates, flushWords, writeSeven, write, wordStep, wordRun}
@@ -32,7 +32,7 @@ use Rattle.convert.specs.Circuits.{gate, reference}
 input : ℕ → Cap → ℕ → ℕ → List ℕ → Input
 unfolding power flushFrom start step _⟫_⇒_ decode nodeAt dense walk breaksLimit exceedsNodes exceedsOperations foreign unknown noNodeRoom noOperationRoom singleCheck singleStep
     productCheck productStep rotateCheck rotateStep measureCheck measureStep conditionalCheck conditionalStep expandWalk expandCheck expandStep records kindOf lowerAs lower
-    lowerFrom lowerAll plainBegin tested exceeds flushed performAs plainStep plainRun rowsAfter tableRun startArena pushed multiplied frameStep qubitsOf operandsChecked frameGates
+    lowerFrom partsOf lowerIn lowerAll plainBegin tested exceeds flushed performAs plainStep plainRun rowsAfter tableRun startArena pushed multiplied frameStep qubitsOf operandsChecked frameGates
     frameRun cliffordCheck cliffordStep startWords flushGate flushGates flushWords writeSeven write wordStep wordRun mask digits rowWords rowsWords images packed gatesIn plainEnd
     tableEnd wordEnd recordChecked recordsChecked gatesCheck gatesChecked convertCheck roomChecked convertWithin convertStep converted later laters gatesOf fed
 input n cap nodes ops gs = record {
@@ -79,10 +79,32 @@ five-words : convertCheck limits (input 2 NoCap 20 20 (9 ∷ gate 0 0 0 0)) ≡ 
 unfolding input
 five-words = refl
 
--- J: n = 3; ccz 0 1 2 at cap 2 gives 11; at cap 3 passes (12 plane words serve n = 3)
-j₂ : convertCheck limits (input 3 (AtMost 2) 20 20 (gate 11 0 1 2)) ≡ Wrong CapTooSmall
+-- J: n = 3; ccz 0 1 2 at cap 2: two flushes come inside the record, 23 nodes and 19 operations; at cap 3 it is whole (12 plane words serve n = 3)
+j₂ : convertCheck limits (input 3 (AtMost 2) 23 19 (gate 11 0 1 2)) ≡ Fine
 unfolding input
 j₂ = refl
+
+j₂-nodes : convertCheck limits (input 3 (AtMost 2) 22 19 (gate 11 0 1 2)) ≡ Wrong NoNodes
+unfolding input
+j₂-nodes = refl
+
+j₂-operations : convertCheck limits (input 3 (AtMost 2) 23 18 (gate 11 0 1 2)) ≡ Wrong NoOperations
+unfolding input
+j₂-operations = refl
+
+-- ccx 0 1 2 at cap 1 writes 25 operations
+ccx₁ : convertCheck limits (input 3 (AtMost 1) 40 25 (gate 10 0 1 2)) ≡ Fine
+unfolding input
+ccx₁ = refl
+
+ccx₁-operations : convertCheck limits (input 3 (AtMost 1) 40 24 (gate 10 0 1 2)) ≡ Wrong NoOperations
+unfolding input
+ccx₁-operations = refl
+
+-- cap 0 is too small for every circuit
+j₀ : convertCheck limits (input 3 (AtMost 0) 20 20 (gate 11 0 1 2)) ≡ Wrong CapTooSmall
+unfolding input
+j₀ = refl
 
 j₃ : convertCheck limits (input 3 (AtMost 3) 20 20 (gate 11 0 1 2)) ≡ Fine
 unfolding input

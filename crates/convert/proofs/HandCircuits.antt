@@ -11,7 +11,7 @@ use Rattle.arena.specs.Store.{breaksLimit, exceedsNodes, exceedsOperations, for
 use Rattle.arena.specs.Builder.{newCheck, newStep, productCheck, productStep}
 use Rattle.arena.specs.Readers.{expandWalk, hermitianWalk, reportWalk}
 use Rattle.arena.specs.Expansion.{opAt, expandCheck, expandStep, hermitianCheck, hermitianStep, reportCheck, reportStep}
-use Rattle.convert.specs.Records.{records, kindOf, lowerAs, lower, lowerFrom, lowerAll}
+use Rattle.convert.specs.Records.{records, kindOf, lowerAs, lower, lowerFrom, lowerAll, partsOf, lowerIn}
 use Rattle.convert.specs.Plain.{plainBegin, flushFrom, tested, exceeds, flushed, performAs, plainStep, plainRun}
 use Rattle.convert.specs.Frame.{startArena, pushed, multiplied, frameStep, qubitsOf, operandsChecked}
 use Rattle.convert.specs.Words.{startWords, flushGate, flushGates, flushWords, writeSeven, write, wordStep, wordRun, meaning, operationsIn}
@@ -21,7 +21,7 @@ use Rattle.convert.specs.Circuits.{HandCircuits}
 pub hand-circuits : HandCircuits
 unfolding power flushFrom start step _⟫_⇒_ decode nodeAt values image dense walk decodeOp sourceOf axisKind breaksLimit exceedsNodes exceedsOperations foreign unknown noNodeRoom newCheck newStep
     productCheck productStep expandWalk hermitianWalk reportWalk opAt expandCheck expandStep hermitianCheck hermitianStep reportCheck reportStep records kindOf lowerAs lower
-    lowerFrom lowerAll plainBegin tested exceeds flushed performAs plainStep plainRun startArena pushed multiplied frameStep qubitsOf operandsChecked startWords flushGate
+    lowerFrom partsOf lowerIn lowerAll plainBegin tested exceeds flushed performAs plainStep plainRun startArena pushed multiplied frameStep qubitsOf operandsChecked startWords flushGate
     flushGates flushWords writeSeven write wordStep wordRun meaning operationsIn gatesIn plainEnd wordEnd recordChecked recordsChecked gatesCheck gatesChecked convertCheck
     roomChecked convertWithin convertStep
 hand-circuits = record {

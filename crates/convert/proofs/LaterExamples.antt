@@ -10,7 +10,7 @@ use Rattle.arena.specs.Limits.{handMark}
 use Rattle.arena.specs.Errors.{_⟫_⇒_}
 use Rattle.arena.specs.Store.{breaksLimit, exceedsNodes, exceedsOperations, foreign, unknown, noNodeRoom, noOperationRoom}
 use Rattle.arena.specs.Builder.{singleCheck, singleStep, productCheck, productStep, rotateCheck, rotateStep, measureCheck, measureStep, conditionalCheck, conditionalStep}
-use Rattle.convert.specs.Records.{NoCap, records, kindOf, lowerAs, lower, lowerFrom, lowerAll}
+use Rattle.convert.specs.Records.{NoCap, records, kindOf, lowerAs, lower, lowerFrom, lowerAll, partsOf, lowerIn}
 use Rattle.convert.specs.Plain.{plainBegin, flushFrom, tested, exceeds, flushed, performAs, plainStep, plainRun, rowsAfter, tableRun}
 use Rattle.convert.specs.Frame.{startArena, pushed, multiplied, frameStep, qubitsOf, operandsChecked, frameGates, frameRun, cliffordCheck, cliffordStep}
 use Rattle.convert.specs.Words.{startWords, write, wordStep, wordRun}
@@ -22,7 +22,7 @@ use Rattle.convert.specs.Circuits.{gate}
 -- n = 2, 2 classical bits, owner 7; h 0, measure 0 into 1; room for 8 nodes and 5 operations
 lent : Input
 unfolding power flushFrom start step _⟫_⇒_ breaksLimit exceedsNodes exceedsOperations foreign unknown noNodeRoom noOperationRoom singleCheck singleStep productCheck productStep
-    rotateCheck rotateStep measureCheck measureStep conditionalCheck conditionalStep records kindOf lowerAs lower lowerFrom lowerAll plainBegin tested exceeds flushed performAs
+    rotateCheck rotateStep measureCheck measureStep conditionalCheck conditionalStep records kindOf lowerAs lower lowerFrom partsOf lowerIn lowerAll plainBegin tested exceeds flushed performAs
     plainStep plainRun rowsAfter tableRun startArena pushed multiplied frameStep qubitsOf operandsChecked frameGates frameRun cliffordCheck cliffordStep startWords write wordStep
     wordRun gatesIn plainEnd tableEnd wordEnd recordChecked recordsChecked gatesCheck gatesChecked convertCheck roomChecked convertWithin convertStep converted later laters gatesOf
     fed callIn wordsAt callsTo callsIn runStep

@@ -7,6 +7,9 @@ pub mod meaning
 pub mod Accepted
 pub mod calls
 pub mod HandCircuits
+pub mod Thirteen
+pub mod ReplacedChecks
+pub mod Replaced
 pub mod Examples
 pub mod Theorems
 pub mod LaterExamples

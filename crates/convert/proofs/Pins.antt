@@ -7,7 +7,7 @@ use Rattle.pauli.specs.Table.{start, step}
 use Rattle.arena.specs.Errors.{_⟫_⇒_}
 use Rattle.arena.specs.Builder.{headerOf}
 use Rattle.convert.specs.Types.{TooManyQubits, BrokenGateList, UnsupportedGate, QubitOutOfRange, RepeatedOperand, ClassicalBitOutOfRange, TargetTaken, CapTooSmall, NoPlanes, NoFrame, NoNodes, NoOperations, PbcError}
-use Rattle.convert.specs.Records.{Cap, NoCap, AtMost, records, kindOf, lowerAs, lower, lowerFrom, lowerAll}
+use Rattle.convert.specs.Records.{Cap, NoCap, AtMost, records, kindOf, lowerAs, lower, lowerFrom, lowerAll, partsOf, lowerIn}
 use Rattle.convert.specs.Plain.{plainBegin, flushFrom, tested, exceeds, flushed, performAs, plainStep, plainRun, rowsAfter, tableRun}
 use Rattle.convert.specs.Frame.{startArena, pushed, multiplied, frameStep, qubitsOf, operandsChecked}
 use Rattle.convert.specs.Words.{flat, startWords, flushGate, flushGates, flushWords, writeSeven, write, wordStep, wordRun}
@@ -20,7 +20,7 @@ nines k = replicate k 9
 
 -- owner 7; so many words of nodes, operations, frame and planes are lent, all 9
 lent : (qubits cbits : ℕ) → Cap → List ℕ → (nodes operations frame planes : ℕ) → Input
-unfolding flushFrom start step _⟫_⇒_ records kindOf lowerAs lower lowerFrom lowerAll plainBegin tested exceeds flushed performAs plainStep plainRun rowsAfter tableRun startArena
+unfolding flushFrom start step _⟫_⇒_ records kindOf lowerAs lower lowerFrom partsOf lowerIn lowerAll plainBegin tested exceeds flushed performAs plainStep plainRun rowsAfter tableRun startArena
     pushed multiplied frameStep qubitsOf operandsChecked startWords flushGate flushGates flushWords writeSeven write wordStep wordRun mask digits rowWords rowsWords images packed
     gatesIn plainEnd tableEnd wordEnd recordChecked recordsChecked gatesCheck gatesChecked roomChecked convertCheck convertWithin convertStep
 lent n cbits cap gates nodes operations frame planes = inputOf n cbits 7 cap gates (nines nodes) (nines operations) (nines frame) (nines planes)

@@ -2,7 +2,7 @@
 use mathlib.Core.Path.{_≡_, refl, ap, ap₂, sym, _∙_, subst}
 use mathlib.Core.Logic.{_≢_}
 use mathlib.Core.Bool.{false, true≢false}
-use mathlib.Core.List.{List, [], _∷_, map}
+use mathlib.Core.List.{List, [], _∷_, map, Perm}
 use Prim.Native.Nat.{ℕ, _*_, _≤_, _<_}
 use native.Mathlib.Omega.{arith}
 use lib.ListN.{length, take}
@@ -11,6 +11,7 @@ use Rattle.pauli.specs.Rows.{Row, Width}
 use Rattle.pauli.specs.Gates.{act₁, act₂, forward, Gate, AllValid}
 use Rattle.pauli.specs.Table.{run, table}
 use Rattle.pauli.specs.Rotations.{rotations, flush}
+use Rattle.pauli.specs.Doubly.{sevenRows}
 use Rattle.pauli.proofs.Table.{table-rows}
 use Rattle.pauli.proofs.Theorems.{flush-as-gates, table-is-back, table-real, independent}
 use Rattle.arena.specs.Nodes.{image}
@@ -22,7 +23,7 @@ use Rattle.arena.proofs.NodeRows.{image-older}
 use Rattle.arena.proofs.Readable.{both-false}
 use Rattle.arena.proofs.Theorems.{expand-bad, hermitian-bad, report-bad}
 use Rattle.convert.specs.Types.{Header, PauliRef, PbcError, BadStore, TargetTaken, Fine, Wrong}
-use Rattle.convert.specs.Records.{KindY, KindSx, KindSwap, KindCy, Cap, AtMost, records, lowerAll, kindOf, Elementary, Placed, bare, mapFrom, withoutIndex, AllProper}
+use Rattle.convert.specs.Records.{isNarrow, KindY, KindSx, KindSwap, KindCy, Cap, AtMost, records, lowerAll, kindOf, Elementary, Placed, bare, mapFrom, withoutIndex, AllProper}
 use Rattle.convert.specs.Plain.{plainBegin, flushFrom, plainRun}
 use Rattle.convert.specs.Paper.{AllHermitian}
 use Rattle.convert.specs.Frame.{Arena, frameGates, cliffordCheck, opened}
@@ -33,6 +34,7 @@ use Rattle.convert.specs.Statement.{AllWithin, Capped, Frame, Means, fra
 use Rattle.convert.specs.Lowering.{ruleY, ruleSx, ruleSwap, ruleCy, loweredActs}
 use Rattle.convert.specs.Sources.{All, OfRecord, unflushedIndices, NeverFall, Sources}
 use Rattle.convert.specs.Targets.{At, OperationInto, Repeats, TargetsDiffer}
+use Rattle.convert.specs.Thirteen.{reordered, ThirteenAsSeven, ThirteenInPlace, NarrowAsReplaced}
 use Rattle.convert.specs.Circuits.{HandCircuits}
 use Rattle.convert.proofs.meaning.Nodes.{image-append}
 use Rattle.convert.proofs.meaning.FrameRows.{Keeps, kept-map, Shows, shown}
@@ -47,6 +49,8 @@ use Rattle.convert.proofs.meaning.Targets.{records-apart, operations-ap
 use Rattle.convert.proofs.calls.Table.{framed, shows-framed, later-framed, Good, good-laters, made-step, meant-input, agrees-input, good-converted}
 use Rattle.convert.proofs.meaning.Lowered.{y-acts, sx-acts, swap-acts, cy-acts}
 use Rattle.convert.proofs.HandCircuits.{hand-circuits}
+use Rattle.convert.proofs.Thirteen.{as-seven, seven-reordered, in-place-of}
+use Rattle.convert.proofs.Replaced.{as-replaced}
 use Rattle.convert.proofs.meaning.Operations.{ops-read}
 use Rattle.convert.proofs.calls.Readable.{rowsOpened, gate-shows, reads-nodes, reads-back, reads-laters}
 use Rattle.convert.proofs.calls.Operations.{operates-on, operates-back, operates-laters}
@@ -171,7 +175,7 @@ converts x e = record {
 pub sources : (x : Input) → convertCheck limits x ≡ Fine → Sources x
 sources x e = record {
   below = subst (All (λ o. o .index < length (records (x .gates)))) papers (paper-below x);
-  named = subst (All (OfRecord (x .qubits) (records (x .gates)))) papers (paper-named x);
+  named = subst (All (OfRecord (x .qubits) (isNarrow (x .cap)) (records (x .gates)))) papers (paper-named x);
   never-fall = subst (λ os. NeverFall (unflushedIndices os)) papers (paper-never-falls x);
 }
   where
@@ -198,6 +202,24 @@ targets-differ x e = record {
   operations-differ = subst (λ os. (i j b c : ℕ) → i < j → At (λ o. OperationInto b (o .what)) os i → At (λ o. OperationInto c (o .what)) os j → b ≢ c)
       (sym (converts x e .operations)) (operations-apart limits x e);
 }
+
+-- ---- E4 of document 02: ccz as thirteen gates, ccx as fifteen
+
+-- without a cap they write the seven rotations in one fixed order, each with their record's index, and leave the table, for every frame that Clifford gates can give
+pub thirteen-as-seven : ThirteenAsSeven
+thirteen-as-seven = as-seven
+
+-- that order has each of the seven rows once
+pub same-turns : Perm reordered sevenRows
+same-turns = seven-reordered
+
+-- so they give the operations of ccz and ccx themselves, reordered, and the same table
+pub thirteen-in-place : ThirteenInPlace
+thirteen-in-place = in-place-of
+
+-- under these caps a conversion is `to_pbc` on those gates, but for the index of the original gate
+pub narrow-as-replaced : NarrowAsReplaced
+narrow-as-replaced = as-replaced
 
 -- ---- demand 3
 

@@ -5,6 +5,7 @@ pub mod Words
 pub mod Seven
 pub mod State
 pub mod Writing
+pub mod Listed
 pub mod Reads
 pub mod Clifford
 pub mod Conversion

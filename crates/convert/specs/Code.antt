@@ -3,4 +3,7 @@ pub mod RawPlanes
 pub mod Needs
 pub mod Raw
 pub mod Tables
+pub mod Lists
+pub mod Counting
+pub mod Writing
 pub mod Marks

@@ -10,7 +10,7 @@ use Rattle.arena.specs.Limits.{maxQubits, maxCbits, maxNodes, maxOperations, ma
 use Rattle.arena.specs.Errors.{_⟫_⇒_}
 use Rattle.arena.specs.Builder.{overlay, headerOf}
 use Rattle.convert.specs.Types.{Header, TooManyQubits, BrokenGateList, UnsupportedGate, ClassicalBitOutOfRange, TargetTaken, CapTooSmall, NoPlanes, NoFrame, NoNodes, NoOperations, Checked, Fine, Wrong}
-use Rattle.convert.specs.Records.{GateKind, NoShape, ThreeQubits, Measured, hasShape, Cap, NoCap, AtMost, Record, records, kindOf, Elementary, Placed, lowerAll, bare}
+use Rattle.convert.specs.Records.{GateKind, NoShape, ThreeQubits, Measured, hasShape, Cap, NoCap, AtMost, isNarrow, Record, records, kindOf, Elementary, Placed, lowerAll, bare}
 use Rattle.convert.specs.Plain.{Plain, flushFrom, plainBegin, plainRun, tableRun}
 use Rattle.convert.specs.Paper.{Paper, paperRun, paperBegin}
 use Rattle.convert.specs.Frame.{qubitsOf, member, operandsChecked}
@@ -36,7 +36,7 @@ inputOf q c o cap gs ns os fs ps = record { qubits = q; cbits = c; owner = o; ca
 -- ---- the four ends: of the plain conversion, of the plain table alone, of the papers' conversion, of the words
 
 unfoldable pub gatesIn : Input → List (Placed Elementary)
-gatesIn x = lowerAll (records (x .gates))
+gatesIn x = lowerAll (isNarrow (x .cap)) (records (x .gates))
 
 unfoldable pub plainEnd : Input → Plain
 plainEnd x = plainRun flushFrom (x .qubits) (x .cap) (gatesIn x) (plainBegin (x .qubits))
@@ -80,14 +80,10 @@ recordsChecked k n cbits i taken (r ∷ rs) = recordsChecked (recordChecked k n 
 
 -- ---- the other checks
 
-abbrev pub anyDoubly : List Record → Bool
-anyDoubly [] = false
-anyDoubly (r ∷ rs) = isDoubly (kindOf (r .kind)) || anyDoubly rs
-
--- cap 0, or cap 1 or 2 with a ccx or ccz
-abbrev pub capTooSmall : Cap → List Record → Bool
-capTooSmall NoCap rs = false
-capTooSmall (AtMost cap) rs = eqb cap 0 || (leb cap 2 && anyDoubly rs)
+-- cap 0
+abbrev pub capTooSmall : Cap → Bool
+capTooSmall NoCap = false
+capTooSmall (AtMost cap) = eqb cap 0
 
 -- 4nL
 abbrev pub planeWords : ℕ → ℕ
@@ -121,7 +117,7 @@ gatesChecked l n cbits cap gs planes =
     ⟫ ltb (l .qubits) n || ltb (l .cbits) cbits ⇒ TooManyQubits
     ⟫ not (eqb (length gs % 4) 0) || ltb (l .gateWords) (length gs) ⇒ BrokenGateList)
     n cbits 0 [] (records gs)
-    ⟫ capTooSmall cap (records gs) ⇒ CapTooSmall
+    ⟫ capTooSmall cap ⇒ CapTooSmall
     ⟫ planesTooFew cap n planes ⇒ NoPlanes
 
 -- then 13, 14, 15, where so many nodes and operations are needed and so many words are lent

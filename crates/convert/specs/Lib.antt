@@ -1,7 +1,8 @@
 -- The conversion of a gate list, and the calls after it.
 -- From the reader's end: gate records (Records); the conversion in letters and phases, by a table (Plain) and by the two papers alone (Paper);
 -- in words (Frame, Words); what lowered gates do (Lowering); bit planes (Planes); its checks, answer and buffers (Conversion);
--- the later calls (Later), and as words (LaterWords); what is claimed (Statement), of the gate that an operation names (Sources) and of measurements into one bit (Targets); circuits followed by hand (Circuits).
+-- the later calls (Later), and as words (LaterWords); what is claimed (Statement), of the gate that an operation names (Sources) and of measurements into one bit (Targets);
+-- ccz and ccx as gates with short axes (Thirteen); circuits followed by hand (Circuits).
 -- Code is what functions that are not public ask of each other.
 pub mod Types
 pub mod Records
@@ -17,5 +18,6 @@ pub mod LaterWords
 pub mod Statement
 pub mod Sources
 pub mod Targets
+pub mod Thirteen
 pub mod Circuits
 pub mod Code

@@ -1,9 +1,9 @@
 -- Gate records (document 01), and the elementary gates that they are lowered to.
-use mathlib.Core.Bool.{Bool}
+use mathlib.Core.Bool.{Bool, false, cond, _&&_}
 use mathlib.Core.Logic.{_≢_}
 use mathlib.Core.List.{List, [], _∷_, _++_, map}
 use Prim.Native.Nat.{ℕ, suc, _<_}
-use lib.Dec.{eqb}
+use lib.Dec.{eqb, leb}
 use lib.ListN.{getD}
 use Rattle.pauli.specs.Gates.{Gate, gateH, gateX, gateZ, gateS, gateSdg, gateCnot, gateCz, Valid}
 pub use Rattle.convert.specs.declared.gate.GateKind.the-variants.{the-data as GateKind, H as KindH, X as KindX, Z as KindZ, S as KindS, Sdg as KindSdg, T as KindT, Tdg as KindTdg}
@@ -18,6 +18,9 @@ pub record Record : Type 0 where
   pub a : ℕ
   pub b : ℕ
   pub c : ℕ
+
+abbrev pub recordOf : ℕ → ℕ → ℕ → ℕ → Record
+recordOf k a b c = record { kind = k; a = a; b = b; c = c }
 
 -- the records that a list of words holds
 unfoldable pub records : List ℕ → List Record
@@ -100,6 +103,61 @@ lowerAs Unsupported a b c = []
 unfoldable pub lower : Record → List Elementary
 lower r = lowerAs (kindOf (r .kind)) (r .a) (r .b) (r .c)
 
+-- ---- ccx and ccz under a narrow cap (E4 of document 02)
+
+-- a cap of 1 or 2
+abbrev pub isNarrow : Cap → Bool
+isNarrow NoCap = false
+isNarrow (AtMost cap) = leb 1 cap && leb cap 2
+
+-- ccz a b d as gates whose axes are short: cnot is 8, t is 5, tdg is 6
+abbrev pub thirteenOf : ℕ → ℕ → ℕ → List Record
+thirteenOf a b d =
+    recordOf 8 b d 0 ∷ recordOf 6 d 0 0 ∷ recordOf 8 a d 0 ∷ recordOf 5 d 0 0 ∷ recordOf 8 b d 0 ∷ recordOf 6 d 0 0 ∷ recordOf 8 a d 0
+    ∷ recordOf 5 b 0 0 ∷ recordOf 5 d 0 0 ∷ recordOf 8 a b 0 ∷ recordOf 5 a 0 0 ∷ recordOf 6 b 0 0 ∷ recordOf 8 a b 0 ∷ []
+
+-- ccx a b d: the same between two h on d
+abbrev pub fifteenOf : ℕ → ℕ → ℕ → List Record
+fifteenOf a b d = recordOf 0 d 0 0 ∷ thirteenOf a b d ++ recordOf 0 d 0 0 ∷ []
+
+-- the parts of a record of this kind
+abbrev pub partsAs : GateKind → Record → List Record
+partsAs KindH r = r ∷ []
+partsAs KindX r = r ∷ []
+partsAs KindZ r = r ∷ []
+partsAs KindS r = r ∷ []
+partsAs KindSdg r = r ∷ []
+partsAs KindT r = r ∷ []
+partsAs KindTdg r = r ∷ []
+partsAs KindCnot r = r ∷ []
+partsAs KindCz r = r ∷ []
+partsAs KindCcx r = fifteenOf (r .a) (r .b) (r .c)
+partsAs KindCcz r = thirteenOf (r .a) (r .b) (r .c)
+partsAs KindMeasure r = r ∷ []
+partsAs KindY r = r ∷ []
+partsAs KindSx r = r ∷ []
+partsAs KindSwap r = r ∷ []
+partsAs KindCy r = r ∷ []
+partsAs Unsupported r = r ∷ []
+
+-- under a narrow cap; under any other, and under none, a record is its only part
+unfoldable pub partsOf : (narrow : Bool) → Record → List Record
+partsOf narrow r = cond narrow (partsAs (kindOf (r .kind)) r) (r ∷ [])
+
+-- the parts of all records
+abbrev pub expanded : (narrow : Bool) → List Record → List Record
+expanded narrow [] = []
+expanded narrow (r ∷ rs) = partsOf narrow r ++ expanded narrow rs
+
+-- ---- the gates of records
+
+abbrev pub lowerParts : List Record → List Elementary
+lowerParts [] = []
+lowerParts (r ∷ rs) = lower r ++ lowerParts rs
+
+unfoldable pub lowerIn : (narrow : Bool) → Record → List Elementary
+lowerIn narrow r = lowerParts (partsOf narrow r)
+
 -- a gate with the index of its record, and its place among the elementary gates of that record
 pub record Placed (A : Type 0) : Type 0 where
   pub gate : A
@@ -115,12 +173,12 @@ placedFrom i j [] = []
 placedFrom i j (e ∷ es) = placed i j e ∷ placedFrom i (suc j) es
 
 -- those of all records, the first of which has index i
-unfoldable pub lowerFrom : ℕ → List Record → List (Placed Elementary)
-lowerFrom i [] = []
-lowerFrom i (r ∷ rs) = placedFrom i 0 (lower r) ++ lowerFrom (suc i) rs
+unfoldable pub lowerFrom : (narrow : Bool) → ℕ → List Record → List (Placed Elementary)
+lowerFrom narrow i [] = []
+lowerFrom narrow i (r ∷ rs) = placedFrom i 0 (lowerIn narrow r) ++ lowerFrom narrow (suc i) rs
 
-unfoldable pub lowerAll : List Record → List (Placed Elementary)
-lowerAll rs = lowerFrom 0 rs
+unfoldable pub lowerAll : (narrow : Bool) → List Record → List (Placed Elementary)
+lowerAll narrow rs = lowerFrom narrow 0 rs
 
 -- the gates without their places
 abbrev pub bare : {A : Type 0} → List (Placed A) → List A

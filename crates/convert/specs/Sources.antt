@@ -8,7 +8,7 @@ use lib.Dec.{eqb}
 use lib.ListN.{length, getD}
 use Rattle.pauli.specs.Gates.{Gate}
 use Rattle.pauli.specs.Rotations.{written}
-use Rattle.convert.specs.Records.{Record, records, lower, Elementary, clifford, elT, elTdg, elCcx, elCcz, elMeasure, From}
+use Rattle.convert.specs.Records.{isNarrow, Record, records, lowerIn, Elementary, clifford, elT, elTdg, elCcx, elCcz, elMeasure, From}
 use Rattle.convert.specs.Plain.{Operation, rotateBy, measureOf, conditionalBy, malformed, asRotation}
 use Rattle.convert.specs.Paper.{writes}
 use Rattle.convert.specs.Words.{operationsIn}
@@ -51,9 +51,9 @@ abbrev pub Wrote : ℕ → Elementary → Operation → Type 0
 Wrote n e o = (Member o (flushWrites n e) × (unflushed o ≡ false)) ⊎ (Writes n e o × (unflushed o ≡ true))
 
 -- an operation names a record of the list, one of whose gates it is of
-pub record OfRecord (n : ℕ) (rs : List Record) (o : From Operation) : Type 0 where
+pub record OfRecord (n : ℕ) (narrow : Bool) (rs : List Record) (o : From Operation) : Type 0 where
   pub gate : Elementary
-  pub lowered : Member gate (getD (map lower rs) (o .index) [])
+  pub lowered : Member gate (getD (map (lowerIn narrow) rs) (o .index) [])
   pub wrote : Wrote n gate (o .what)
 
 -- ---- the order of indices
@@ -77,6 +77,6 @@ pub record Sources (x : Input) : Type 0 where
   -- every index is below the number of gate records
   pub below : All (λ o. o .index < length (records (x .gates))) (readBack x)
   -- the record that it names is one whose lowering contains the operation's gate
-  pub named : All (OfRecord (x .qubits) (records (x .gates))) (readBack x)
+  pub named : All (OfRecord (x .qubits) (isNarrow (x .cap)) (records (x .gates))) (readBack x)
   -- the indices of operations that no flush wrote never fall
   pub never-fall : NeverFall (unflushedIndices (readBack x))

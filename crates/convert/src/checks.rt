@@ -26,11 +26,10 @@ ghost use lib.ListN.{length, take};
 ghost use Rattle.arena.specs.Limits.{maxCbits};
 ghost use Rattle.arena.specs.Errors.{_⟫_⇒_};
 ghost use Rattle.convert.specs.Types.{QubitOutOfRange, Fine};
-ghost use Rattle.convert.specs.Records.{records};
+ghost use Rattle.convert.specs.Records.{recordOf, records};
 ghost use Rattle.convert.specs.Frame.{qubitsOf, operandsChecked, namesUnused, cliffordCheck};
-ghost use Rattle.convert.specs.Conversion.{takenWith, recordChecked, recordsChecked, anyDoubly, capTooSmall, planesTooFew, gatesChecked, roomChecked, limits};
+ghost use Rattle.convert.specs.Conversion.{takenWith, recordChecked, recordsChecked, capTooSmall, planesTooFew, gatesChecked, roomChecked, limits};
 ghost use Rattle.convert.specs.Planes.{partWords};
-ghost use Rattle.convert.specs.Code.Raw.{recordOf};
 ghost use Rattle.convert.specs.Code.Marks.{Marks};
 ghost use Rattle.convert.specs.Code.Tables.{tableOf, boundOf, apartOf, Passes, AllPass};
 
@@ -39,6 +38,11 @@ pub const MAX_GATE_WORDS: usize = 4 * (MAX_GATES as usize);
 
 // A mark for each classical bit.
 const TARGET_WORDS: usize = (MAX_CBITS as usize) / 64;
+
+// Of a list with no more classical bits than these, fewer words hold the marks.
+const FEW_CBITS: u32 = 1024;
+
+const FEW_TARGET_WORDS: usize = (FEW_CBITS as usize) / 64;
 
 // A qubit of gate i.
 fn check_operand(checked: Checked, n: u32, i: u64, q: u32) -> Checked
@@ -225,8 +229,8 @@ fn all_sound(n: u32, cbits: u32, gates: &[u32]) -> bool
 {
     let limits = bounds(n as u64);
     let above = apart();
-    if cbits <= 1024 {
-        let mut few = [0u64; 16];
+    if cbits <= FEW_CBITS {
+        let mut few = [0u64; FEW_TARGET_WORDS];
         return sound_by(n as usize, cbits as usize, &limits, &above, gates, &mut few);
     }
     let mut all = [0u64; TARGET_WORDS];
@@ -273,32 +277,13 @@ fn check_records(before: Checked, n: u32, cbits: u32, gates: &[u32]) -> Checked
     before
 }
 
-// Whether the list has a ccx or ccz.
-fn any_doubly(gates: &[u32]) -> bool
-    ensures { λ r. ⌜ r ≡ anyDoubly (records (now (gates .entry))) ⌝ }
-{
-    let count = gates.len() / 4;
-    let mut found = false;
-    let mut i: usize = 0;
-    while i < count {
-        found = found | GateKind::of(gates[4 * i]).has_shape(Shape::Three);
-        i += 1;
-    }
-    found
-}
-
-// Cap 0, or cap 1 or 2 with a ccx or ccz.
-fn cap_too_small(cap: Cap, gates: &[u32]) -> bool
-    ensures { λ r. ⌜ r ≡ capTooSmall cap (records (now (gates .entry))) ⌝ }
+// Cap 0.
+fn cap_too_small(cap: Cap) -> bool
+    ensures { λ r. ⌜ r ≡ capTooSmall cap ⌝ }
 {
     match cap {
         Cap::None => false,
-        Cap::AtMost(most) => {
-            if 2 < most {
-                return false;
-            }
-            (most == 0) | any_doubly(gates)
-        }
+        Cap::AtMost(most) => most == 0,
     }
 }
 
@@ -352,7 +337,7 @@ pub(crate) fn check_gates(
             PbcError::BrokenGateList,
         );
     check_records(sized, qubits, cbits, gates)
-        .refuse_if(cap_too_small(cap, gates), PbcError::CapTooSmall)
+        .refuse_if(cap_too_small(cap), PbcError::CapTooSmall)
         .refuse_if(planes_too_few(cap, qubits, planes), PbcError::NoPlanes)
 }
 

@@ -83,7 +83,8 @@ fn check_needs(
     }
 }
 
-/// The gate list as a Pauli-based circuit. Refuses with 1, 2, 5, 7, 8, 9, 24, 11 to 15. O(gates) without a cap; under a cap each gate works on
+/// The gate list as a Pauli-based circuit. Under a cap of 1 or 2, ccx and ccz are written first as gates with short axes, and their operations keep their
+/// index. Refuses with 1, 2, 5, 7, 8, 9, 24, 11 to 15. O(gates) without a cap; under a cap each gate works on
 /// whole images, O(gates × qubits / 64), and a flush on those touched since the last one, or on all; once more where the room lent might be too small.
 /// Promise: `convertStep`.
 pub fn to_pbc(

@@ -3,21 +3,23 @@
 use crate::frame::push;
 use crate::gate::GateKind;
 use crate::gate::kind_at;
+use crate::gate::next_part;
 use crate::gate::operand_at;
+use crate::gate::words_of_part;
 use arena::put_operation;
 ghost use mathlib.Core.Path.{_≡_};
-ghost use mathlib.Core.Bool.{false};
+ghost use mathlib.Core.Bool.{true, false};
 ghost use mathlib.Core.List.{[], _∷_};
-ghost use Prim.Native.Nat.{_+_, _*_, _/_, _<_, _≤_};
+ghost use Prim.Native.Nat.{ℕ, _+_, _-_, _*_, _/_, _<_, _≤_};
 ghost use lib.ListN.{length};
 ghost use lib.Seq.{sets};
 ghost use Rattle.pauli.specs.Gates.{gateH, gateX, gateZ, gateS, gateSdg, gateCnot, gateCz};
-ghost use Rattle.arena.specs.Limits.{maxQubits, maxNodes, maxOperations, nodeWords, operationWords};
+ghost use Rattle.arena.specs.Limits.{maxQubits, maxGates, maxNodes, maxOperations, nodeWords, operationWords};
 ghost use Rattle.arena.specs.Operations.{rotateWords};
 ghost use Rattle.convert.specs.Records.{TwoQubits, hasShape, from};
 ghost use Rattle.convert.specs.Conversion.{maxGateWords};
 ghost use Rattle.convert.specs.Words.{idX, idZ};
-ghost use Rattle.convert.specs.Code.Raw.{maxWord, writing, putJoint, FlushReady, Flushed, recordGates, recordFrom, gatesOver};
+ghost use Rattle.convert.specs.Code.Raw.{maxWord, writing, putJoint, FlushReady, Flushed, FlushOver, InParts, stepped, recordGates, recordFrom, gatesOver, listedGates};
 
 /// The nodes and operations used.
 pub struct Used {
@@ -330,30 +332,57 @@ fn flush_record(
     }
 }
 
-// The frame gates of so many records from one on.
-pub(crate) fn flush_records(
+// The frame gates of a list's records from one to another. The first record of the list has this index.
+pub(crate) fn flush_list(
+    w0: Used,
+    nodes: &mut [u32],
+    operations: &mut [u32],
+    n: usize,
+    list: &[u32],
+    index: u32,
+    from: usize,
+    to: usize,
+) -> Used
+    requires { ⌜ FlushReady n (listedGates index (now list) from (to - from)) (w0 .nodes) (now nodes) (w0 .operations) (now operations) ⌝ }
+    requires { ⌜ (from ≤ to) × (to ≤ length (now list) / 4) × (index + to ≤ maxGates) ⌝ }
+    ensures { λ r. ⌜ Flushed (listedGates index (now (list .entry)) from (to - from)) (w0 .nodes) (now (nodes .entry)) (w0 .operations) (now (operations .entry))
+        (r .nodes) (now (nodes .exit)) (r .operations) (now (operations .exit)) ⌝ }
+{
+    let mut w = w0;
+    let mut k = from;
+    while k < to {
+        let kind = kind_at(list, k);
+        let a = operand_at(list, k, 1);
+        let b = operand_at(list, k, 2);
+        let gate = index + (k as u32);
+        w = flush_record(w, nodes, operations, gate, n, kind, a, b);
+        k += 1;
+    }
+    w
+}
+
+// The frame gates of the parts from one position to another, each as a list of its own.
+pub(crate) fn flush_parts(
     w0: Used,
     nodes: &mut [u32],
     operations: &mut [u32],
     n: usize,
     gates: &[u32],
     from: usize,
-    count: usize,
+    to: usize,
 ) -> Used
-    requires { ⌜ FlushReady n (gatesOver (now gates) from count) (w0 .nodes) (now nodes) (w0 .operations) (now operations) ⌝ }
-    requires { ⌜ (from + count ≤ length (now gates) / 4) × (length (now gates) ≤ maxGateWords) ⌝ }
-    ensures { λ r. ⌜ Flushed (gatesOver (now (gates .entry)) from count) (w0 .nodes) (now (nodes .entry)) (w0 .operations) (now (operations .entry))
-        (r .nodes) (now (nodes .exit)) (r .operations) (now (operations .exit)) ⌝ }
+    requires { ⌜ FlushOver n true (now gates) from to (w0 .nodes) (now nodes) (w0 .operations) (now operations) ⌝ }
+    requires { ⌜ InParts true (now gates) from × (to ≤ 16 * (length (now gates) / 4)) × (length (now gates) ≤ maxGateWords) ⌝ }
+    ensures { λ r. ⌜ ((k : ℕ) → stepped true (now (gates .entry)) k from ≡ to
+        → Flushed (gatesOver true (now (gates .entry)) from k) (w0 .nodes) (now (nodes .entry)) (w0 .operations) (now (operations .entry))
+        (r .nodes) (now (nodes .exit)) (r .operations) (now (operations .exit))) ⌝ }
 {
     let mut w = w0;
-    let mut k: usize = 0;
-    while k < count {
-        let kind = kind_at(gates, from + k);
-        let a = operand_at(gates, from + k, 1);
-        let b = operand_at(gates, from + k, 2);
-        let gate = (from + k) as u32;
-        w = flush_record(w, nodes, operations, gate, n, kind, a, b);
-        k += 1;
+    let mut p = from;
+    while p < to {
+        let list = words_of_part(gates, p);
+        w = flush_list(w, nodes, operations, n, &list, (p / 16) as u32, 0, 1);
+        p = next_part(gates, p);
     }
     w
 }

@@ -4,7 +4,8 @@ use crate::cap::Cap;
 use crate::count::decide_by;
 use crate::count::prepare;
 use crate::flush::Used;
-use crate::flush::flush_records;
+use crate::flush::flush_list;
+use crate::flush::flush_parts;
 use crate::flush::made;
 use crate::flush::put_rotation;
 use crate::form::CCZ;
@@ -18,18 +19,22 @@ use crate::frame::frame_by;
 use crate::frame::push;
 use crate::gate::GateKind;
 use crate::gate::kind_at;
+use crate::gate::next_part;
 use crate::gate::number_at;
 use crate::gate::operand_at;
+use crate::gate::words_of_part;
 use arena::put_operation;
 use arena::start_frame;
 ghost use mathlib.Core.Path.{_≡_};
 ghost use mathlib.Core.Bool.{true, cond};
-ghost use mathlib.Core.List.{[]};
-ghost use Prim.Native.Nat.{_+_, _*_, _/_, _%_, _<_, _≤_};
+ghost use mathlib.Core.List.{List, []};
+ghost use Prim.Native.Nat.{ℕ, _+_, _*_, _/_, _%_, _<_, _≤_};
 ghost use lib.ListN.{length};
 ghost use Rattle.convert.specs.Code.Raw.{maxWord, writing, rowAt, subsetOf, subsetWord, putRows, putFour, putSeven, putRecord, RecordReady};
-ghost use Rattle.convert.specs.Code.Raw.{FlushReady, FlushedIf, gatesOver, planesFor, isCapped, measuresOf, Fits, Room, wordsLast, plainLast};
+ghost use Rattle.convert.specs.Code.Raw.{FlushOver, FlushedIf, InParts, stepped, gatesOver, planesFor, isCapped, Fits, Room, wordsLast, plainLast};
 ghost use Rattle.convert.specs.Code.Tables.{formOf};
+ghost use Rattle.convert.specs.Code.Lists.{Listed};
+ghost use Rattle.convert.specs.Code.Writing.{WriteAt, Going, Gone, ListDone, Wrote};
 ghost use Rattle.arena.specs.Limits.{maxQubits, maxCbits, maxNodes, maxOperations, nodeWords, operationWords};
 ghost use Rattle.arena.specs.Builder.{overlay, startNodes, startFrame};
 ghost use Rattle.convert.specs.Conversion.{maxGateWords};
@@ -190,7 +195,8 @@ fn write_by(
     )
 }
 
-// The pending gates, of so many records from one on, are written; then the frame starts again.
+// The pending gates are written; then the frame starts again. Under a narrow cap they are those of the parts from one position to another, else those of
+// the records from one to another.
 fn flush_if(
     flushed: bool,
     w: Used,
@@ -198,35 +204,55 @@ fn flush_if(
     operations: &mut [u32],
     frame: &mut [u32],
     n: usize,
+    narrow: bool,
     gates: &[u32],
     from: usize,
-    count: usize,
+    to: usize,
+    place: usize,
+    i: usize,
 ) -> Used
-    requires { ⌜ (flushed ≡ true → FlushReady n (gatesOver (now gates) from count) (w .nodes) (now nodes) (w .operations) (now operations)) ⌝ }
-    requires { ⌜ (from + count ≤ length (now gates) / 4) × (length (now gates) ≤ maxGateWords) × (n ≤ maxQubits) × (2 * n ≤ length (now frame)) ⌝ }
-    ensures { λ r. ⌜ FlushedIf flushed n (gatesOver (now (gates .entry)) from count) (w .nodes) (now (nodes .entry)) (now (frame .entry)) (w .operations) (now (operations .entry))
-        (r .nodes) (now (nodes .exit)) (now (frame .exit)) (r .operations) (now (operations .exit)) ⌝ }
+    requires { ⌜ (flushed ≡ true → FlushOver n narrow (now gates) (cond narrow from (16 * place)) (cond narrow to (16 * i)) (w .nodes) (now nodes) (w .operations) (now operations)) ⌝ }
+    requires { ⌜ InParts narrow (now gates) (cond narrow from (16 * place)) × (cond narrow to (16 * i) ≤ 16 * (length (now gates) / 4)) × (length (now gates) ≤ maxGateWords)
+        × (n ≤ maxQubits) × (2 * n ≤ length (now frame)) ⌝ }
+    ensures { λ r. ⌜ ((k : ℕ) → stepped narrow (now (gates .entry)) k (cond narrow from (16 * place)) ≡ cond narrow to (16 * i)
+        → FlushedIf flushed n (gatesOver narrow (now (gates .entry)) (cond narrow from (16 * place)) k) (w .nodes) (now (nodes .entry)) (now (frame .entry)) (w .operations)
+        (now (operations .entry)) (r .nodes) (now (nodes .exit)) (now (frame .exit)) (r .operations) (now (operations .exit))) ⌝ }
 {
     if !flushed {
         return w;
     }
     start_frame(frame, n as u32);
-    flush_records(w, nodes, operations, n, gates, from, count)
+    if narrow {
+        return flush_parts(w, nodes, operations, n, gates, from, to);
+    }
+    flush_list(w, nodes, operations, n, gates, 0, place, i)
 }
 
-/// The nodes, operations and measurements of a circuit.
+/// The nodes, operations and measurements of a circuit, and whether there was a flush.
 pub struct Written {
     pub nodes: u32,
     pub operations: u32,
     pub measurements: u32,
+    pub flushed: bool,
+}
+
+fn outcome(w: Used, measurements: u32, flushed: bool) -> Written
+    ensures { λ r. ⌜ (r .nodes ≡ w .nodes) × (r .operations ≡ w .operations) × (r .measurements ≡ measurements) × (r .flushed ≡ flushed) ⌝ }
+{
+    Written {
+        nodes: w.nodes,
+        operations: w.operations,
+        measurements,
+        flushed,
+    }
 }
 
 // The place of the last flush.
-fn later(flushed: bool, i: usize, place: usize) -> usize
-    ensures { λ r. ⌜ r ≡ cond flushed i place ⌝ }
+fn later(flushed: bool, p: usize, place: usize) -> usize
+    ensures { λ r. ⌜ r ≡ cond flushed p place ⌝ }
 {
     if flushed {
-        return i;
+        return p;
     }
     place
 }
@@ -236,6 +262,154 @@ fn measures(form: u64) -> u32
     ensures { λ r. ⌜ r ≡ form / 4096 % 2 ⌝ }
 {
     (form / MEASURE % 2) as u32
+}
+
+// The gates of a list: without a narrow cap the whole one, else one part of a record, at position `first`, where the pending gates are those from
+// position `from` on. One loop for both, with two callers: the compiler then keeps it apart, and a list that is not split pays nothing. Of a part,
+// `place` begins at 1, and 0 says that a flush came: a flag of its own would cost every gate.
+fn write_list(
+    before: Written,
+    nodes: &mut [u32],
+    operations: &mut [u32],
+    frame: &mut [u32],
+    planes: &mut [u64],
+    n: usize,
+    l: usize,
+    cap: Cap,
+    narrow: bool,
+    gates: &[u32],
+    list: &[u32],
+    from: usize,
+    first: usize,
+    index: u32,
+    begun: usize,
+) -> Written
+    requires { ⌜ Fits n (now gates) ⌝ }
+    requires { ⌜ Room n cap (now gates) (now nodes) (now operations) ⌝ }
+    requires { ⌜ (l ≡ partWords n) × (isCapped cap ≡ true → (n + n) * (l + l) ≤ length (now planes)) × (n ≤ maxQubits)
+        × (length (now gates) ≤ maxGateWords) × (n + n ≤ length (now frame)) ⌝ }
+    requires { ⌜ Listed narrow (now gates) (now list) from first index × (begun ≡ cond narrow 1 0) ⌝ }
+    requires { ⌜ Gone n cap narrow (now gates) (before .nodes) (now nodes) (now frame) (before .operations) (now operations) (now planes) (before .measurements) from first ⌝ }
+    ensures { λ r. ⌜ ((ns₀ fs₀ os₀ ps₀ : List ℕ)
+        → Going n cap narrow (now (gates .entry)) ns₀ fs₀ os₀ ps₀ (before .nodes) (now (nodes .entry)) (now (frame .entry)) (before .operations) (now (operations .entry))
+        (now (planes .entry)) (before .measurements) from first
+        → ListDone n cap narrow (now (gates .entry)) ns₀ fs₀ os₀ ps₀ from first (r .nodes) (now (nodes .exit)) (now (frame .exit)) (r .operations) (now (operations .exit))
+        (now (planes .exit)) (r .measurements) (r .flushed)) ⌝ }
+{
+    let table = forms();
+    let count = list.len() / 4;
+    let mut w = made(before.nodes, before.operations);
+    let mut given = before.measurements;
+    let mut place = begun;
+    let mut i: usize = 0;
+    while i < count {
+        let kind = kind_at(list, i);
+        let a = operand_at(list, i, 1);
+        let b = operand_at(list, i, 2);
+        let d = operand_at(list, i, 3);
+        let number = number_at(list, i);
+        let form = table[number];
+        let flushed = decide_by(
+            planes,
+            n,
+            l,
+            cap,
+            form,
+            kind,
+            a,
+            b,
+            d,
+            narrow,
+            gates,
+            place,
+            i,
+        );
+        let w1 = flush_if(
+            flushed,
+            w,
+            nodes,
+            operations,
+            frame,
+            n,
+            narrow,
+            gates,
+            from,
+            first,
+            place,
+            i,
+        );
+        let c = frame_by(w1.nodes, nodes, frame, n, form, kind, a, b);
+        let w2 = made(c, w1.operations);
+        let gate = index + (i as u32);
+        w = write_by(
+            w2,
+            given,
+            nodes,
+            operations,
+            frame,
+            gate,
+            n,
+            form,
+            kind,
+            a,
+            b,
+            d,
+        );
+        given = given + measures(form);
+        place = later(flushed, i, place);
+        i += 1;
+    }
+    outcome(w, given, place == 0)
+}
+
+// The parts of all records under a narrow cap, each as a list of its own.
+fn write_parts(
+    before: Written,
+    nodes: &mut [u32],
+    operations: &mut [u32],
+    frame: &mut [u32],
+    planes: &mut [u64],
+    n: usize,
+    l: usize,
+    cap: Cap,
+    gates: &[u32],
+) -> Written
+    requires { ⌜ Fits n (now gates) ⌝ }
+    requires { ⌜ Room n cap (now gates) (now nodes) (now operations) ⌝ }
+    requires { ⌜ (l ≡ partWords n) × (isCapped cap ≡ true → (n + n) * (l + l) ≤ length (now planes)) × (n ≤ maxQubits)
+        × (length (now gates) ≤ maxGateWords) × (n + n ≤ length (now frame)) ⌝ }
+    requires { ⌜ WriteAt n cap true (now gates) (now nodes) (now frame) (now operations) (now planes) (before .nodes) (now nodes) (now frame) (before .operations) (now operations)
+        (now planes) (before .measurements) 0 0 ⌝ }
+    ensures { λ r. ⌜ Wrote n cap true (now (gates .entry)) (now (nodes .entry)) (now (frame .entry)) (now (operations .entry)) (now (planes .entry)) (r .nodes) (now (nodes .exit))
+        (now (frame .exit)) (r .operations) (now (operations .exit)) (now (planes .exit)) (r .measurements) ⌝ }
+{
+    let end = 16 * (gates.len() / 4);
+    let mut w = before;
+    let mut place: usize = 0;
+    let mut p: usize = 0;
+    while p < end {
+        let list = words_of_part(gates, p);
+        w = write_list(
+            w,
+            nodes,
+            operations,
+            frame,
+            planes,
+            n,
+            l,
+            cap,
+            true,
+            gates,
+            &list,
+            place,
+            p,
+            (p / 16) as u32,
+            1,
+        );
+        place = later(w.flushed, p, place);
+        p = next_part(gates, p);
+    }
+    w
 }
 
 // The whole list, where the nodes and the frame are those of the start and the needs fit.
@@ -264,55 +438,25 @@ pub(crate) fn write_records(
         × (length (wordsLast n cap (now (gates .entry)) .arena .frame) ≡ n + n) ⌝ }
 {
     prepare(planes, n, l, cap);
-    let table = forms();
-    let count = gates.len() / 4;
-    let mut w = made(1 + 2 * (n as u32), 0);
-    let mut given: u32 = 0;
-    let mut place: usize = 0;
-    let mut i: usize = 0;
-    while i < count {
-        let kind = kind_at(gates, i);
-        let a = operand_at(gates, i, 1);
-        let b = operand_at(gates, i, 2);
-        let d = operand_at(gates, i, 3);
-        let number = number_at(gates, i);
-        let form = table[number];
-        let flushed = decide_by(planes, n, l, cap, form, kind, a, b, d, gates, place, i);
-        let w1 = flush_if(
-            flushed,
-            w,
-            nodes,
-            operations,
-            frame,
-            n,
-            gates,
-            place,
-            i - place,
-        );
-        let c = frame_by(w1.nodes, nodes, frame, n, form, kind, a, b);
-        let w2 = made(c, w1.operations);
-        let gate = i as u32;
-        w = write_by(
-            w2,
-            given,
-            nodes,
-            operations,
-            frame,
-            gate,
-            n,
-            form,
-            kind,
-            a,
-            b,
-            d,
-        );
-        given = given + measures(form);
-        place = later(flushed, i, place);
-        i += 1;
+    let start = outcome(made(1 + 2 * (n as u32), 0), 0, false);
+    if cap.is_narrow() {
+        return write_parts(start, nodes, operations, frame, planes, n, l, cap, gates);
     }
-    Written {
-        nodes: w.nodes,
-        operations: w.operations,
-        measurements: given,
-    }
+    write_list(
+        start,
+        nodes,
+        operations,
+        frame,
+        planes,
+        n,
+        l,
+        cap,
+        false,
+        gates,
+        gates,
+        0,
+        0,
+        0,
+        0,
+    )
 }

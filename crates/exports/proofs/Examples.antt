@@ -16,7 +16,7 @@ use Rattle.arena.specs.Builder.{newCheck, newStep, singleCheck, singleStep, pro
 use Rattle.arena.specs.Walk.{walk}
 use Rattle.arena.specs.Readers.{expandWalk, hermitianWalk, reportWalk, axesWalk}
 use Rattle.arena.specs.Expansion.{opAt, expandCheck, expandStep, hermitianCheck, hermitianStep, reportCheck, reportStep, axesCheck, axesStep}
-use Rattle.convert.specs.Records.{records, kindOf, lowerAs, lower, lowerFrom, lowerAll}
+use Rattle.convert.specs.Records.{records, kindOf, lowerAs, lower, lowerFrom, lowerAll, partsOf, lowerIn}
 use Rattle.convert.specs.Plain.{plainBegin, tested, exceeds, flushFrom, flushed, performAs, plainStep, plainRun, rowsAfter, tableRun}
 use Rattle.convert.specs.Frame.{startArena, pushed, multiplied, frameStep, qubitsOf, operandsChecked, frameGates, frameRun, cliffordCheck, cliffordStep}
 use Rattle.convert.specs.Words.{startWords, flushGate, flushGates, flushWords, writeSeven, write, wordStep, wordRun}
@@ -37,7 +37,7 @@ use Rattle.exports.specs.Texts.{programReply, readQasmCall, positionRepl
 header : List ℕ
 unfolding power flushFrom start step _⟫_⇒_ decode nodeAt dense sourceOf decodeOp axisKind breaksLimit exceedsNodes exceedsOperations foreign unknown noNodeRoom noOperationRoom newCheck newStep singleCheck
     singleStep productCheck productStep rotateCheck rotateStep measureCheck measureStep conditionalCheck conditionalStep walk expandWalk hermitianWalk reportWalk opAt expandCheck
-    expandStep hermitianCheck hermitianStep reportCheck reportStep records kindOf lowerAs lower lowerFrom lowerAll plainBegin tested exceeds flushed performAs plainStep plainRun
+    expandStep hermitianCheck hermitianStep reportCheck reportStep records kindOf lowerAs lower lowerFrom partsOf lowerIn lowerAll plainBegin tested exceeds flushed performAs plainStep plainRun
     rowsAfter tableRun startArena pushed multiplied frameStep qubitsOf operandsChecked frameGates frameRun cliffordCheck cliffordStep startWords flushGate flushGates flushWords
     writeSeven write wordStep wordRun mask digits rowWords rowsWords images packed gatesIn plainEnd tableEnd wordEnd recordChecked recordsChecked gatesCheck gatesChecked roomChecked
     convertCheck convertWithin convertStep fieldIn headerIn letterIn angleIn targetIn tooShort numberIn headerLeft answerLeft createdReply singledReply multipliedReply pushedReply

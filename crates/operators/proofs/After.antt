@@ -36,7 +36,8 @@ use Rattle.operators.proofs.Eigen.{turn-back}
 use Rattle.operators.proofs.Gates.{gatePhase, gate-turns, turns-append, flush-snoc}
 use Rattle.operators.proofs.Carried.{gatesPhase, as-gates, undo, undone-left, undone-right, row-past}
 use Rattle.operators.proofs.Records.{kindOperator, by-kind}
-use Rattle.operators.proofs.Whole.{ops-append, seen-back, image-back, width-place, Ends, ends}
+use Rattle.operators.proofs.Runs.{ops-append, seen-back}
+use Rattle.operators.proofs.Whole.{image-back, width-place, Ends, ends}
 
 -- ---- the axes of operations
 abbrev WideOperation : ℕ → Operation → Type 0

@@ -3,14 +3,16 @@ use mathlib.Core.Path.{_≡_, refl, ap, ap₂, sym, _∙_}
 use mathlib.Core.Bool.{Bool, true, false, cond}
 use mathlib.Core.List.{List, [], _∷_, _++_, map, append-nil, append-assoc}
 use Prim.Native.Nat.{ℕ, suc}
+use lib.Dec.{eqb}
 use Rattle.pauli.specs.Rows.{Row}
 use Rattle.pauli.specs.Rotations.{Rotation, flush}
-use Rattle.convert.specs.Records.{Record, records, kindOf, Elementary, clifford, elT, elTdg, elCcx, elCcz, elMeasure, lowerAs, lower, placedFrom, lowerFrom, lowerAll, Placed, bare, From, from, withoutIndex}
+use Rattle.convert.specs.Records.{isNarrow, thirteenOf, fifteenOf, partsOf, lowerParts, lowerIn, Record, records, kindOf, Elementary, clifford, elT, elTdg, elCcx, elCcz, elMeasure, lowerAs, lower, placedFrom, lowerFrom, lowerAll, Placed, bare, From, from, withoutIndex}
 use Rattle.convert.specs.Plain.{Operation, rotateBy, measureOf, conditionalBy, malformed, asRotation, flushFrom}
 use Rattle.convert.specs.Paper.{Paper, gateProducts, axes, tooHeavy, rotateAll, writes, paperPerform, paperFlushed, paperStep, paperRun, paperBegin}
 use Rattle.convert.specs.Conversion.{Input, limits, isMeasure, gatesIn, paperEnd, convertCheck}
 use Rattle.convert.specs.Later.{converted}
 use Rattle.convert.proofs.Accepted.{bare-placed}
+use Rattle.convert.proofs.counts.Parts.{Split, whole, ccx, ccz, split}
 use Rattle.convert.proofs.meaning.Words.{map-append, without-more, without-flushed}
 use Rattle.convert.proofs.Theorems.{converts}
 use Rattle.operators.specs.Types.{GateKind, KindH, KindX, KindZ, KindS, KindSdg, KindT, KindTdg, KindCnot, KindCz, KindCcx, KindCcz, KindMeasure, KindY, KindSx, KindSwap, KindCy, Unsupported, Target, Bit, Cap, Fine}
@@ -108,14 +110,37 @@ bits-kind KindSwap a b c = refl
 bits-kind KindCy a b c = refl
 bits-kind Unsupported a b c = refl
 
-bits-records : (i : ℕ) (rs : List Record) → elementsBits (bare (lowerFrom i rs)) ≡ recordBits rs
-unfolding lowerFrom lower
-bits-records i [] = refl
-bits-records i (r ∷ rs) =
-    ap elementsBits (map-append _ (placedFrom i 0 (lower r)) (lowerFrom (suc i) rs) ∙ ap (λ l. l ++ bare (lowerFrom (suc i) rs)) (bare-placed i 0 (lower r)))
-    ∙ elements-append (lower r) (bare (lowerFrom (suc i) rs))
-    ∙ ap₂ _++_ (bits-kind (kindOf (r .kind)) (r .a) (r .b) (r .c) ∙ ap (λ t. cond t (Bit (r .b) ∷ []) []) (sym (measures (r .kind)))) (bits-records (suc i) rs)
+bits-whole : (r : Record) → elementsBits (lower r) ≡ cond (eqb (r .kind) 12) (Bit (r .b) ∷ []) []
+unfolding lower
+bits-whole r = bits-kind (kindOf (r .kind)) (r .a) (r .b) (r .c) ∙ ap (λ t. cond t (Bit (r .b) ∷ []) []) (sym (measures (r .kind)))
+
+no-bit : (r : Record) → isMeasure (kindOf (r .kind)) ≡ false → [] ≡ cond (eqb (r .kind) 12) (Bit (r .b) ∷ []) []
+no-bit r e = ap (λ t. cond t (Bit (r .b) ∷ []) []) (sym (measures (r .kind) ∙ e))
+
+bits-thirteen : (a b d : ℕ) → elementsBits (lowerParts (thirteenOf a b d)) ≡ []
+unfolding lower lowerAs kindOf
+bits-thirteen a b d = refl
+
+bits-fifteen : (a b d : ℕ) → elementsBits (lowerParts (fifteenOf a b d)) ≡ []
+unfolding lower lowerAs kindOf
+bits-fifteen a b d = refl
+
+bits-in : (narrow : Bool) (r : Record) → elementsBits (lowerIn narrow r) ≡ cond (eqb (r .kind) 12) (Bit (r .b) ∷ []) []
+unfolding lowerIn
+bits-in narrow r = go (split narrow r)
+  where
+    go : Split narrow r → elementsBits (lowerParts (partsOf narrow r)) ≡ cond (eqb (r .kind) 12) (Bit (r .b) ∷ []) []
+    go (whole e d) = rw (e, append-nil (lower r)) (bits-whole r)
+    go (ccx t k e) = rw e (bits-fifteen (r .a) (r .b) (r .c) ∙ no-bit r (ap isMeasure k))
+    go (ccz t k e) = rw e (bits-thirteen (r .a) (r .b) (r .c) ∙ no-bit r (ap isMeasure k))
+
+bits-records : (narrow : Bool) (i : ℕ) (rs : List Record) → elementsBits (bare (lowerFrom narrow i rs)) ≡ recordBits rs
+unfolding lowerFrom
+bits-records narrow i [] = refl
+bits-records narrow i (r ∷ rs) =
+    ap elementsBits (map-append _ (placedFrom i 0 (lowerIn narrow r)) (lowerFrom narrow (suc i) rs) ∙ ap (λ l. l ++ bare (lowerFrom narrow (suc i) rs)) (bare-placed i 0 (lowerIn narrow r)))
+    ∙ elements-append (lowerIn narrow r) (bare (lowerFrom narrow (suc i) rs)) ∙ ap₂ _++_ (bits-in narrow r) (bits-records narrow (suc i) rs)
 
 pub bits : (x : Input) → convertCheck limits x ≡ Fine → operationBits (operationsOf (converted x)) ≡ recordBits (records (x .gates))
 unfolding converted paperEnd gatesIn lowerAll
-bits x e = ap (λ os. operationBits (withoutIndex os)) (converts x e .operations) ∙ bits-run (x .qubits) (x .cap) (gatesIn x) paperBegin ∙ bits-records 0 (records (x .gates))
+bits x e = ap (λ os. operationBits (withoutIndex os)) (converts x e .operations) ∙ bits-run (x .qubits) (x .cap) (gatesIn x) paperBegin ∙ bits-records (isNarrow (x .cap)) 0 (records (x .gates))

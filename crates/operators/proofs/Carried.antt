@@ -37,7 +37,7 @@ module _ {n : ℕ} (O : Operators n) where
       ∙ root-add O (gatePhase O g) (gatesPhase gs) (turns O (flush n gs) ⊠ turns O (written n g))
       ∙ ap (λ a. rootTo O (gatePhase O g + gatesPhase gs) ⊠ a) (sym (turns-append O (written n g) (flush n gs)))
 
-  root-round : (k : ℕ) (a : O .Op) → rootTo O (7 * k) ⊠ (rootTo O k ⊠ a) ≡ a
+  pub root-round : (k : ℕ) (a : O .Op) → rootTo O (7 * k) ⊠ (rootTo O k ⊠ a) ≡ a
   root-round k a = let e : 7 * k + k ≡ 8 * k = omega arith in root-add O (7 * k) k a ∙ ap (λ j. rootTo O j ⊠ a) e ∙ go k
     where
       go : (k : ℕ) → rootTo O (8 * k) ⊠ a ≡ a

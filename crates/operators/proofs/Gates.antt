@@ -8,7 +8,7 @@ use native.Mathlib.Omega.{arith}
 use Rattle.pauli.specs.Letters.{_⊕_, _·_, phaseOf, real}
 use Rattle.operators.specs.Types.{Pauli, I, X, Y, Z, PlusI, MinusOne, MinusI}
 use Rattle.pauli.specs.Rows.{Row, Width, _★_, scaled, single}
-use Rattle.pauli.specs.Gates.{Gate, gateH, gateX, gateZ, gateS, gateSdg, gateCnot, gateCz, Valid, AllValid}
+use Rattle.pauli.specs.Gates.{Gate, gateH, gateX, gateZ, gateS, gateSdg, gateCnot, gateCz, Valid}
 use Rattle.pauli.specs.Rotations.{Rotation, by, written, flush, Each}
 use Rattle.pauli.specs.Bits.{_xor_}
 use Rattle.operators.specs.Textbook.{seen, controlled, gateOperator}
@@ -18,7 +18,7 @@ use Rattle.pauli.proofs.Finite.{phase}
 use Rattle.pauli.proofs.Rows.{scaled-right, scaled-left, width-★}
 use Rattle.pauli.proofs.Short.{width-single, pair, single-pair, pair-single, pair-★, single-★}
 use Rattle.operators.proofs.Ring.{read-minus-one, root-past, root-add, root-8, half-past, turn-carried, turn-add, turn-0, anti-carried}
-use Rattle.operators.proofs.Eigen.{Plain, plain-flush, sign, eigen-times, controlled-of, turn-as, turn-of, turns-of, Commute, eigen-past, eigen-self, by-cases}
+use Rattle.operators.proofs.Eigen.{Plain, sign, Eigen, eigen-times, controlled-of, turn-as, turn-of, turns-of, Commute, eigen-past, eigen-self, by-cases}
 
 module _ {n : ℕ} (O : Operators n) where
   infixl 60 _⊞_
@@ -47,6 +47,10 @@ module _ {n : ℕ} (O : Operators n) where
   pub root-16 : (a : O .Op) → rootTo O 16 ⊠ a ≡ a
   root-16 a = sym (root-add O 8 8 a) ∙ root-8 O (rootTo O 8 ⊠ a) ∙ root-8 O a
 
+  -- one after the other on an eigenvector of both
+  after : (u v : O .Op) (j k : ℕ) (e : O .Op) → u ⊠ e ≡ rootTo O j ⊠ e → v ⊠ e ≡ rootTo O k ⊠ e → u ⊠ v ⊠ e ≡ rootTo O (k + j) ⊠ e
+  after u v j k e hu hv = O .times-assoc u v e ∙ ap (λ a. u ⊠ a) hv ∙ root-past O u k e ∙ ap (λ a. rootTo O k ⊠ a) hu ∙ root-add O k j e
+
   module _ (A B : Row) (wA : Width n A) (wB : Width n B) (rA : real (A .phase) ≡ true) (rB : real (B .phase) ≡ true) (AB : Commute O A B) where
     pub singly : controlled O A (O .read B) ≡ turns O (by A 2 ∷ by B 2 ∷ by (A ★ B) 6 ∷ [])
     singly = sym (O .one-right _) ∙ by-cases O A wA rA _ _ (O .one) (λ x. by-cases O B wB rB _ _ (seen O x A ⊠ O .one) (λ y. both x y)) ∙ O .one-right _
@@ -66,35 +70,95 @@ module _ {n : ℕ} (O : Operators n) where
             go false true e = O .one-left e ∙ sym (root-8 O e)
             go false false e = refl
 
+    -- B under A twice is nothing
+    pub twice : controlled O A (O .read B) ⊠ controlled O A (O .read B) ≡ O .one
+    twice = sym (O .one-right _) ∙ by-cases O A wA rA _ _ (O .one) (λ x. by-cases O B wB rB _ _ (seen O x A ⊠ O .one) (λ y. both x y)) ∙ O .one-right _
+      where
+        both : (x y : Bool) → controlled O A (O .read B) ⊠ controlled O A (O .read B) ⊠ (seen O y B ⊠ (seen O x A ⊠ O .one)) ≡ O .one ⊠ (seen O y B ⊠ (seen O x A ⊠ O .one))
+        both x y =
+            let e = seen O y B ⊠ (seen O x A ⊠ O .one) in
+            let hB = eigen-self O B wB rB y (seen O x A ⊠ O .one) in
+            let hA = eigen-past O A B AB x y (seen O x A ⊠ O .one) (eigen-self O A wA rA x (O .one)) in
+            let one = controlled-of O A x (O .read B) e (sign O y) hA hB in
+            after (controlled O A (O .read B)) (controlled O A (O .read B)) (cond x (sign O y) 0) (cond x (sign O y) 0) e one one ∙ go x y e
+          where
+            go : (x y : Bool) (e : O .Op) → rootTo O (cond x (sign O y) 0 + cond x (sign O y) 0) ⊠ e ≡ O .one ⊠ e
+            go true true e = root-8 O e ∙ sym (O .one-left e)
+            go true false e = refl
+            go false true e = refl
+            go false false e = refl
+
     abbrev pub sevenTurns : Row → List Rotation
     sevenTurns D = by A 1 ∷ by B 1 ∷ by D 1 ∷ by (A ★ B) 7 ∷ by (A ★ D) 7 ∷ by (B ★ D) 7 ∷ by (A ★ B ★ D) 1 ∷ []
 
-    pub doubly : (D : Row) → Width n D → real (D .phase) ≡ true → Commute O A D → Commute O B D → controlled O A (controlled O B (O .read D)) ≡ turns O (sevenTurns D)
-    doubly D wD rD AD BD =
-        sym (O .one-right _)
-        ∙ by-cases O A wA rA _ _ (O .one) (λ x. by-cases O B wB rB _ _ (seen O x A ⊠ O .one) (λ y. by-cases O D wD rD _ _ (seen O y B ⊠ (seen O x A ⊠ O .one)) (λ z. all x y z))) ∙ O .one-right _
-      where
-        all : (x y z : Bool) → controlled O A (controlled O B (O .read D)) ⊠ (seen O z D ⊠ (seen O y B ⊠ (seen O x A ⊠ O .one)))
-            ≡ turns O (sevenTurns D) ⊠ (seen O z D ⊠ (seen O y B ⊠ (seen O x A ⊠ O .one)))
-        all x y z =
-            let e = seen O z D ⊠ (seen O y B ⊠ (seen O x A ⊠ O .one)) in
-            let hD = eigen-self O D wD rD z (seen O y B ⊠ (seen O x A ⊠ O .one)) in
-            let hB = eigen-past O B D BD y z _ (eigen-self O B wB rB y (seen O x A ⊠ O .one)) in
-            let hA = eigen-past O A D AD x z _ (eigen-past O A B AB x y _ (eigen-self O A wA rA x (O .one))) in
-            controlled-of O A x (controlled O B (O .read D)) e (cond y (sign O z) 0) hA (controlled-of O B y (O .read D) e (sign O z) hB hD) ∙ go x y z e
-            ∙ sym (turns-of O (sevenTurns D) (x ∷ y ∷ z ∷ (x xor y) ∷ (x xor z) ∷ (y xor z) ∷ ((x xor y) xor z) ∷ []) e
-            (hA, (hB, (hD, (eigen-times O A B wA wB x y e hA hB, (eigen-times O A D wA wD x z e hA hD, (eigen-times O B D wB wD y z e hB hD, (eigen-times O (A ★ B) D (width-★ n A B wA wB) wD (x xor y) z e (eigen-times O A B wA wB x y e hA hB) hD, tt))))))))
-          where
-            go : (x y z : Bool) (e : O .Op) → rootTo O (cond x (cond y (sign O z) 0) 0) ⊠ e
-                ≡ rootTo O (cond x 1 0 + (cond y 1 0 + (cond z 1 0 + (cond (x xor y) 7 0 + (cond (x xor z) 7 0 + (cond (y xor z) 7 0 + (cond ((x xor y) xor z) 1 0 + 0))))))) ⊠ e
-            go true true true e = refl
-            go true true false e = O .one-left e ∙ sym (root-16 e)
-            go true false true e = O .one-left e ∙ sym (root-16 e)
-            go true false false e = O .one-left e ∙ sym (root-16 e)
-            go false true true e = O .one-left e ∙ sym (root-16 e)
-            go false true false e = O .one-left e ∙ sym (root-16 e)
-            go false false true e = O .one-left e ∙ sym (root-16 e)
-            go false false false e = refl
+    -- what acts on every eigenvector of A, B and D as the doubly controlled D does
+    module _ (D : Row) (wD : Width n D) (rD : real (D .phase) ≡ true) (AD : Commute O A D) (BD : Commute O B D) where
+      pub on-joint : (u v : O .Op) → ((x y z : Bool) (e : O .Op) → Eigen O A x e → Eigen O B y e → Eigen O D z e → u ⊠ e ≡ v ⊠ e) → u ≡ v
+      on-joint u v h =
+          sym (O .one-right _)
+          ∙ by-cases O A wA rA _ _ (O .one) (λ x. by-cases O B wB rB _ _ (seen O x A ⊠ O .one) (λ y. by-cases O D wD rD _ _ (seen O y B ⊠ (seen O x A ⊠ O .one)) (λ z. all x y z))) ∙ O .one-right _
+        where
+          all : (x y z : Bool) → u ⊠ (seen O z D ⊠ (seen O y B ⊠ (seen O x A ⊠ O .one))) ≡ v ⊠ (seen O z D ⊠ (seen O y B ⊠ (seen O x A ⊠ O .one)))
+          all x y z = h x y z (seen O z D ⊠ (seen O y B ⊠ (seen O x A ⊠ O .one)))
+              (eigen-past O A D AD x z _ (eigen-past O A B AB x y _ (eigen-self O A wA rA x (O .one))))
+              (eigen-past O B D BD y z _ (eigen-self O B wB rB y (seen O x A ⊠ O .one)))
+              (eigen-self O D wD rD z (seen O y B ⊠ (seen O x A ⊠ O .one)))
+
+      pub doubly : controlled O A (controlled O B (O .read D)) ≡ turns O (sevenTurns D)
+      doubly = on-joint _ _ (λ x y z e hA hB hD.
+          controlled-of O A x (controlled O B (O .read D)) e (cond y (sign O z) 0) hA (controlled-of O B y (O .read D) e (sign O z) hB hD) ∙ go x y z e
+          ∙ sym (turns-of O (sevenTurns D) (x ∷ y ∷ z ∷ (x xor y) ∷ (x xor z) ∷ (y xor z) ∷ ((x xor y) xor z) ∷ []) e
+          (hA, (hB, (hD, (eigen-times O A B wA wB x y e hA hB, (eigen-times O A D wA wD x z e hA hD, (eigen-times O B D wB wD y z e hB hD, (eigen-times O (A ★ B) D (width-★ n A B wA wB) wD (x xor y) z e (eigen-times O A B wA wB x y e hA hB) hD, tt)))))))))
+        where
+          go : (x y z : Bool) (e : O .Op) → rootTo O (cond x (cond y (sign O z) 0) 0) ⊠ e
+              ≡ rootTo O (cond x 1 0 + (cond y 1 0 + (cond z 1 0 + (cond (x xor y) 7 0 + (cond (x xor z) 7 0 + (cond (y xor z) 7 0 + (cond ((x xor y) xor z) 1 0 + 0))))))) ⊠ e
+          go true true true e = refl
+          go true true false e = O .one-left e ∙ sym (root-16 e)
+          go true false true e = O .one-left e ∙ sym (root-16 e)
+          go true false false e = O .one-left e ∙ sym (root-16 e)
+          go false true true e = O .one-left e ∙ sym (root-16 e)
+          go false true false e = O .one-left e ∙ sym (root-16 e)
+          go false false true e = O .one-left e ∙ sym (root-16 e)
+          go false false false e = refl
+
+      -- the seven turns in the order of the thirteen gates
+      abbrev pub reorderedTurns : List Rotation
+      reorderedTurns = by (B ★ D) 7 ∷ by (A ★ B ★ D) 1 ∷ by (A ★ D) 7 ∷ by B 1 ∷ by D 1 ∷ by A 1 ∷ by (A ★ B) 7 ∷ []
+
+      pub doubly-reordered : controlled O A (controlled O B (O .read D)) ≡ turns O reorderedTurns
+      doubly-reordered = on-joint _ _ (λ x y z e hA hB hD.
+          controlled-of O A x (controlled O B (O .read D)) e (cond y (sign O z) 0) hA (controlled-of O B y (O .read D) e (sign O z) hB hD) ∙ go x y z e
+          ∙ sym (turns-of O reorderedTurns ((y xor z) ∷ ((x xor y) xor z) ∷ (x xor z) ∷ y ∷ z ∷ x ∷ (x xor y) ∷ []) e
+          (eigen-times O B D wB wD y z e hB hD, (eigen-times O (A ★ B) D (width-★ n A B wA wB) wD (x xor y) z e (eigen-times O A B wA wB x y e hA hB) hD, (eigen-times O A D wA wD x z e hA hD, (hB, (hD, (hA, (eigen-times O A B wA wB x y e hA hB, tt)))))))))
+        where
+          go : (x y z : Bool) (e : O .Op) → rootTo O (cond x (cond y (sign O z) 0) 0) ⊠ e
+              ≡ rootTo O (cond (y xor z) 7 0 + (cond ((x xor y) xor z) 1 0 + (cond (x xor z) 7 0 + (cond y 1 0 + (cond z 1 0 + (cond x 1 0 + (cond (x xor y) 7 0 + 0))))))) ⊠ e
+          go true true true e = refl
+          go true true false e = O .one-left e ∙ sym (root-16 e)
+          go true false true e = O .one-left e ∙ sym (root-16 e)
+          go true false false e = O .one-left e ∙ sym (root-16 e)
+          go false true true e = O .one-left e ∙ sym (root-16 e)
+          go false true false e = O .one-left e ∙ sym (root-16 e)
+          go false false true e = O .one-left e ∙ sym (root-16 e)
+          go false false false e = refl
+
+      -- D under A and D under B, each twice, are nothing
+      pub twice-each : controlled O A (O .read D) ⊠ controlled O B (O .read D) ⊠ (controlled O A (O .read D) ⊠ controlled O B (O .read D)) ≡ O .one
+      twice-each = on-joint (controlled O A (O .read D) ⊠ controlled O B (O .read D) ⊠ (controlled O A (O .read D) ⊠ controlled O B (O .read D))) (O .one) (λ x y z e hA hB hD.
+          let k = cond y (sign O z) 0 + cond x (sign O z) 0 in
+          let one = after (controlled O A (O .read D)) (controlled O B (O .read D)) (cond x (sign O z) 0) (cond y (sign O z) 0) e
+          (controlled-of O A x (O .read D) e (sign O z) hA hD) (controlled-of O B y (O .read D) e (sign O z) hB hD) in
+          after (controlled O A (O .read D) ⊠ controlled O B (O .read D)) (controlled O A (O .read D) ⊠ controlled O B (O .read D)) k k e one one ∙ go x y z e)
+        where
+          go : (x y z : Bool) (e : O .Op) → rootTo O (cond y (sign O z) 0 + cond x (sign O z) 0 + (cond y (sign O z) 0 + cond x (sign O z) 0)) ⊠ e ≡ O .one ⊠ e
+          go true true true e = root-16 e ∙ sym (O .one-left e)
+          go true true false e = refl
+          go true false true e = root-8 O e ∙ sym (O .one-left e)
+          go true false false e = refl
+          go false true true e = root-8 O e ∙ sym (O .one-left e)
+          go false true false e = refl
+          go false false true e = refl
+          go false false false e = refl
 
   pub turn-4 : (P : Row) → Width n P → real (P .phase) ≡ true → turn O 4 P ≡ O .read P
   turn-4 P w r = sym (O .one-right _) ∙ by-cases O P w r _ _ (O .one) (λ x. turn-of O 4 P x _ (eigen-self O P w r x (O .one)) ∙ sym (eigen-self O P w r x (O .one))) ∙ O .one-right _

@@ -6,6 +6,8 @@ pub mod Eigen
 pub mod Gates
 pub mod Lowered
 pub mod Carried
+pub mod Runs
+pub mod Thirteen
 pub mod Records
 pub mod Whole
 pub mod Bits

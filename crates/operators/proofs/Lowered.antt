@@ -125,7 +125,7 @@ module _ {n : ℕ} (O : Operators n) where
         ∙ ap (λ a. (O .one ⊞ O .one) ⊞ a) (O .plus-comm (rootTo O 6 ⊠ yOf O q) (rootTo O 2 ⊠ yOf O q) ∙ ap (λ a. rootTo O 2 ⊠ yOf O q ⊞ a) (sym (root-add O 4 2 (yOf O q))) ∙ cancels O (rootTo O 2 ⊠ yOf O q))
         ∙ O .plus-none (O .one ⊞ O .one)
 
-    hh : hadamardOf O q ⊠ hadamardOf O q ≡ O .one
+    pub hh : hadamardOf O q ⊠ hadamardOf O q ≡ O .one
     hh =
         O .times-assoc (O .half) (rootTwo ⊠ (x ⊞ z)) (hadamardOf O q)
         ∙ ap (λ a. O .half ⊠ a) (O .times-assoc rootTwo (x ⊞ z) (hadamardOf O q) ∙ ap (λ a. rootTwo ⊠ a) (half-past O (x ⊞ z) (rootTwo ⊠ (x ⊞ z)) ∙ ap (λ a. O .half ⊠ a) (two-past (x ⊞ z) (x ⊞ z) ∙ ap (λ a. rootTwo ⊠ a) sum-sum))

@@ -1,7 +1,7 @@
 -- A list of records is, up to a power of the root, the elementary gates that it is lowered to.
 use mathlib.Core.Path.{_≡_, refl, ap, ap₂, sym, _∙_, subst}
 use mathlib.Core.Bool.{Bool, false, cond}
-use mathlib.Core.List.{List, [], _∷_, _++_, map}
+use mathlib.Core.List.{List, [], _∷_, _++_, map, append-nil}
 use Prim.Native.Nat.{ℕ, zero, suc, _+_}
 use native.Mathlib.Omega.{arith}
 use borrow.Author.Tests.{ne-eqb}
@@ -9,16 +9,18 @@ use lib.Dec.{eqb}
 use lib.ListN.{getD, replicate, List·getD-map}
 use Rattle.pauli.specs.Rows.{single}
 use Rattle.arena.proofs.Accepted.{passed-before, test-passed}
-use Rattle.convert.specs.Records.{Record, kinds, kindOf, Elementary, lowerAs, lower, placedFrom, lowerFrom, bare, AllProper}
+use Rattle.convert.specs.Records.{Record, recordOf, kinds, kindOf, Elementary, thirteenOf, fifteenOf, partsOf, lowerAs, lower, lowerParts, lowerIn, placedFrom, lowerFrom, bare, AllProper}
 use Rattle.convert.specs.Frame.{qubitsOf}
 use Rattle.convert.specs.Conversion.{isUnsupported, isMeasure, takenWith, recordChecked, recordsChecked}
 use Rattle.convert.proofs.Accepted.{passed-operands, passed-records, bare-placed}
 use Rattle.convert.proofs.meaning.Words.{map-append}
+use Rattle.convert.proofs.counts.Parts.{Split, whole, ccx, ccz, split}
 use Rattle.operators.specs.Types.{GateKind, KindH, KindX, KindZ, KindS, KindSdg, KindT, KindTdg, KindCnot, KindCz, KindCcx, KindCcz, KindMeasure, KindY, KindSx, KindSwap, KindCy, Unsupported, Z, Checked, Fine}
 use Rattle.operators.specs.Operators.{Operators, rootTo}
 use Rattle.operators.specs.Textbook.{seen, xOf, yOf, zOf, ifOne, hadamardOf, sxOf, swapOf, gates, givenBy, circuitOperator}
 use Rattle.operators.proofs.Elements.{elementOperator, givenAfter, elementsOperator, givenAll}
 use Rattle.operators.proofs.Ring.{root-past, root-add}
+use Rattle.operators.proofs.Thirteen.{ccx-gates, ccz-gates}
 use Rattle.operators.proofs.Lowered.{y-lowered, sx-lowered, swap-lowered, cy-lowered}
 
 -- ---- which numbers measure
@@ -68,6 +70,31 @@ given-kind KindSx a b c m = refl
 given-kind KindSwap a b c m = refl
 given-kind KindCy a b c m = refl
 given-kind Unsupported a b c m = refl
+
+-- the measurements that a record gives
+given-whole : (r : Record) (m : ℕ) → givenBy r m ≡ givenAll (lower r) m
+unfolding lower
+given-whole r m = ap (λ b. cond b (suc m) m) (measures (r .kind)) ∙ given-kind (kindOf (r .kind)) (r .a) (r .b) (r .c) m
+
+given-none : (r : Record) (m : ℕ) → isMeasure (kindOf (r .kind)) ≡ false → givenBy r m ≡ m
+given-none r m e = ap (λ b. cond b (suc m) m) (measures (r .kind) ∙ e)
+
+given-thirteen : (a b d m : ℕ) → givenAll (lowerParts (thirteenOf a b d)) m ≡ m
+unfolding lower lowerAs kindOf
+given-thirteen a b d m = refl
+
+given-fifteen : (a b d m : ℕ) → givenAll (lowerParts (fifteenOf a b d)) m ≡ m
+unfolding lower lowerAs kindOf
+given-fifteen a b d m = refl
+
+given-in : (narrow : Bool) (r : Record) (m : ℕ) → givenBy r m ≡ givenAll (lowerIn narrow r) m
+unfolding lowerIn
+given-in narrow r m = go (split narrow r)
+  where
+    go : Split narrow r → givenBy r m ≡ givenAll (lowerParts (partsOf narrow r)) m
+    go (whole e d) = rw (e, append-nil (lower r)) (given-whole r m)
+    go (ccx t k e) = rw e (given-none r m (ap isMeasure k) ∙ sym (given-fifteen (r .a) (r .b) (r .c) m))
+    go (ccz t k e) = rw e (given-none r m (ap isMeasure k) ∙ sym (given-thirteen (r .a) (r .b) (r .c) m))
 
 -- ---- records that were accepted
 
@@ -178,27 +205,60 @@ module _ {n : ℕ} (O : Operators n) (outcome : ℕ → Bool) where
     pub phase : ℕ
     pub same : circuitOperator O outcome m rs ≡ rootTo O phase ⊠ elementsOperator O outcome m es
 
-  pub lowers : (cb i m : ℕ) (rs : List Record) → AllSupported rs → AllProper n cb (bare (lowerFrom i rs)) → Lowers m rs (bare (lowerFrom i rs))
-  unfolding lowerFrom lower
-  lowers cb i m [] u h = record { phase = 0; same = sym (O .one-left (O .one)) }
-  lowers cb i m (r ∷ rs) u h =
-      go (lowers cb (suc i) (givenAll (lower r) m) rs (u .1) (proper-right n cb (lower r) _ (subst (λ l. AllProper n cb l) split h)))
+  -- a record and its gates, under a narrow cap or not
+  record Lowered (m : ℕ) (r : Record) (es : List Elementary) : Type 0 where
+    phase : ℕ
+    same : kindOperator (outcome m) (r .a) (r .b) (r .c) (kindOf (r .kind)) ≡ rootTo O phase ⊠ elementsOperator O outcome m es
+
+  whole-lowered : (m cb : ℕ) (r : Record) → isUnsupported (kindOf (r .kind)) ≡ false → AllProper n cb (lower r) → Lowered m r (lower r)
+  unfolding lower
+  whole-lowered m cb r u h = record { phase = kindPhase (kindOf (r .kind)); same = kind-lowered m cb (kindOf (r .kind)) (r .a) (r .b) (r .c) u h }
+
+  ccx-lowered : (m cb a b c : ℕ) (k : ℕ) → kindOf k ≡ KindCcx → AllProper n cb (lowerParts (fifteenOf a b c)) → Lowered m (recordOf k a b c) (lowerParts (fifteenOf a b c))
+  unfolding lower lowerAs kindOf
+  ccx-lowered m cb a b c k e h =
+      let bd = h .1 .0 in
+      let ad = h .1 .1 .1 .0 in
+      let ab = h .1 .1 .1 .1 .1 .1 .1 .1 .1 .1 .0 in
+      let G = ccx-gates O outcome a b c (ad .0) (bd .0) (bd .1) (ab .2) (ad .2) (bd .2) cb h in
+      record { phase = G .phase; same = ap (kindOperator (outcome m) a b c) e ∙ G .same }
+
+  ccz-lowered : (m cb a b c : ℕ) (k : ℕ) → kindOf k ≡ KindCcz → AllProper n cb (lowerParts (thirteenOf a b c)) → Lowered m (recordOf k a b c) (lowerParts (thirteenOf a b c))
+  unfolding lower lowerAs kindOf
+  ccz-lowered m cb a b c k e h =
+      let bd = h .0 in
+      let ad = h .1 .1 .0 in
+      let ab = h .1 .1 .1 .1 .1 .1 .1 .1 .1 .0 in
+      let G = ccz-gates O outcome a b c (ad .0) (bd .0) (bd .1) (ab .2) (ad .2) (bd .2) cb h in
+      record { phase = G .phase; same = ap (kindOperator (outcome m) a b c) e ∙ G .same }
+
+  record-lowered : (narrow : Bool) (m cb : ℕ) (r : Record) → isUnsupported (kindOf (r .kind)) ≡ false → AllProper n cb (lowerIn narrow r) → Lowered m r (lowerIn narrow r)
+  unfolding lowerIn
+  record-lowered narrow m cb r u h = go (split narrow r)
     where
-      split : bare (placedFrom i 0 (lower r) ++ lowerFrom (suc i) rs) ≡ lower r ++ bare (lowerFrom (suc i) rs)
-      split = map-append _ (placedFrom i 0 (lower r)) (lowerFrom (suc i) rs) ∙ ap (λ l. l ++ bare (lowerFrom (suc i) rs)) (bare-placed i 0 (lower r))
+      go : Split narrow r → Lowered m r (lowerParts (partsOf narrow r))
+      go (whole e d) = rw (e, append-nil (lower r)) (whole-lowered m cb r u (rw (e, append-nil (lower r)) at h))
+      go (ccx t k e) = rw e (ccx-lowered m cb (r .a) (r .b) (r .c) (r .kind) k (rw e at h))
+      go (ccz t k e) = rw e (ccz-lowered m cb (r .a) (r .b) (r .c) (r .kind) k (rw e at h))
 
-      given : givenBy r m ≡ givenAll (lower r) m
-      given = ap (λ b. cond b (suc m) m) (measures (r .kind)) ∙ given-kind (kindOf (r .kind)) (r .a) (r .b) (r .c) m
+  pub lowers : (narrow : Bool) (cb i m : ℕ) (rs : List Record) → AllSupported rs → AllProper n cb (bare (lowerFrom narrow i rs)) → Lowers m rs (bare (lowerFrom narrow i rs))
+  unfolding lowerFrom
+  lowers narrow cb i m [] u h = record { phase = 0; same = sym (O .one-left (O .one)) }
+  lowers narrow cb i m (r ∷ rs) u h =
+      go (record-lowered narrow m cb r (u .0) (proper-left n cb (lowerIn narrow r) _ (subst (λ l. AllProper n cb l) parted h)))
+      (lowers narrow cb (suc i) (givenAll (lowerIn narrow r) m) rs (u .1) (proper-right n cb (lowerIn narrow r) _ (subst (λ l. AllProper n cb l) parted h)))
+    where
+      parted : bare (placedFrom i 0 (lowerIn narrow r) ++ lowerFrom narrow (suc i) rs) ≡ lowerIn narrow r ++ bare (lowerFrom narrow (suc i) rs)
+      parted = map-append _ (placedFrom i 0 (lowerIn narrow r)) (lowerFrom narrow (suc i) rs) ∙ ap (λ l. l ++ bare (lowerFrom narrow (suc i) rs)) (bare-placed i 0 (lowerIn narrow r))
 
-      go : Lowers (givenAll (lower r) m) rs (bare (lowerFrom (suc i) rs)) → Lowers m (r ∷ rs) (bare (placedFrom i 0 (lower r) ++ lowerFrom (suc i) rs))
-      go L = record {
-        phase = kindPhase (kindOf (r .kind)) + L .phase;
+      go : Lowered m r (lowerIn narrow r) → Lowers (givenAll (lowerIn narrow r) m) rs (bare (lowerFrom narrow (suc i) rs))
+          → Lowers m (r ∷ rs) (bare (placedFrom i 0 (lowerIn narrow r) ++ lowerFrom narrow (suc i) rs))
+      go K L = record {
+        phase = K .phase + L .phase;
         same =
-            ap₂ (λ a b. a ⊠ b) (ap (λ j. circuitOperator O outcome j rs) given ∙ L .same)
-            (by-kind (outcome m) (r .a) (r .b) (r .c) (r .kind)
-            ∙ kind-lowered m cb (kindOf (r .kind)) (r .a) (r .b) (r .c) (u .0) (proper-left n cb (lower r) _ (subst (λ l. AllProper n cb l) split h)))
-            ∙ root-past O _ (kindPhase (kindOf (r .kind))) (elementsOperator O outcome m (lower r))
-            ∙ ap (λ a. rootTo O (kindPhase (kindOf (r .kind))) ⊠ a) (O .times-assoc (rootTo O (L .phase)) _ (elementsOperator O outcome m (lower r)))
-            ∙ root-add O (kindPhase (kindOf (r .kind))) (L .phase) _
-            ∙ ap (λ a. rootTo O (kindPhase (kindOf (r .kind)) + L .phase) ⊠ a) (sym (elements-append m (lower r) (bare (lowerFrom (suc i) rs))) ∙ ap (elementsOperator O outcome m) (sym split));
+            ap₂ (λ a b. a ⊠ b) (ap (λ j. circuitOperator O outcome j rs) (given-in narrow r m) ∙ L .same) (by-kind (outcome m) (r .a) (r .b) (r .c) (r .kind) ∙ K .same)
+            ∙ root-past O _ (K .phase) (elementsOperator O outcome m (lowerIn narrow r))
+            ∙ ap (λ a. rootTo O (K .phase) ⊠ a) (O .times-assoc (rootTo O (L .phase)) _ (elementsOperator O outcome m (lowerIn narrow r)))
+            ∙ root-add O (K .phase) (L .phase) _
+            ∙ ap (λ a. rootTo O (K .phase + L .phase) ⊠ a) (sym (elements-append m (lowerIn narrow r) (bare (lowerFrom narrow (suc i) rs))) ∙ ap (elementsOperator O outcome m) (sym parted));
       }

@@ -16,5 +16,5 @@ pub use Rattle.arena.specs.declared.builder.Measured.the-variants.{the-data as 
 pub use Rattle.convert.specs.declared.gate.GateKind.the-variants.{the-data as GateKind, H as KindH, X as KindX, Z as KindZ, S as KindS, Sdg as KindSdg, T as KindT, Tdg as KindTdg}
 pub use Rattle.convert.specs.declared.gate.GateKind.the-variants.{Cnot as KindCnot, Cz as KindCz, Ccx as KindCcx, Ccz as KindCcz, Measure as KindMeasure, Y as KindY, Sx as KindSx}
 pub use Rattle.convert.specs.declared.gate.GateKind.the-variants.{Swap as KindSwap, Cy as KindCy, Unsupported}
-pub use Rattle.convert.specs.declared.cap.Cap.the-variants.{the-data as Cap}
+pub use Rattle.convert.specs.declared.cap.Cap.the-variants.{the-data as Cap, None as NoCap}
 pub use Rattle.convert.specs.declared.frame.FramePushed.the-variants.{the-data as FramePushed, Made as FramePushedMade, Refused as FramePushedRefused}

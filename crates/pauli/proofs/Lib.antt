@@ -8,6 +8,8 @@ pub mod Conj
 pub mod PaperBits
 pub mod Short
 pub mod Table
+pub mod MoreGates
+pub mod SixCnots
 pub mod Independent
 pub mod Quarters
 pub mod Litinski

@@ -14,6 +14,7 @@ use Rattle.pauli.specs.Bits.{_xor_, xBit, zBit, bits, bitH, bitS, bitCno
 use Rattle.pauli.specs.Rotations.{rotate, written, flush, rotations, Each, quarterFirst, quarterLast, SameSum}
 use Rattle.pauli.specs.Doubly.{sevenRows, allTurnedBy}
 use Rattle.pauli.specs.Table.{start, table, productOver}
+use Rattle.pauli.specs.SixCnots.{SevenMet}
 use Rattle.pauli.proofs.Rows
 use Rattle.pauli.proofs.Conj
 use Rattle.pauli.proofs.PaperBits
@@ -23,6 +24,7 @@ use Rattle.pauli.proofs.Quarters
 use Rattle.pauli.proofs.Litinski
 use Rattle.pauli.proofs.Weight
 use Rattle.pauli.proofs.Toffoli
+use Rattle.pauli.proofs.SixCnots.{seven-met}
 use Rattle.pauli.proofs.Remainder
 
 -- ---- 1. the product of rows
@@ -160,6 +162,10 @@ quarter-before = Litinski.exchange-any-angle
 
 pub doubly-controlled : (x y z : Bool) → allTurnedBy sevenRows x y z ≡ (7 + cond (x && (y && z)) 8 0) % 16
 doubly-controlled = Toffoli.doubly-controlled
+
+-- and the six cnots that ccz is written with under a cap of 1 or 2: between them the z rows are the seven products in another order, and the table stays
+pub six-cnots : (n : ℕ) (gs : List Gate) → AllValid n gs → (a b d : ℕ) → a < n → b < n → d < n → a ≢ b → a ≢ d → b ≢ d → SevenMet n a b d (table n gs)
+six-cnots n gs v a b d ha hb hd ab ad bd = seven-met n a b d ha hb hd ab ad bd gs v
 
 -- ---- angles: the remainder is below 8 and a multiple of 8 away
 

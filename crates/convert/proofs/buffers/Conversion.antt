@@ -5,7 +5,6 @@ use mathlib.Core.List.{List, [], _∷_, _++_}
 use Prim.Native.Nat.{ℕ, zero, suc, _+_, _*_, _/_, _%_, _-_, _<_, _≤_}
 use native.Mathlib.Omega.{arith}
 use native.Mathlib.Nat.{suc-mul, zero-mul}
-use native.Mathlib.Numerals.{add-one}
 use lib.Dec.{ltb, eqb}
 use lib.ListN.{length, getD, drop}
 use lib.Seq.{drop-append-add, drop-drop}
@@ -18,17 +17,18 @@ use Rattle.arena.specs.declared.builder.Created.the-variants.{the-data as Creat
 use Rattle.arena.proofs.Overlay.{length-qubitNodes}
 use Rattle.arena.proofs.Accepted.{passed-before, test-passed, left-false, right-false}
 use Rattle.convert.specs.Types.{PbcError, Header, TooManyQubits, BrokenGateList, CapTooSmall, NoPlanes, NoFrame, NoNodes, NoOperations, Checked, Fine, Wrong}
-use Rattle.convert.specs.Records.{GateKind, KindH, KindX, KindZ, KindS, KindSdg, KindT, KindTdg, KindCnot, KindCz, KindCcx, KindCcz, KindMeasure, KindY, KindSx, KindSwap, KindCy, Unsupported, Cap, NoCap, AtMost, Elementary, Placed, placedFrom, bare, Record, records, kindOf, lowerAs, lowerAll, AllProper}
+use Rattle.convert.specs.Records.{GateKind, KindH, KindX, KindZ, KindS, KindSdg, KindT, KindTdg, KindCnot, KindCz, KindCcx, KindCcz, KindMeasure, KindY, KindSx, KindSwap, KindCy, Unsupported, Cap, NoCap, AtMost, isNarrow, bare, Record, records, kindOf, lower, lowerAs, lowerAll, AllProper}
+use Rattle.convert.specs.Sources.{All}
 use Rattle.convert.specs.Plain.{flushFrom, plainBegin, plainRun, tableRun}
 use Rattle.convert.specs.Frame.{startArena}
 use Rattle.convert.specs.Words.{flat, startWords}
 use Rattle.convert.specs.Code.Needs.{Needs}
 use Rattle.convert.specs.Planes.{partWords, packed}
 use Rattle.convert.specs.Conversion.{Input, recordsChecked, capTooSmall, planesTooFew, maxGateWords, limits, gatesCheck, convertCheck, gatesIn, plainEnd, tableEnd, wordEnd, planesAs, planesAfter, convertWithin, convertStep, convertOf, ConvertedMade, ConvertedRefused, inputOf, gatesChecked, roomChecked}
-use Rattle.convert.specs.Code.Raw.{isCapped, planesFor, Fits, Room, plainLast, wordsLast, needsLast, needsOf}
-use Rattle.convert.proofs.Accepted.{bare-placed, proper-records, passed-records, AllKnown, known-records}
+use Rattle.convert.specs.Code.Raw.{recordAt, isCapped, planesFor, Fits, Room, plainLast, wordsLast, needsLast, needsOf}
+use Rattle.convert.proofs.Accepted.{AllLowered, proper-records, passed-records, known-records}
 use Rattle.convert.proofs.counts.Needs.{needed}
-use Rattle.convert.proofs.counts.Rest.{drop-record, rest-more, restOf}
+use Rattle.convert.proofs.counts.Rest.{drop-record}
 use Rattle.convert.proofs.meaning.Papers.{table-run}
 use Rattle.convert.proofs.buffers.State.{length-start}
 use Rattle.convert.proofs.buffers.Writing.{need-grows}
@@ -36,37 +36,19 @@ use Rattle.pauli.specs.Rows.{Row}
 
 -- ---- the checks of the gate list
 
-bare-append : (es fs : List (Placed Elementary)) → bare (es ++ fs) ≡ bare es ++ bare fs
-bare-append [] fs = refl
-bare-append (e ∷ es) fs = ap (λ (l : List Elementary). e .gate ∷ l) (bare-append es fs)
+all-drop : (P : Record → Type 0) (rs : List Record) (i : ℕ) → All P rs → All P (drop i rs)
+all-drop P rs zero w = w
+all-drop P [] (suc i) w = tt
+all-drop P (r ∷ rs) (suc i) w = all-drop P rs i (w .1)
 
-proper-split : (n m : ℕ) (es fs : List Elementary) → AllProper n m (es ++ fs) → AllProper n m es × AllProper n m fs
-proper-split n m [] fs w = (tt, w)
-proper-split n m (e ∷ es) fs w = let r = proper-split n m es fs (w .1) in ((w .0, r .0), r .1)
+-- what holds of all records holds of record i
+all-at : (P : Record → Type 0) (gs : List ℕ) → All P (records gs) → (i : ℕ) → i < length gs / 4 → P (recordAt gs i)
+all-at P gs w i h = (rw (drop-record gs i h) at (all-drop P (records gs) i w)) .0
 
-module _ (n m : ℕ) (gs : List ℕ) where
-  abbrev these : ℕ → List Elementary
-  these i = lowerAs (kindOf (getD gs (4 * i) 0)) (getD gs (4 * i + 1) 0) (getD gs (4 * i + 2) 0) (getD gs (4 * i + 3) 0)
-
-  halves : (i : ℕ) → i < length gs / 4 → AllProper n m (bare (restOf gs i)) → AllProper n m (these i) × AllProper n m (bare (restOf gs (i + 1)))
-  halves i h w =
-      let e : bare (restOf gs i) ≡ these i ++ bare (restOf gs (i + 1)) = ap bare (rest-more gs i h) ∙ bare-append (placedFrom i 0 (these i)) (restOf gs (i + 1)) ∙ rw (bare-placed i 0 (these i)) in
-      proper-split n m (these i) (bare (restOf gs (i + 1))) (rw e at w)
-
-  proper-rest : AllProper n m (bare (restOf gs 0)) → (i : ℕ) → i ≤ length gs / 4 → AllProper n m (bare (restOf gs i))
-  proper-rest w zero h = w
-  proper-rest w (suc i) h = rw (← add-one i) (halves i (omega arith) (proper-rest w i (omega arith)) .1)
-
-  proper-at : AllProper n m (bare (restOf gs 0)) → (i : ℕ) → i < length gs / 4 → AllProper n m (these i)
-  proper-at w i h = halves i h (proper-rest w i (omega arith)) .0
-
-known-drop : (rs : List Record) (i : ℕ) → AllKnown rs → AllKnown (drop i rs)
-known-drop rs zero w = w
-known-drop [] (suc i) w = tt
-known-drop (r ∷ rs) (suc i) w = known-drop rs i (w .1)
-
-known-at : (gs : List ℕ) → AllKnown (records gs) → (i : ℕ) → i < length gs / 4 → getD gs (4 * i) 0 < 21
-known-at gs w i h = (rw (drop-record gs i h) at (known-drop (records gs) i w)) .0
+proper-at : (n m : ℕ) (gs : List ℕ) → AllLowered n m (records gs) → (i : ℕ) → i < length gs / 4
+    → AllProper n m (lowerAs (kindOf (getD gs (4 * i) 0)) (getD gs (4 * i + 1) 0) (getD gs (4 * i + 2) 0) (getD gs (4 * i + 3) 0))
+unfolding lower
+proper-at n m gs w i h = all-at (λ r. AllProper n m (lower r)) gs w i h
 
 proper-b : (n m : ℕ) (k : GateKind) (a b d : ℕ) → AllProper n m (lowerAs k a b d) → AllProper n (b + 1) (lowerAs k a b d)
 unfolding lowerAs
@@ -135,7 +117,7 @@ planes-fit NoCap n m e on = let z : _≡_ {A = ℕ} 0 1 = cc in absurd (omega ar
 planes-fit (AtMost most) n m e on = rw (four-times n (partWords n)) (ltb-false _ _ e)
 
 pub gates-fit : (n cbits : ℕ) (cap : Cap) (gs : List ℕ) (m : ℕ) → gatesChecked limits n cbits cap gs m ≡ Fine → GatesFit n cbits cap gs m
-unfolding gatesChecked lowerAll
+unfolding gatesChecked
 gates-fit n cbits cap gs m e₁₂ =
     let e₁₁ = passed-before _ _ _ e₁₂ in
     let e₉ = passed-before _ _ _ e₁₁ in
@@ -148,7 +130,7 @@ gates-fit n cbits cap gs m e₁₂ =
       cbits-fit = c;
       size = ltb-false _ _ (right-false (not (eqb (length gs % 4) 0)) _ (test-passed _ _ _ e₂));
       fits = record {
-        known = known-at gs (known-records _ n cbits 0 [] (records gs) e₉);
+        known = all-at (λ r. r .kind < 21) gs (known-records _ n cbits 0 [] (records gs) e₉);
         each = λ i h. proper-b n cbits (kindOf (getD gs (4 * i) 0)) (getD gs (4 * i + 1) 0) (getD gs (4 * i + 2) 0) (getD gs (4 * i + 3) 0) (proper-at n cbits gs w i h);
         bits = λ i h. proper-max n cbits (kindOf (getD gs (4 * i) 0)) (getD gs (4 * i + 1) 0) (getD gs (4 * i + 2) 0) (getD gs (4 * i + 3) 0) c (proper-at n cbits gs w i h);
       };
@@ -159,7 +141,7 @@ gates-fit n cbits cap gs m e₁₂ =
 pub counts-are : (n : ℕ) (cap : Cap) (gs : List ℕ) → (needsLast n cap gs .nodes ≡ wordsLast n cap gs .arena .count) × (needsLast n cap gs .operations ≡ length (wordsLast n cap gs .ops))
 unfolding startWords startArena
 counts-are n cap gs =
-    let e = needed n cap (lowerAll (records gs)) (plainBegin n) (startWords n) in
+    let e = needed n cap (lowerAll (isNarrow cap) (records gs)) (plainBegin n) (startWords n) in
     (ap (λ (k : Needs). k .nodes) e, ap (λ (k : Needs). k .operations) e)
 
 -- new words over new words over old ones
@@ -180,9 +162,9 @@ module _ (q c o : ℕ) (cap : Cap) (gs ns os fs ps : List ℕ) where
 
   planes-as : planesFor cap q (plainLast q cap gs .table) ps ≡ planesAs cap x
   unfolding tableEnd gatesIn plainBegin
-  planes-as = go cap (table-run flushFrom q cap (lowerAll (records gs)) (plainBegin q))
+  planes-as = go cap (table-run flushFrom q cap (lowerAll (isNarrow cap) (records gs)) (plainBegin q))
     where
-      go : (k : Cap) → plainRun flushFrom q cap (lowerAll (records gs)) (plainBegin q) .table ≡ tableRun q cap (bare (lowerAll (records gs))) (start q)
+      go : (k : Cap) → plainRun flushFrom q cap (lowerAll (isNarrow cap) (records gs)) (plainBegin q) .table ≡ tableRun q cap (bare (lowerAll (isNarrow cap) (records gs))) (start q)
           → planesFor k q (plainLast q cap gs .table) ps ≡ planesAs k x
       go NoCap e = refl
       go (AtMost most) e = ap (λ (t : List Row). overlay (packed q t) ps) e
@@ -243,7 +225,7 @@ room-from q cap gs ns os fs k m e ek em =
     (record { nodes = omega (arith, a, ek); nodes-lent = omega (arith, b, ek); operations = omega (arith, d, em); operations-lent = omega (arith, g, em) }, ltb-false _ _ (test-passed _ _ _ e₁₃))
 
 pub start-least : (n : ℕ) (cap : Cap) (gs : List ℕ) → 1 + 2 * n ≤ needsLast n cap gs .nodes
-start-least n cap gs = need-grows n cap (lowerAll (records gs)) (plainBegin n) (needsOf (1 + 2 * n) 0) .0
+start-least n cap gs = need-grows n cap (lowerAll (isNarrow cap) (records gs)) (plainBegin n) (needsOf (1 + 2 * n) 0) .0
 
 -- ---- the fresh circuit that is written over
 
@@ -283,7 +265,7 @@ bits-checked n cbits gs r₁ r₂ e₁ e₂ e =
 
 pub gates-checked : (n cbits : ℕ) (cap : Cap) (gs : List ℕ) (m : ℕ) (r₁ r₂ r₃ r₄ r₅ : Checked) (x y : Bool) → r₁ ≡ (Fine ⟫ ltb maxQubits n || ltb maxCbits cbits ⇒ TooManyQubits)
     → r₂ ≡ (r₁ ⟫ not (eqb (length gs % 4) 0) || ltb maxGateWords (length gs) ⇒ BrokenGateList) → r₃ ≡ recordsChecked r₂ n cbits 0 [] (records gs)
-    → x ≡ capTooSmall cap (records gs) → r₄ ≡ (r₃ ⟫ x ⇒ CapTooSmall) → y ≡ planesTooFew cap n m → r₅ ≡ (r₄ ⟫ y ⇒ NoPlanes) → r₅ ≡ gatesChecked limits n cbits cap gs m
+    → x ≡ capTooSmall cap → r₄ ≡ (r₃ ⟫ x ⇒ CapTooSmall) → y ≡ planesTooFew cap n m → r₅ ≡ (r₄ ⟫ y ⇒ NoPlanes) → r₅ ≡ gatesChecked limits n cbits cap gs m
 unfolding gatesChecked
 gates-checked n cbits cap gs m r₁ r₂ r₃ r₄ r₅ x y e₁ e₂ e₃ ex e₄ ey e₅ = rw (e₅, e₄, e₃, e₂, e₁, ex, ey)
 

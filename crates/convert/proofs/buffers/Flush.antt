@@ -1,19 +1,21 @@
 -- A flush in the buffers, gate by gate.
 use mathlib.Core.Path.{_≡_, refl, sym, ap, _∙_}
-use mathlib.Core.List.{List, [], _∷_, _++_}
-use Prim.Native.Nat.{ℕ, suc, _+_, _-_, _*_, _<_, _≤_}
+use mathlib.Core.Bool.{Bool, true, false, cond}
+use mathlib.Core.List.{List, [], _∷_, _++_, append-nil}
+use Prim.Native.Nat.{ℕ, zero, suc, _+_, _-_, _*_, _/_, _<_, _≤_}
 use native.Mathlib.Omega.{arith}
-use lib.ListN.{length, getD}
+use native.Mathlib.Numerals.{add-one}
+use lib.ListN.{length}
 use lib.Seq.{sets}
 use Rattle.pauli.specs.Gates.{Gate, gateH, gateX, gateZ, gateS, gateSdg, gateCnot, gateCz, AllValid}
 use Rattle.arena.specs.Limits.{operationWords}
 use Rattle.arena.specs.Operations.{rotateWords}
-use Rattle.convert.specs.Records.{kindOf, From, from, withoutIndex}
+use Rattle.convert.specs.Records.{Record, kindOf, From, from, withoutIndex}
 use Rattle.convert.specs.Frame.{total}
 use Rattle.convert.specs.Words.{idX, idZ}
 use Rattle.convert.specs.Code.Needs.{writtenNodes, writtenOps}
-use Rattle.convert.specs.Code.Raw.{Writing, writing, putOp, putNode, putJoint, putFlush, putFlushes, FlushReady, Flushed, FlushedIf, recordFrom, gatesOver}
-use mathlib.Core.Bool.{Bool, true, false}
+use Rattle.convert.specs.Code.Raw.{Writing, writing, putOp, putNode, putJoint, putFlush, putFlushes, FlushReady, Flushed, FlushOver, FlushedIf, PartIn, InParts, partAt, nextPart, stepped, recordAt, recordWords, recordFrom, gatesOver, listedGates}
+use Rattle.convert.proofs.counts.Parts.{stepped-up, stepped-one, next-in, next-wide, part-wide}
 use Rattle.arena.specs.Builder.{overlay, startFrame}
 
 -- what a rotation more promises
@@ -166,55 +168,145 @@ flushed-append gs hs c ns u os c₁ ns₁ u₁ os₁ c₂ ns₂ u₂ os₂ a b =
       turned = omega (arith, a .turned, b .turned);
     }
 
--- ---- the records from one on
+-- ---- the parts from one position to another
 
-gates-more : (gs : List ℕ) (i k m : ℕ) → k < m
-    → gatesOver gs (i + k) (m - k) ≡ recordFrom (i + k) (kindOf (getD gs (4 * (i + k)) 0)) (getD gs (4 * (i + k) + 1) 0) (getD gs (4 * (i + k) + 2) 0) ++ gatesOver gs (i + (k + 1)) (m - (k + 1))
-gates-more gs i k m h =
-    let e : m - k ≡ suc (m - (k + 1)) = omega arith in
-    let f : i + (k + 1) ≡ suc (i + k) = omega arith in
-    rw (e, f)
+-- so far the parts up to p are written; what the others lead to is what is asked, for the number of parts that there are
+pub record FlushAt (n : ℕ) (narrow : Bool) (gs : List ℕ) (first to : ℕ) (c₀ : ℕ) (ns₀ : List ℕ) (u₀ : ℕ) (os₀ : List ℕ) (c : ℕ) (ns : List ℕ) (u : ℕ) (os : List ℕ) (p : ℕ) : Type 0 where
+  pub left : ℕ
+  pub ends : stepped narrow gs left p ≡ to
+  pub inside : InParts narrow gs p
+  pub ready : FlushReady n (gatesOver narrow gs p left) c ns u os
+  pub leads : (c′ : ℕ) (ns′ : List ℕ) (u′ : ℕ) (os′ : List ℕ) → Flushed (gatesOver narrow gs p left) c ns u os c′ ns′ u′ os′
+      → (k : ℕ) → stepped narrow gs k first ≡ to → Flushed (gatesOver narrow gs first k) c₀ ns₀ u₀ os₀ c′ ns′ u′ os′
 
--- so far k records are written, and what the others lead to is what is asked
-pub record FlushAt (n : ℕ) (gs : List ℕ) (i m : ℕ) (c₀ : ℕ) (ns₀ : List ℕ) (u₀ : ℕ) (os₀ : List ℕ) (c : ℕ) (ns : List ℕ) (u : ℕ) (os : List ℕ) (k : ℕ) : Type 0 where
-  pub ready : FlushReady n (gatesOver gs (i + k) (m - k)) c ns u os
-  pub leads : (c′ : ℕ) (ns′ : List ℕ) (u′ : ℕ) (os′ : List ℕ) → Flushed (gatesOver gs (i + k) (m - k)) c ns u os c′ ns′ u′ os′ → Flushed (gatesOver gs i m) c₀ ns₀ u₀ os₀ c′ ns′ u′ os′
+pub flush-start : (n : ℕ) (narrow : Bool) (gs : List ℕ) (first to c : ℕ) (ns : List ℕ) (u : ℕ) (os : List ℕ) → FlushOver n narrow gs first to c ns u os → InParts narrow gs first
+    → FlushAt n narrow gs first to c ns u os c ns u os first
+flush-start n narrow gs first to c ns u os r i = record {
+  left = r .count;
+  ends = r .ends;
+  inside = i;
+  ready = r .ready;
+  leads = λ c′ ns′ u′ os′ d k e. rw (stepped-one narrow gs k (r .count) first (e ∙ sym (r .ends))) d;
+}
 
-pub flush-start : (n : ℕ) (gs : List ℕ) (i m c : ℕ) (ns : List ℕ) (u : ℕ) (os : List ℕ) → FlushReady n (gatesOver gs i m) c ns u os → FlushAt n gs i m c ns u os c ns u os 0
-flush-start n gs i m c ns u os r =
-    let e : i + 0 ≡ i = omega arith in
-    let f : m - 0 ≡ m = omega arith in
-    record {
-      ready = rw (e, f) r;
-      leads = λ c′ ns′ u′ os′ d. rw (e, f) at d;
-    }
-
-module _ (n : ℕ) (gs : List ℕ) (i m : ℕ) (c₀ : ℕ) (ns₀ : List ℕ) (u₀ : ℕ) (os₀ : List ℕ) (c : ℕ) (ns : List ℕ) (u : ℕ) (os : List ℕ) (k : ℕ)
-    (at : FlushAt n gs i m c₀ ns₀ u₀ os₀ c ns u os k) (h : k < m) where
+module _ (n : ℕ) (narrow : Bool) (gs : List ℕ) (first to : ℕ) (c₀ : ℕ) (ns₀ : List ℕ) (u₀ : ℕ) (os₀ : List ℕ) (c : ℕ) (ns : List ℕ) (u : ℕ) (os : List ℕ) (p : ℕ)
+    (at : FlushAt n narrow gs first to c₀ ns₀ u₀ os₀ c ns u os p) (h : p < to) (top : to ≤ 16 * (length gs / 4)) where
   abbrev these : List (From Gate)
-  these = recordFrom (i + k) (kindOf (getD gs (4 * (i + k)) 0)) (getD gs (4 * (i + k) + 1) 0) (getD gs (4 * (i + k) + 2) 0)
+  these = recordFrom (p / 16) (kindOf (partAt narrow gs p .kind)) (partAt narrow gs p .a) (partAt narrow gs p .b)
+
+  pub flush-inside : PartIn narrow gs p
+  flush-inside = at .inside (omega arith)
+
+  -- one part is written, and so many are left
+  record OneMore : Type 0 where
+    others : ℕ
+    ends : stepped narrow gs others (nextPart narrow gs p) ≡ to
+    same : gatesOver narrow gs p (at .left) ≡ these ++ gatesOver narrow gs (nextPart narrow gs p) others
+
+  one-more : OneMore
+  one-more = go (at .left) refl (at .ends)
+    where
+      go : (k : ℕ) → at .left ≡ k → stepped narrow gs k p ≡ to → OneMore
+      go zero e s = absurd (omega (arith, s, h))
+      go (suc k) e s = record { others = k; ends = s; same = rw e }
 
   pub flush-one : FlushReady n these c ns u os
-  flush-one = flush-first n these (gatesOver gs (i + (k + 1)) (m - (k + 1))) c ns u os (rw (gates-more gs i k m h) at (at .ready))
+  flush-one = flush-first n these (gatesOver narrow gs (nextPart narrow gs p) (one-more .others)) c ns u os (rw (one-more .same) at (at .ready))
 
-  pub flush-more : (c′ : ℕ) (ns′ : List ℕ) (u′ : ℕ) (os′ : List ℕ) → Flushed these c ns u os c′ ns′ u′ os′ → length ns′ ≡ length ns → length os′ ≡ length os
-      → FlushAt n gs i m c₀ ns₀ u₀ os₀ c′ ns′ u′ os′ (k + 1)
-  flush-more c′ ns′ u′ os′ f ln lo = record {
-    ready = flush-last n these (gatesOver gs (i + (k + 1)) (m - (k + 1))) c ns u os c′ ns′ u′ os′ (rw (gates-more gs i k m h) at (at .ready)) f ln lo;
+  pub flush-more : (c′ : ℕ) (ns′ : List ℕ) (u′ : ℕ) (os′ : List ℕ) (next : ℕ) → Flushed these c ns u os c′ ns′ u′ os′ → length ns′ ≡ length ns → length os′ ≡ length os → next ≡ nextPart narrow gs p
+      → FlushAt n narrow gs first to c₀ ns₀ u₀ os₀ c′ ns′ u′ os′ next
+  flush-more c′ ns′ u′ os′ next f ln lo e = rw e (record {
+    left = one-more .others;
+    ends = one-more .ends;
+    inside = next-in narrow gs p flush-inside;
+    ready = flush-last n these (gatesOver narrow gs (nextPart narrow gs p) (one-more .others)) c ns u os c′ ns′ u′ os′ (rw (one-more .same) at (at .ready)) f ln lo;
     leads = λ c₂ ns₂ u₂ os₂ d. at .leads c₂ ns₂ u₂ os₂
-        (rw (gates-more gs i k m h) (flushed-append these (gatesOver gs (i + (k + 1)) (m - (k + 1))) c ns u os c′ ns′ u′ os′ c₂ ns₂ u₂ os₂ f d));
-  }
+        (rw (one-more .same) (flushed-append these (gatesOver narrow gs (nextPart narrow gs p) (one-more .others)) c ns u os c′ ns′ u′ os′ c₂ ns₂ u₂ os₂ f d));
+  })
 
-pub flush-end : (n : ℕ) (gs : List ℕ) (i m c₀ : ℕ) (ns₀ : List ℕ) (u₀ : ℕ) (os₀ : List ℕ) (c : ℕ) (ns : List ℕ) (u : ℕ) (os : List ℕ) (k : ℕ)
-    → FlushAt n gs i m c₀ ns₀ u₀ os₀ c ns u os k → m ≤ k → Flushed (gatesOver gs i m) c₀ ns₀ u₀ os₀ c ns u os
-flush-end n gs i m c₀ ns₀ u₀ os₀ c ns u os k at h =
-    let e : m - k ≡ 0 = omega arith in
+pub flush-end : (n : ℕ) (narrow : Bool) (gs : List ℕ) (first to c₀ : ℕ) (ns₀ : List ℕ) (u₀ : ℕ) (os₀ : List ℕ) (c : ℕ) (ns : List ℕ) (u : ℕ) (os : List ℕ) (p : ℕ)
+    → FlushAt n narrow gs first to c₀ ns₀ u₀ os₀ c ns u os p → to ≤ p → (k : ℕ) → stepped narrow gs k first ≡ to → Flushed (gatesOver narrow gs first k) c₀ ns₀ u₀ os₀ c ns u os
+flush-end n narrow gs first to c₀ ns₀ u₀ os₀ c ns u os p at h =
+    let e : at .left ≡ 0 = omega (arith, stepped-up narrow gs (at .left) p, at .ends, h) in
     at .leads c ns u os (rw e none-flushed)
-
--- ---- a flush, or none
 
 no-both : {f : Bool} → f ≡ true → f ≡ false → ⊥
 no-both p q = let z : _≡_ {A = ℕ} 0 1 = cc in omega arith
+
+-- ---- the records of a list, from one to another
+
+-- so far the records up to i are written; what the others lead to is what is asked
+pub record ListAt (n index : ℕ) (gs : List ℕ) (first to : ℕ) (c₀ : ℕ) (ns₀ : List ℕ) (u₀ : ℕ) (os₀ : List ℕ) (c : ℕ) (ns : List ℕ) (u : ℕ) (os : List ℕ) (i : ℕ) : Type 0 where
+  pub ready : FlushReady n (listedGates index gs i (to - i)) c ns u os
+  pub leads : (c′ : ℕ) (ns′ : List ℕ) (u′ : ℕ) (os′ : List ℕ) → Flushed (listedGates index gs i (to - i)) c ns u os c′ ns′ u′ os′
+      → Flushed (listedGates index gs first (to - first)) c₀ ns₀ u₀ os₀ c′ ns′ u′ os′
+
+pub list-start : (n index : ℕ) (gs : List ℕ) (first to c : ℕ) (ns : List ℕ) (u : ℕ) (os : List ℕ) → FlushReady n (listedGates index gs first (to - first)) c ns u os
+    → ListAt n index gs first to c ns u os c ns u os first
+list-start n index gs first to c ns u os r = record { ready = r; leads = λ c′ ns′ u′ os′ d. d }
+
+module _ (n index : ℕ) (gs : List ℕ) (first to : ℕ) (c₀ : ℕ) (ns₀ : List ℕ) (u₀ : ℕ) (os₀ : List ℕ) (c : ℕ) (ns : List ℕ) (u : ℕ) (os : List ℕ) (i : ℕ)
+    (at : ListAt n index gs first to c₀ ns₀ u₀ os₀ c ns u os i) (h : i < to) where
+  abbrev this : List (From Gate)
+  this = recordFrom (index + i) (kindOf (recordAt gs i .kind)) (recordAt gs i .a) (recordAt gs i .b)
+
+  abbrev others : List (From Gate)
+  others = listedGates index gs (i + 1) (to - (i + 1))
+
+  one-record : listedGates index gs i (to - i) ≡ this ++ others
+  one-record = let e : to - i ≡ suc (to - (i + 1)) = omega (arith, h) in rw (e, add-one i)
+
+  pub list-one : FlushReady n this c ns u os
+  list-one = flush-first n this others c ns u os (rw one-record at (at .ready))
+
+  pub list-more : (c′ : ℕ) (ns′ : List ℕ) (u′ : ℕ) (os′ : List ℕ) → Flushed this c ns u os c′ ns′ u′ os′ → length ns′ ≡ length ns → length os′ ≡ length os
+      → ListAt n index gs first to c₀ ns₀ u₀ os₀ c′ ns′ u′ os′ (i + 1)
+  list-more c′ ns′ u′ os′ f ln lo = record {
+    ready = flush-last n this others c ns u os c′ ns′ u′ os′ (rw one-record at (at .ready)) f ln lo;
+    leads = λ c₂ ns₂ u₂ os₂ d. at .leads c₂ ns₂ u₂ os₂ (rw one-record (flushed-append this others c ns u os c′ ns′ u′ os′ c₂ ns₂ u₂ os₂ f d));
+  }
+
+pub list-end : (n index : ℕ) (gs : List ℕ) (first to c₀ : ℕ) (ns₀ : List ℕ) (u₀ : ℕ) (os₀ : List ℕ) (c : ℕ) (ns : List ℕ) (u : ℕ) (os : List ℕ) (i : ℕ)
+    → ListAt n index gs first to c₀ ns₀ u₀ os₀ c ns u os i → to ≤ i → Flushed (listedGates index gs first (to - first)) c₀ ns₀ u₀ os₀ c ns u os
+list-end n index gs first to c₀ ns₀ u₀ os₀ c ns u os i at h = let e : to - i ≡ 0 = omega (arith, h) in at .leads c ns u os (rw e none-flushed)
+
+-- a part as a list of its own
+pub listed-part : (index : ℕ) (r : Record) → listedGates index (recordWords r) 0 1 ≡ recordFrom index (kindOf (r .kind)) (r .a) (r .b)
+listed-part index r = let e : index + 0 ≡ index = omega arith in rw e (append-nil (recordFrom index (kindOf (r .kind)) (r .a) (r .b)))
+
+-- without a narrow cap the parts are the records
+stepped-wide : (gs : List ℕ) (k i : ℕ) → stepped false gs k (16 * i) ≡ 16 * (i + k)
+stepped-wide gs zero i = omega arith
+stepped-wide gs (suc k) i =
+    let e : nextPart false gs (16 * i) ≡ 16 * suc i = next-wide gs (16 * i) ∙ omega arith in
+    rw e (stepped-wide gs k (suc i) ∙ omega arith)
+
+gates-wide : (gs : List ℕ) (k i : ℕ) → gatesOver false gs (16 * i) k ≡ listedGates 0 gs i k
+gates-wide gs zero i = refl
+gates-wide gs (suc k) i =
+    let e : nextPart false gs (16 * i) ≡ 16 * suc i = next-wide gs (16 * i) ∙ omega arith in
+    let q : 16 * i / 16 ≡ i = omega arith in
+    let z : i ≡ 0 + i = omega arith in
+    let these : ℕ → List (From Gate) = λ (j : ℕ). recordFrom j (kindOf (recordAt gs i .kind)) (recordAt gs i .a) (recordAt gs i .b) in
+    rw (part-wide gs (16 * i), q, e) (ap (λ (l : List (From Gate)). these i ++ l) (gates-wide gs k (suc i)) ∙ ap (λ (j : ℕ). these j ++ listedGates 0 gs (suc i) k) z)
+
+pub flush-wide : (n : ℕ) (narrow : Bool) (gs : List ℕ) (from to place i c : ℕ) (ns : List ℕ) (u : ℕ) (os : List ℕ) → narrow ≡ false
+    → FlushOver n narrow gs (cond narrow from (16 * place)) (cond narrow to (16 * i)) c ns u os → FlushReady n (listedGates 0 gs place (i - place)) c ns u os × (place ≤ i)
+flush-wide n true gs from to place i c ns u os off r = absurd (no-both refl off)
+flush-wide n false gs from to place i c ns u os off r =
+    let s = stepped-wide gs (r .count) place in
+    let e : i - place ≡ r .count = omega (arith, r .ends, s) in
+    (rw (e, ← gates-wide gs (r .count) place) (r .ready), omega (arith, r .ends, s))
+
+pub wide-flushed : (narrow : Bool) (gs : List ℕ) (from to place i : ℕ) {c : ℕ} {ns : List ℕ} {u : ℕ} {os : List ℕ} {c′ : ℕ} {ns′ : List ℕ} {u′ : ℕ} {os′ : List ℕ} → narrow ≡ false
+    → Flushed (listedGates 0 gs place (i - place)) c ns u os c′ ns′ u′ os′ → (k : ℕ) → stepped narrow gs k (cond narrow from (16 * place)) ≡ cond narrow to (16 * i)
+    → Flushed (gatesOver narrow gs (cond narrow from (16 * place)) k) c ns u os c′ ns′ u′ os′
+wide-flushed true gs from to place i off d k e = absurd (no-both refl off)
+wide-flushed false gs from to place i off d k e =
+    let m : k ≡ i - place = omega (arith, e, stepped-wide gs k place) in
+    rw (gates-wide gs k place, m) d
+
+-- ---- a flush, or none
 
 pub not-flushed : {f : Bool} (n : ℕ) (gs : List (From Gate)) {c : ℕ} {ns fs : List ℕ} {u : ℕ} {os : List ℕ} → f ≡ false → FlushedIf f n gs c ns fs u os c ns fs u os
 not-flushed n gs e = record { is = λ on. absurd (no-both on e); frame = λ on. absurd (no-both on e); not = λ off. (refl, refl, refl, refl, refl) }

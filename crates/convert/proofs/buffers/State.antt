@@ -14,20 +14,11 @@ use Rattle.convert.specs.Types.{Bit}
 use Rattle.convert.specs.Records.{GateKind, KindH, KindX, KindZ, KindS, KindSdg, KindT, KindTdg, KindCnot, KindCz, KindCcx, KindCcz, KindMeasure, KindY, KindSx, KindSwap, KindCy, Unsupported, Placed, elT, elTdg, elCcx, elCcz, elMeasure, lowerAs, AllProper}
 use Rattle.arena.specs.Limits.{maxCbits, operationWords}
 use Rattle.convert.specs.Frame.{Arena, word, pushed, frameRun, gateNodes, total}
-use Rattle.convert.specs.Words.{Words, flat, flushGates, flushWords, fourPushed, sevenOps, writeSeven, write}
+use Rattle.convert.specs.Words.{Words, flushGates, flushWords, fourPushed, sevenOps, writeSeven, write}
 use Rattle.convert.specs.Code.Raw.{arena, putRun, Ran, Writing, writing, putNode, Flushed, putFlushes, FlushedIf, putRows, putFour, putSeven, putRecord, flushedNodes, flushedOps, recordGates, costOf, loneNodes}
-use Rattle.convert.proofs.counts.RecordSteps.{unplaced, framed, writeRecord}
-use Rattle.convert.proofs.buffers.Words.{laid, Even, even-run, put-run, lying, Square, putAll, Sized, put-all, square-all, noded, put-node, square-node, flushes-lying}
-
--- c nodes and u operations are used in the buffers, and they are those of w, over what the buffers had
-pub record Stands (n : ℕ) (ns₀ fs₀ os₀ : List ℕ) (c : ℕ) (ns fs : List ℕ) (u : ℕ) (os : List ℕ) (w : Words) : Type 0 where
-  pub count : c ≡ w .arena .count
-  pub nodes : ns ≡ overlay (w .arena .nodes) ns₀
-  pub frame : fs ≡ overlay (w .arena .frame) fs₀
-  pub used : u ≡ length (w .ops)
-  pub operations : os ≡ overlay (flat (w .ops)) os₀
-  pub even : Even n (w .arena)
-  pub sized : length (flat (w .ops)) ≡ operationWords * length (w .ops)
+use Rattle.convert.specs.Code.Writing.{unplaced, Stands}
+use Rattle.convert.proofs.counts.RecordSteps.{framed, writeRecord}
+use Rattle.convert.proofs.buffers.Words.{laid, even-run, put-run, lying, Square, putAll, Sized, put-all, square-all, noded, put-node, square-node, flushes-lying}
 
 square-of : {n : ℕ} {ns₀ fs₀ os₀ : List ℕ} {c : ℕ} {ns fs : List ℕ} {u : ℕ} {os : List ℕ} {w : Words} → Stands n ns₀ fs₀ os₀ c ns fs u os w → Square w
 square-of s = record { nodes = s .even .nodes; ops = s .sized }

@@ -19,8 +19,8 @@ use Rattle.convert.specs.Frame.{Arena, pushed, word, multiplied, frameSt
 use Rattle.convert.specs.Words.{Words, flat, idX, idZ, flushGate, flushGates}
 use Rattle.convert.specs.Code.Needs.{writtenNodes, writtenOps}
 use Rattle.convert.specs.Code.Raw.{arena, putMultiplied, putStep, putRun, Writing, writing, putOp, putNode, putJoint, putFlush, putFlushes, flushedNodes, flushedOps}
+use Rattle.convert.specs.Code.Writing.{unplaced, Even}
 use Rattle.convert.proofs.counts.Needs.{Past, past-gate}
-use Rattle.convert.proofs.counts.RecordSteps.{unplaced}
 
 -- a store among the used words
 pub overlay-set : (new old : List ℕ) (i a : ℕ) → i < length new → overlay (set new i a) old ≡ set (overlay new old) i a
@@ -35,10 +35,6 @@ overlay-node new old k a b e lt = sets₂ (overlay new old) (2 * k) a b ∙ over
 
 abbrev pub laid : List ℕ → List ℕ → Arena → Arena
 laid ns fs s = arena (s .count) (overlay (s .nodes) ns) (overlay (s .frame) fs)
-
-pub record Even (n : ℕ) (s : Arena) : Type 0 where
-  pub nodes : length (s .nodes) ≡ 2 * s .count
-  pub frame : length (s .frame) ≡ n + n
 
 pub word-laid : (ns fs : List ℕ) (s : Arena) (i : ℕ) → i < length (s .frame) → word (laid ns fs s) i ≡ word s i
 word-laid ns fs s i h = List·getD-append (s .frame) (drop (length (s .frame)) fs) 0 i h

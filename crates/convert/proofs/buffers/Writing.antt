@@ -2,7 +2,7 @@
 use mathlib.Core.Path.{_≡_, refl, sym, ap, _∙_}
 use mathlib.Core.Bool.{Bool, true, false, cond}
 use mathlib.Core.List.{List, [], _∷_, _++_, map, append-assoc, append-nil}
-use Prim.Native.Nat.{ℕ, zero, suc, _+_, _-_, _*_, _/_, _<_, _≤_}
+use Prim.Native.Nat.{ℕ, zero, suc, _+_, _-_, _*_, _/_, _%_, _<_, _≤_}
 use native.Mathlib.Omega.{arith}
 use native.Mathlib.Nat.{le-refl}
 use lib.ListN.{length, getD, drop, List·getD-append}
@@ -10,20 +10,23 @@ use Rattle.pauli.specs.Gates.{Gate, AllValid}
 use Rattle.pauli.specs.Table.{start}
 use Rattle.arena.specs.Builder.{overlay, startNodes, startFrame, imageWords}
 use Rattle.arena.proofs.Overlay.{length-qubitNodes}
-use Rattle.convert.specs.Records.{GateKind, KindH, KindX, KindZ, KindS, KindSdg, KindT, KindTdg, KindCnot, KindCz, KindCcx, KindCcz, KindMeasure, KindY, KindSx, KindSwap, KindCy, Unsupported, Cap, Elementary, Placed, placedFrom, From, from, withoutIndex, kindOf, lowerAs, lowerAll}
+use Rattle.convert.specs.Records.{GateKind, KindH, KindX, KindZ, KindS, KindSdg, KindT, KindTdg, KindCnot, KindCz, KindCcx, KindCcz, KindMeasure, KindY, KindSx, KindSwap, KindCy, Unsupported, Cap, Elementary, Placed, placedFrom, From, from, withoutIndex, kindOf, isNarrow, lowerAs, lowerAll}
 use Rattle.convert.specs.Plain.{Plain, flushFrom, plainBegin, plainStep, plainRun}
 use Rattle.convert.specs.Frame.{startArena, gateNodes, total}
-use Rattle.convert.specs.Words.{Words, startWords, flushWords, wordRun}
-use Rattle.convert.specs.Code.Needs.{Needs, writtenNodes, writtenOps, needStep, needRun}
+use Rattle.convert.specs.Words.{startWords, flushWords, wordRun}
+use Rattle.convert.specs.Code.Needs.{Needs, needStep, needRun}
 use Rattle.convert.specs.Planes.{partWords}
-use Rattle.convert.specs.Code.RawPlanes.{Wide, Since}
-use Rattle.convert.specs.Code.Raw.{isCapped, recordGates, recordFrom, flushedNodes, flushedOps, planesFor, Decided, Fits, Small, FrameReady, Ran, FlushReady, FlushedIf, RecordReady, gatesOver, anyExceeds, costOf, loneNodes, measuresOf, needsOf, putRecord, putSeven, putFour, putRows, Writing, writing, plainLast, wordsLast, needsLast, Room}
+use Rattle.convert.specs.Code.RawPlanes.{Since}
+use Rattle.convert.specs.Code.Raw.{isCapped, recordGates, recordFrom, flushedNodes, flushedOps, planesFor, Decided, Fits, Small, FrameReady, Ran, FlushOver, FlushedIf, PartIn, InParts, partAt, nextPart, stepped, RecordReady, gatesOver, anyExceeds, costOf, loneNodes, measuresOf, needsOf, putRecord, putSeven, putFour, putRows, Writing, writing, plainLast, wordsLast, needsLast, Room}
+use Rattle.convert.specs.Code.Lists.{restOf}
+use Rattle.convert.specs.Code.Writing.{unplaced, Stands, Pending, WriteAt}
 use Rattle.convert.proofs.meaning.Words.{without-append, without-from, valid-append}
 use Rattle.convert.proofs.packed.Since.{since-start}
 use Rattle.convert.proofs.packed.Deciding.{valid-of, wide-start}
-use Rattle.convert.proofs.counts.RecordSteps.{unplaced, bare-unplaced, run-append, need-append, word-append, One, one-record, framed, writeRecord, needs-eq}
-use Rattle.convert.proofs.counts.Rest.{rest-more, rest-end, wide-went, restOf}
-use Rattle.convert.proofs.buffers.State.{Stands, stands-frames, stands-if, stands-record, writeLone, lone-after, length-start}
+use Rattle.convert.proofs.counts.Parts.{PartFits, part-fits, stepped-up, stepped-snoc, next-up, next-wide, first-in, next-in}
+use Rattle.convert.proofs.counts.RecordSteps.{bare-unplaced, run-append, need-append, word-append, One, one-record, framed, writeRecord, needs-eq}
+use Rattle.convert.proofs.counts.Rest.{rest-more, rest-end, wide-went}
+use Rattle.convert.proofs.buffers.State.{stands-frames, stands-if, stands-record, writeLone, lone-after, length-start}
 
 -- ---- needs only grow
 
@@ -37,27 +40,32 @@ need-grows n cap (e ∷ es) p k = let r = need-grows n cap es (plainStep flushFr
 valid-over : (n i : ℕ) (gs : List Gate) (hs : List (From Gate)) → AllValid n gs → AllValid n (withoutIndex hs) → AllValid n (withoutIndex (map (from i) gs ++ hs))
 valid-over n i gs hs u v = rw (without-append (map (from i) gs) hs, without-from i gs) (valid-append n gs (withoutIndex hs) u v)
 
-gates-valid : (n : ℕ) (gs : List ℕ) → Fits n gs → (i k : ℕ) → i + k ≤ length gs / 4 → AllValid n (withoutIndex (gatesOver gs i k))
-gates-valid n gs f i zero h = tt
-gates-valid n gs f i (suc k) h =
-    valid-over n i (recordGates (kindOf (getD gs (4 * i) 0)) (getD gs (4 * i + 1) 0) (getD gs (4 * i + 2) 0)) (gatesOver gs (suc i) k)
-    (valid-of n (kindOf (getD gs (4 * i) 0)) (getD gs (4 * i + 1) 0) (getD gs (4 * i + 2) 0) (getD gs (4 * i + 3) 0) (f .each i (omega arith))) (gates-valid n gs f (suc i) k (omega arith))
+gates-valid : (n : ℕ) (narrow : Bool) (gs : List ℕ) → Fits n gs → (k p : ℕ) → InParts narrow gs p → stepped narrow gs k p ≤ 16 * (length gs / 4) → AllValid n (withoutIndex (gatesOver narrow gs p k))
+gates-valid n narrow gs f zero p i h = tt
+gates-valid n narrow gs f (suc k) p i h =
+    let r = partAt narrow gs p in
+    let in-p = i (omega (arith, stepped-up narrow gs k (nextPart narrow gs p), next-up narrow gs p, h)) in
+    valid-over n (p / 16) (recordGates (kindOf (r .kind)) (r .a) (r .b)) (gatesOver narrow gs (nextPart narrow gs p) k)
+    (valid-of n (kindOf (r .kind)) (r .a) (r .b) (r .c) (part-fits n narrow gs f p in-p .each)) (gates-valid n narrow gs f k (nextPart narrow gs p) (next-in narrow gs p in-p) h)
 
-gates-snoc : (gs : List ℕ) (i k : ℕ)
-    → gatesOver gs i (suc k) ≡ gatesOver gs i k ++ recordFrom (i + k) (kindOf (getD gs (4 * (i + k)) 0)) (getD gs (4 * (i + k) + 1) 0) (getD gs (4 * (i + k) + 2) 0)
-gates-snoc gs i zero = let e : i + 0 ≡ i = omega arith in rw e (append-nil _)
-gates-snoc gs i (suc k) =
-    let e : suc i + k ≡ i + suc k = omega arith in
-    let these = recordFrom i (kindOf (getD gs (4 * i) 0)) (getD gs (4 * i + 1) 0) (getD gs (4 * i + 2) 0) in
-    ap (λ (l : List (From Gate)). these ++ l) (gates-snoc gs (suc i) k) ∙ sym (append-assoc these (gatesOver gs (suc i) k) _) ∙ rw e
+-- the frame gates of the part at p
+abbrev partFrom : Bool → List ℕ → ℕ → List (From Gate)
+partFrom narrow gs p = recordFrom (p / 16) (kindOf (partAt narrow gs p .kind)) (partAt narrow gs p .a) (partAt narrow gs p .b)
 
-pending-more : (f : Bool) (gs : List ℕ) (i place : ℕ) (us : List (From Gate)) → place ≤ i → us ≡ gatesOver gs place (i - place)
-    → cond f [] us ++ recordFrom i (kindOf (getD gs (4 * i) 0)) (getD gs (4 * i + 1) 0) (getD gs (4 * i + 2) 0) ≡ gatesOver gs (cond f i place) (i + 1 - cond f i place)
-pending-more true gs i place us h e = let z : i + 1 - i ≡ 1 = omega arith in rw z (sym (append-nil _))
-pending-more false gs i place us h e =
-    let z : i + 1 - place ≡ suc (i - place) = omega arith in
-    let y : place + (i - place) ≡ i = omega arith in
-    rw (z, gates-snoc gs place (i - place), y, e)
+gates-snoc : (narrow : Bool) (gs : List ℕ) (k p : ℕ) → gatesOver narrow gs p (suc k) ≡ gatesOver narrow gs p k ++ partFrom narrow gs (stepped narrow gs k p)
+gates-snoc narrow gs zero p = append-nil _
+gates-snoc narrow gs (suc k) p =
+    ap (λ (l : List (From Gate)). partFrom narrow gs p ++ l) (gates-snoc narrow gs k (nextPart narrow gs p))
+    ∙ sym (append-assoc (partFrom narrow gs p) (gatesOver narrow gs (nextPart narrow gs p) k) _)
+
+pending-more : (f : Bool) (narrow : Bool) (gs : List ℕ) (p place next : ℕ) (us : List (From Gate)) → Pending narrow gs place p us → next ≡ nextPart narrow gs p
+    → Pending narrow gs (cond f p place) next (cond f [] us ++ partFrom narrow gs p)
+pending-more true narrow gs p place next us s en = record { count = 1; ends = sym en; same = sym (append-nil _) }
+pending-more false narrow gs p place next us s en = record {
+  count = suc (s .count);
+  ends = stepped-snoc narrow gs (s .count) place ∙ ap (nextPart narrow gs) (s .ends) ∙ sym en;
+  same = rw (s .same) (ap (λ (q : ℕ). gatesOver narrow gs place (s .count) ++ partFrom narrow gs q) (sym (s .ends))) ∙ sym (gates-snoc narrow gs (s .count) place);
+}
 
 -- ---- frame words are small
 
@@ -152,29 +160,12 @@ record-counts n given i KindSwap a b d fs c ns u os c′ ns′ u′ os′ e = (a
 record-counts n given i KindCy a b d fs c ns u os c′ ns′ u′ os′ e = (ap (λ (s : Writing). s .count) e ∙ omega arith, ap (λ (s : Writing). s .used) e ∙ omega arith)
 record-counts n given i Unsupported a b d fs c ns u os c′ ns′ u′ os′ e = (ap (λ (s : Writing). s .count) e ∙ omega arith, ap (λ (s : Writing). s .used) e ∙ omega arith)
 
--- ---- before record i
+-- ---- before position p
 
--- the buffers stand for words, from which the rest leads to the end; pending are the gates of the records since the place of the last flush
-pub record WriteAt (n : ℕ) (cap : Cap) (gs ns₀ fs₀ os₀ ps₀ : List ℕ) (c : ℕ) (ns fs : List ℕ) (u : ℕ) (os ps : List ℕ) (given place i : ℕ) : Type 0 where
-  pub plain : Plain
-  pub words : Words
-  pub wide : Wide n (plain .table)
-  pub stands : Stands n ns₀ fs₀ os₀ c ns fs u os words
-  pub small : Small n fs
-  pub planes : ps ≡ planesFor cap n (plain .table) ps₀
-  pub gave : given ≡ plain .given
-  pub few : given ≤ i
-  pub pending : unplaced (plain .pending) ≡ gatesOver gs place (i - place)
-  pub past : place ≤ i
-  pub since : isCapped cap ≡ true → Since n (partWords n) ps gs place (i - place)
-  pub ends : plainRun flushFrom n cap (restOf gs i) plain ≡ plainLast n cap gs
-  pub leads : wordRun n cap (restOf gs i) plain words ≡ wordsLast n cap gs
-  pub totals : needRun n cap (restOf gs i) plain (needsOf c u) ≡ needsLast n cap gs
-
-pub write-start : (n : ℕ) (cap : Cap) (gs ns fs os ps : List ℕ) → n ≤ 256 → ns ≡ overlay (startNodes n) ns → fs ≡ overlay (startFrame n) fs → ps ≡ planesFor cap n (start n) ps
-    → WriteAt n cap gs ns fs os ps (1 + 2 * n) ns fs 0 os ps 0 0 0
+pub write-start : (n : ℕ) (cap : Cap) (narrow : Bool) (gs ns fs os ps : List ℕ) → narrow ≡ isNarrow cap → n ≤ 256 → ns ≡ overlay (startNodes n) ns → fs ≡ overlay (startFrame n) fs → ps ≡ planesFor cap n (start n) ps
+    → WriteAt n cap narrow gs ns fs os ps (1 + 2 * n) ns fs 0 os ps 0 0 0
 unfolding plainBegin startWords startArena lowerAll
-write-start n cap gs ns fs os ps h en ef ep = record {
+write-start n cap narrow gs ns fs os ps ew h en ef ep = record {
   plain = plainBegin n;
   words = startWords n;
   wide = wide-start n;
@@ -191,52 +182,60 @@ write-start n cap gs ns fs os ps h en ef ep = record {
   planes = ep;
   gave = refl;
   few = omega arith;
-  pending = refl;
+  pending = record { count = 0; ends = refl; same = refl };
   past = omega arith;
-  since = since-start n cap ps gs 0 0 ep;
-  ends = refl;
-  leads = refl;
-  totals = refl;
+  begun = first-in narrow gs;
+  inside = first-in narrow gs;
+  since = λ on off. since-start n cap ps gs 0 0 ep on;
+  ends = rw ew;
+  leads = rw ew;
+  totals = rw ew;
 }
 
-module _ (n : ℕ) (cap : Cap) (gs ns₀ fs₀ os₀ ps₀ : List ℕ) (c : ℕ) (ns fs : List ℕ) (u : ℕ) (os ps : List ℕ) (given place i : ℕ)
-    (at : WriteAt n cap gs ns₀ fs₀ os₀ ps₀ c ns fs u os ps given place i) (h : i < length gs / 4) (fits : Fits n gs) (qubits : n ≤ 256) (room : Room n cap gs ns₀ os₀)
+module _ (n : ℕ) (cap : Cap) (narrow : Bool) (gs ns₀ fs₀ os₀ ps₀ : List ℕ) (c : ℕ) (ns fs : List ℕ) (u : ℕ) (os ps : List ℕ) (given place p : ℕ)
+    (at : WriteAt n cap narrow gs ns₀ fs₀ os₀ ps₀ c ns fs u os ps given place p) (h : p < 16 * (length gs / 4)) (fits : Fits n gs) (qubits : n ≤ 256) (room : Room n cap gs ns₀ os₀)
     (lens : (length ns ≡ length ns₀) × (length os ≡ length os₀) × (n + n ≤ length fs)) where
   abbrev kindI : GateKind
-  kindI = kindOf (getD gs (4 * i) 0)
+  kindI = kindOf (partAt narrow gs p .kind)
 
   abbrev aI : ℕ
-  aI = getD gs (4 * i + 1) 0
+  aI = partAt narrow gs p .a
 
   abbrev bI : ℕ
-  bI = getD gs (4 * i + 2) 0
+  bI = partAt narrow gs p .b
 
   abbrev dI : ℕ
-  dI = getD gs (4 * i + 3) 0
+  dI = partAt narrow gs p .c
 
   abbrev theseI : List (Placed Elementary)
-  theseI = placedFrom i 0 (lowerAs kindI aI bI dI)
+  theseI = placedFrom (p / 16) (p % 16) (lowerAs kindI aI bI dI)
 
   abbrev flushI : Bool
   flushI = anyExceeds n cap (at .plain .table) (lowerAs kindI aI bI dI)
 
   abbrev pendingI : List (From Gate)
-  pendingI = gatesOver gs place (i - place)
+  pendingI = gatesOver narrow gs place (at .pending .count)
 
-  oneI : One n cap i (lowerAs kindI aI bI dI) (recordGates kindI aI bI) (measuresOf kindI) (costOf kindI .nodes) (costOf kindI .operations) (writeRecord n (at .plain .given) i kindI aI bI dI) (at .plain) (needsOf c u) (at .words)
-  oneI = one-record n cap i kindI aI bI dI (at .plain) (needsOf c u) (at .words)
+  pub write-inside : PartIn narrow gs p
+  write-inside = at .inside h
+
+  fitsI : PartFits n (partAt narrow gs p)
+  fitsI = part-fits n narrow gs fits p write-inside
+
+  oneI : One n cap (p / 16) (p % 16) (lowerAs kindI aI bI dI) (recordGates kindI aI bI) (measuresOf kindI) (costOf kindI .nodes) (costOf kindI .operations) (writeRecord n (at .plain .given) (p / 16) kindI aI bI dI) (at .plain) (needsOf c u) (at .words)
+  oneI = one-record n cap (p / 16) (p % 16) kindI aI bI dI (at .plain) (needsOf c u) (at .words)
 
   -- the needs after this record
   pub within : (c + cond flushI (flushedNodes pendingI) 0 + costOf kindI .nodes ≤ needsLast n cap gs .nodes)
       × (u + cond flushI (flushedOps pendingI) 0 + costOf kindI .operations ≤ needsLast n cap gs .operations)
   within =
-      let e = need-append n cap theseI (restOf gs (i + 1)) (at .plain) (needsOf c u) in
+      let e = need-append n cap theseI (restOf narrow gs (nextPart narrow gs p)) (at .plain) (needsOf c u) in
       let t = at .totals in
-      let g = need-grows n cap (restOf gs (i + 1)) (plainRun flushFrom n cap theseI (at .plain)) (needRun n cap theseI (at .plain) (needsOf c u)) in
+      let g = need-grows n cap (restOf narrow gs (nextPart narrow gs p)) (plainRun flushFrom n cap theseI (at .plain)) (needRun n cap theseI (at .plain) (needsOf c u)) in
       let k = oneI .needs in
-      let tot : needRun n cap (restOf gs (i + 1)) (plainRun flushFrom n cap theseI (at .plain)) (needRun n cap theseI (at .plain) (needsOf c u)) ≡ needsLast n cap gs
-      = sym e ∙ ap (λ (l : List (Placed Elementary)). needRun n cap l (at .plain) (needsOf c u)) (sym (rest-more gs i h)) ∙ t in
-      let g₂ = rw (tot, k, bare-unplaced (at .plain .pending), at .pending) at g in
+      let tot : needRun n cap (restOf narrow gs (nextPart narrow gs p)) (plainRun flushFrom n cap theseI (at .plain)) (needRun n cap theseI (at .plain) (needsOf c u)) ≡ needsLast n cap gs
+      = sym e ∙ ap (λ (l : List (Placed Elementary)). needRun n cap l (at .plain) (needsOf c u)) (sym (rest-more narrow gs p write-inside)) ∙ t in
+      let g₂ = rw (tot, k, bare-unplaced (at .plain .pending), at .pending .same) at g in
       g₂
 
   pub write-planes : (f : Bool) (ps′ : List ℕ) → Decided n cap kindI aI bI dI ps f ps′
@@ -245,18 +244,22 @@ module _ (n : ℕ) (cap : Cap) (gs ns₀ fs₀ os₀ ps₀ : List ℕ) (c : ℕ)
       let s = dec .same (at .plain .table) ps₀ (at .wide) (at .planes) in
       (s .0, s .1 ∙ rw (oneI .went .table, s .0))
 
-  pub write-flush : (f : Bool) → f ≡ flushI → f ≡ true → FlushReady n pendingI c ns u os
+  pub write-flush : (f : Bool) → f ≡ flushI → f ≡ true → FlushOver n narrow gs place p c ns u os
   write-flush f ef on =
       let w = within in
       let x : flushI ≡ true = sym ef ∙ on in
       let w₂ = rw x at w in
       record {
-        valid = gates-valid n gs fits place (i - place) (omega (arith, at .past, h));
-        qubits = qubits;
-        few = omega (arith, w₂ .0, room .nodes);
-        room = omega (arith, w₂ .0, room .nodes-lent, lens .0);
-        fewer = omega (arith, w₂ .1, room .operations);
-        place = omega (arith, w₂ .1, room .operations-lent, lens .1);
+        count = at .pending .count;
+        ends = at .pending .ends;
+        ready = record {
+          valid = gates-valid n narrow gs fits (at .pending .count) place (at .begun) (omega (arith, at .pending .ends, h));
+          qubits = qubits;
+          few = omega (arith, w₂ .0, room .nodes);
+          room = omega (arith, w₂ .0, room .nodes-lent, lens .0);
+          fewer = omega (arith, w₂ .1, room .operations);
+          place = omega (arith, w₂ .1, room .operations-lent, lens .1);
+        };
       }
 
   module _ (f : Bool) (ef : f ≡ flushI) (c₁ : ℕ) (ns₁ fs₁ : List ℕ) (u₁ : ℕ) (os₁ : List ℕ) (d₁ : FlushedIf f n pendingI c ns fs u os c₁ ns₁ fs₁ u₁ os₁)
@@ -270,7 +273,7 @@ module _ (n : ℕ) (cap : Cap) (gs ns₀ fs₀ os₀ ps₀ : List ℕ) (c : ℕ)
         let k = counted₁ in
         let np = node-parts kindI aI bI in
         record {
-          valid = valid-of n kindI aI bI dI (fits .each i h);
+          valid = valid-of n kindI aI bI dI (fitsI .each);
           qubits = qubits;
           places = omega (arith, lens .2, lens₁ .2);
           small = small-if f n pendingI qubits (at .small) d₁;
@@ -286,7 +289,7 @@ module _ (n : ℕ) (cap : Cap) (gs ns₀ fs₀ os₀ ps₀ : List ℕ) (c : ℕ)
           let k = counted₁ in
           let np = node-parts kindI aI bI in
           record {
-            proper = fits .bits i h;
+            proper = fitsI .bits;
             qubits = qubits;
             places = omega (arith, lens .2, lens₁ .2, lens₂ .1);
             small = d₂ .small;
@@ -296,68 +299,83 @@ module _ (n : ℕ) (cap : Cap) (gs ns₀ fs₀ os₀ ps₀ : List ℕ) (c : ℕ)
             place = omega (arith, w .1, k .1, room .operations-lent, lens .1, lens₁ .1);
           }
 
-      pub write-more : (c₃ : ℕ) (ns₃ : List ℕ) (u₃ : ℕ) (os₃ ps₃ : List ℕ) (given₃ place₃ : ℕ)
-          → writing c₃ ns₃ u₃ os₃ ≡ putRecord n given i kindI aI bI dI fs₂ (writing c₂ ns₂ u₁ os₁)
-          → ps₃ ≡ planesFor cap n (plainRun flushFrom n cap theseI (at .plain) .table) ps₀ → given₃ ≡ given + measuresOf kindI → place₃ ≡ cond f i place
-          → (isCapped cap ≡ true → Since n (partWords n) ps₃ gs (cond f i place) (i + 1 - cond f i place))
-          → WriteAt n cap gs ns₀ fs₀ os₀ ps₀ c₃ ns₃ fs₂ u₃ os₃ ps₃ given₃ place₃ (i + 1)
-      write-more c₃ ns₃ u₃ os₃ ps₃ given₃ place₃ e₃ ep eg el es =
+      pub write-more : (c₃ : ℕ) (ns₃ : List ℕ) (u₃ : ℕ) (os₃ ps₃ : List ℕ) (given₃ place₃ next : ℕ)
+          → writing c₃ ns₃ u₃ os₃ ≡ putRecord n given (p / 16) kindI aI bI dI fs₂ (writing c₂ ns₂ u₁ os₁)
+          → ps₃ ≡ planesFor cap n (plainRun flushFrom n cap theseI (at .plain) .table) ps₀ → given₃ ≡ given + measuresOf kindI → place₃ ≡ cond f p place
+          → (isCapped cap ≡ true → narrow ≡ false → Since n (partWords n) ps₃ gs (cond f (p / 16) (place / 16)) (p / 16 + 1 - cond f (p / 16) (place / 16)))
+          → next ≡ nextPart narrow gs p
+          → WriteAt n cap narrow gs ns₀ fs₀ os₀ ps₀ c₃ ns₃ fs₂ u₃ os₃ ps₃ given₃ place₃ next
+      write-more c₃ ns₃ u₃ os₃ ps₃ given₃ place₃ next e₃ ep eg el es enx =
           let w = within in
           let k = counted₁ in
           let np = node-parts kindI aI bI in
-          let s₁ = stands-if flushI n (at .plain .pending) ns₀ fs₀ os₀ c ns fs u os (at .words) c₁ ns₁ fs₁ u₁ os₁ (at .stands) (rw (at .pending) (rw ef at d₁))
-          (rw (at .pending) (omega (arith, w .0, room .nodes-lent))) (rw (at .pending) (omega (arith, w .1, room .operations-lent))) in
-          let s₂ = stands-frames n (recordGates kindI aI bI) ns₀ fs₀ os₀ c₁ ns₁ fs₁ u₁ os₁ _ c₂ ns₂ fs₂ s₁ d₂ (valid-of n kindI aI bI dI (fits .each i h))
+          let s₁ = stands-if flushI n (at .plain .pending) ns₀ fs₀ os₀ c ns fs u os (at .words) c₁ ns₁ fs₁ u₁ os₁ (at .stands) (rw (at .pending .same) (rw ef at d₁))
+          (rw (at .pending .same) (omega (arith, w .0, room .nodes-lent))) (rw (at .pending .same) (omega (arith, w .1, room .operations-lent))) in
+          let s₂ = stands-frames n (recordGates kindI aI bI) ns₀ fs₀ os₀ c₁ ns₁ fs₁ u₁ os₁ _ c₂ ns₂ fs₂ s₁ d₂ (valid-of n kindI aI bI dI (fitsI .each))
           (omega (arith, w .0, k .0, np, room .nodes-lent)) in
-          let s₃ = stands-record n given i kindI aI bI dI ns₀ fs₀ os₀ c₂ ns₂ fs₂ u₁ os₁ _ c₃ ns₃ u₃ os₃ s₂ (fits .bits i h) e₃
+          let s₃ = stands-record n given (p / 16) kindI aI bI dI ns₀ fs₀ os₀ c₂ ns₂ fs₂ u₁ os₁ _ c₃ ns₃ u₃ os₃ s₂ (fitsI .bits) e₃
           (omega (arith, w .0, k .0, np, d₂ .counted, room .nodes-lent)) (omega (arith, w .1, k .1, room .operations-lent)) in
-          let p = plainRun flushFrom n cap theseI (at .plain) in
-          let ew : wordRun n cap theseI (at .plain) (at .words) ≡ writeLone n given i kindI aI bI dI (framed n (recordGates kindI aI bI) (cond flushI (flushWords n (at .plain .pending) (at .words)) (at .words)))
-          = oneI .words ∙ lone-after n (at .plain .given) i kindI aI bI dI _ ∙ rw (← at .gave) in
-          let rest = rest-more gs i h in
+          let q = plainRun flushFrom n cap theseI (at .plain) in
+          let ew : wordRun n cap theseI (at .plain) (at .words) ≡ writeLone n given (p / 16) kindI aI bI dI (framed n (recordGates kindI aI bI) (cond flushI (flushWords n (at .plain .pending) (at .words)) (at .words)))
+          = oneI .words ∙ lone-after n (at .plain .given) (p / 16) kindI aI bI dI _ ∙ rw (← at .gave) in
+          let rest : restOf narrow gs p ≡ theseI ++ restOf narrow gs next = rw enx (rest-more narrow gs p write-inside) in
           let en : needsOf c₃ u₃ ≡ needRun n cap theseI (at .plain) (needsOf c u) = needs-here c₃ ns₃ u₃ os₃ e₃ in
           record {
-            plain = p;
+            plain = q;
             words = wordRun n cap theseI (at .plain) (at .words);
-            wide = wide-went n _ _ _ _ (at .plain) p (oneI .went) (at .wide);
+            wide = wide-went n _ _ _ _ (at .plain) q (oneI .went) (at .wide);
             stands = rw ew s₃;
             small = d₂ .small;
             planes = ep;
             gave = eg ∙ ap (λ (x : ℕ). x + measuresOf kindI) (at .gave) ∙ sym (oneI .went .given);
-            few = omega (arith, eg, at .few, measures-few kindI);
-            pending = oneI .went .pending ∙ rw (el, ef) (pending-more flushI gs i place (unplaced (at .plain .pending)) (at .past) (at .pending));
+            few = omega (arith, eg, at .few, measures-few kindI, next-up narrow gs p, enx);
+            pending = rw (oneI .went .pending, el, ef) (pending-more flushI narrow gs p place next (unplaced (at .plain .pending)) (at .pending) enx);
             past = place-past f;
-            since = λ on. rw el (es on);
-            ends = sym (run-append n cap theseI (restOf gs (i + 1)) (at .plain)) ∙ ap (λ (l : List (Placed Elementary)). plainRun flushFrom n cap l (at .plain)) (sym rest) ∙ at .ends;
-            leads = sym (word-append n cap theseI (restOf gs (i + 1)) (at .plain) (at .words)) ∙ ap (λ (l : List (Placed Elementary)). wordRun n cap l (at .plain) (at .words)) (sym rest) ∙ at .leads;
-            totals = ap (needRun n cap (restOf gs (i + 1)) p) en ∙ sym (need-append n cap theseI (restOf gs (i + 1)) (at .plain) (needsOf c u))
+            begun = rw el (begun-here f);
+            inside = rw enx (next-in narrow gs p write-inside);
+            since = λ on off. rw el (since-here f (es on off) off);
+            ends = sym (run-append n cap theseI (restOf narrow gs next) (at .plain)) ∙ ap (λ (l : List (Placed Elementary)). plainRun flushFrom n cap l (at .plain)) (sym rest) ∙ at .ends;
+            leads = sym (word-append n cap theseI (restOf narrow gs next) (at .plain) (at .words)) ∙ ap (λ (l : List (Placed Elementary)). wordRun n cap l (at .plain) (at .words)) (sym rest) ∙ at .leads;
+            totals = ap (needRun n cap (restOf narrow gs next) q) en ∙ sym (need-append n cap theseI (restOf narrow gs next) (at .plain) (needsOf c u))
                 ∙ ap (λ (l : List (Placed Elementary)). needRun n cap l (at .plain) (needsOf c u)) (sym rest) ∙ at .totals;
           }
         where
-          place-past : (b : Bool) → place₃ ≤ i + 1
+          place-past : (b : Bool) → place₃ ≤ next
           place-past b = rw el (go f)
             where
-              go : (b : Bool) → cond b i place ≤ i + 1
-              go true = omega arith
-              go false = omega (arith, at .past)
+              go : (b : Bool) → cond b p place ≤ next
+              go true = omega (arith, next-up narrow gs p, enx)
+              go false = omega (arith, at .past, next-up narrow gs p, enx)
 
-          needs-here : (c₃ : ℕ) (ns₃ : List ℕ) (u₃ : ℕ) (os₃ : List ℕ) → writing c₃ ns₃ u₃ os₃ ≡ putRecord n given i kindI aI bI dI fs₂ (writing c₂ ns₂ u₁ os₁) → needsOf c₃ u₃ ≡ needRun n cap theseI (at .plain) (needsOf c u)
+          begun-here : (b : Bool) → InParts narrow gs (cond b p place)
+          begun-here true = at .inside
+          begun-here false = at .begun
+
+          one-record-on : narrow ≡ false → next / 16 ≡ p / 16 + 1
+          one-record-on off = let w : nextPart narrow gs p ≡ 16 * (p / 16) + 16 = rw off (next-wide gs p) in omega (arith, enx, w)
+
+          since-here : (b : Bool) → Since n (partWords n) ps₃ gs (cond b (p / 16) (place / 16)) (p / 16 + 1 - cond b (p / 16) (place / 16)) → narrow ≡ false
+              → Since n (partWords n) ps₃ gs (cond b p place / 16) (next / 16 - cond b p place / 16)
+          since-here true s off = rw (one-record-on off) s
+          since-here false s off = rw (one-record-on off) s
+
+          needs-here : (c₃ : ℕ) (ns₃ : List ℕ) (u₃ : ℕ) (os₃ : List ℕ) → writing c₃ ns₃ u₃ os₃ ≡ putRecord n given (p / 16) kindI aI bI dI fs₂ (writing c₂ ns₂ u₁ os₁) → needsOf c₃ u₃ ≡ needRun n cap theseI (at .plain) (needsOf c u)
           needs-here c₃ ns₃ u₃ os₃ e =
               let k = counted₁ in
               let np = node-parts kindI aI bI in
-              let r = record-counts n given i kindI aI bI dI fs₂ c₂ ns₂ u₁ os₁ c₃ ns₃ u₃ os₃ e in
+              let r = record-counts n given (p / 16) kindI aI bI dI fs₂ c₂ ns₂ u₁ os₁ c₃ ns₃ u₃ os₃ e in
               let x = c + cond flushI (flushedNodes pendingI) 0 + costOf kindI .nodes in
               let y = u + cond flushI (flushedOps pendingI) 0 + costOf kindI .operations in
               let first : needsOf c₃ u₃ ≡ needsOf x y = needs-eq (omega (arith, r .0, d₂ .counted, k .0, np)) (omega (arith, r .1, k .1)) in
-              let second : needsOf x y ≡ needRun n cap theseI (at .plain) (needsOf c u) = rw (← at .pending, ← bare-unplaced (at .plain .pending)) (sym (oneI .needs)) in
+              let second : needsOf x y ≡ needRun n cap theseI (at .plain) (needsOf c u) = rw (← at .pending .same, ← bare-unplaced (at .plain .pending)) (sym (oneI .needs)) in
               first ∙ second
 
-pub write-end : (n : ℕ) (cap : Cap) (gs ns₀ fs₀ os₀ ps₀ : List ℕ) (c : ℕ) (ns fs : List ℕ) (u : ℕ) (os ps : List ℕ) (given place i : ℕ)
-    → WriteAt n cap gs ns₀ fs₀ os₀ ps₀ c ns fs u os ps given place i → length gs / 4 ≤ i
+pub write-end : (n : ℕ) (cap : Cap) (narrow : Bool) (gs ns₀ fs₀ os₀ ps₀ : List ℕ) (c : ℕ) (ns fs : List ℕ) (u : ℕ) (os ps : List ℕ) (given place p : ℕ)
+    → WriteAt n cap narrow gs ns₀ fs₀ os₀ ps₀ c ns fs u os ps given place p → 16 * (length gs / 4) ≤ p
     → Stands n ns₀ fs₀ os₀ c ns fs u os (wordsLast n cap gs) × (given ≡ plainLast n cap gs .given) × (ps ≡ planesFor cap n (plainLast n cap gs .table) ps₀)
 unfolding plainRun wordRun
-write-end n cap gs ns₀ fs₀ os₀ ps₀ c ns fs u os ps given place i at h =
-    let e = rest-end gs i h in
-    let p : at .plain ≡ plainLast n cap gs = rw e at (at .ends) in
+write-end n cap narrow gs ns₀ fs₀ os₀ ps₀ c ns fs u os ps given place p at h =
+    let e = rest-end narrow gs p h in
+    let q : at .plain ≡ plainLast n cap gs = rw e at (at .ends) in
     let w : at .words ≡ wordsLast n cap gs = rw e at (at .leads) in
-    (rw (← w) (at .stands), at .gave ∙ ap (λ (x : Plain). x .given) p, at .planes ∙ ap (λ (x : Plain). planesFor cap n (x .table) ps₀) p)
+    (rw (← w) (at .stands), at .gave ∙ ap (λ (x : Plain). x .given) q, at .planes ∙ ap (λ (x : Plain). planesFor cap n (x .table) ps₀) q)

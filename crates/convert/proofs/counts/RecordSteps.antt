@@ -13,6 +13,7 @@ use Rattle.convert.specs.Frame.{gateNodes, total, frameRun}
 use Rattle.convert.specs.Words.{Words, flushWords, write, wordStep, wordRun}
 use Rattle.convert.specs.Code.Needs.{Needs, writtenNodes, writtenOps, elementNodes, elementOps, needStep, needRun}
 use Rattle.convert.specs.Code.Raw.{recordGates, testsOf, anyExceeds, needed, costOf, costs, countFor, needsOf, measuresOf}
+use Rattle.convert.specs.Code.Writing.{unplaced}
 use Rattle.convert.specs.declared.count.Needed.{Needed}
 use Rattle.convert.proofs.meaning.Words.{map-append, without-more}
 
@@ -35,11 +36,7 @@ unfolding plainRun wordRun
 word-append n cap [] fs p w = refl
 word-append n cap (e ∷ es) fs p w = word-append n cap es fs (plainStep flushFrom n cap e p) (wordStep n cap e p w)
 
--- the pending gates with their records alone
-abbrev pub unplaced : List (Placed Gate) → List (From Gate)
-unplaced gs = map (λ g. from (g .index) (g .gate)) gs
-
--- or with nothing
+-- gates without their records
 pub bare-unplaced : (gs : List (Placed Gate)) → bare gs ≡ withoutIndex (unplaced gs)
 bare-unplaced [] = refl
 bare-unplaced (g ∷ gs) = ap (λ (l : List Gate). g .gate ∷ l) (bare-unplaced gs)
@@ -168,37 +165,37 @@ unfolding flushed run
 went-as n i true m p p′ t q g = record { table = t; pending = ap unplaced q; given = g }
 went-as n i false m p p′ t q g = record { table = t; pending = ap unplaced q ∙ sym (append-nil (unplaced (p .pending))); given = g }
 
-lone-went : (n : ℕ) (cap : Cap) (e : Elementary) (i : ℕ) (p : Plain) → Lone e
-    → Went n i (exceeds n cap (p .table) e) [] (gives e) p (plainRun flushFrom n cap (placed i 0 e ∷ []) p)
+lone-went : (n : ℕ) (cap : Cap) (e : Elementary) (i j : ℕ) (p : Plain) → Lone e
+    → Went n i (exceeds n cap (p .table) e) [] (gives e) p (plainRun flushFrom n cap (placed i j e ∷ []) p)
 unfolding plainRun plainStep
-lone-went n cap e i p l =
+lone-went n cap e i j p l =
     let f = exceeds n cap (p .table) e in
-    let r = performed n i 0 e (cond f (flushed flushFrom n p) p) l in
-    went-as n i f (gives e) p (performAs n i 0 e (cond f (flushed flushFrom n p) p)) (r .0) (r .1) (r .2)
+    let r = performed n i j e (cond f (flushed flushFrom n p) p) l in
+    went-as n i f (gives e) p (performAs n i j e (cond f (flushed flushFrom n p) p)) (r .0) (r .1) (r .2)
 
 -- ---- one record
 
--- what els, the gates of a record, do: frame gates gs, m measurements, x nodes and y operations of their own, and what they write
-pub record One (n : ℕ) (cap : Cap) (i : ℕ) (els : List Elementary) (gs : List Gate) (m x y : ℕ) (writes : Words → Words) (p : Plain) (k : Needs) (w : Words) : Type 0 where
-  pub went : Went n i (anyExceeds n cap (p .table) els) gs m p (plainRun flushFrom n cap (placedFrom i 0 els) p)
-  pub needs : needRun n cap (placedFrom i 0 els) p k
+-- what els, the gates of a part j of record i, do: frame gates gs, m measurements, x nodes and y operations of their own, and what they write
+pub record One (n : ℕ) (cap : Cap) (i j : ℕ) (els : List Elementary) (gs : List Gate) (m x y : ℕ) (writes : Words → Words) (p : Plain) (k : Needs) (w : Words) : Type 0 where
+  pub went : Went n i (anyExceeds n cap (p .table) els) gs m p (plainRun flushFrom n cap (placedFrom i j els) p)
+  pub needs : needRun n cap (placedFrom i j els) p k
       ≡ needsOf (k .nodes + cond (anyExceeds n cap (p .table) els) (total writtenNodes (bare (p .pending))) 0 + x)
       (k .operations + cond (anyExceeds n cap (p .table) els) (total writtenOps (bare (p .pending))) 0 + y)
-  pub words : wordRun n cap (placedFrom i 0 els) p w ≡ writes (cond (anyExceeds n cap (p .table) els) (flushWords n (p .pending) w) w)
+  pub words : wordRun n cap (placedFrom i j els) p w ≡ writes (cond (anyExceeds n cap (p .table) els) (flushWords n (p .pending) w) w)
 
-of-frames : (n : ℕ) (cap : Cap) (i : ℕ) (gs : List Gate) (x : ℕ) (p : Plain) (k : Needs) (w : Words) → x ≡ total gateNodes gs
-    → One n cap i (map clifford gs) gs 0 x 0 (framed n gs) p k w
-of-frames n cap i gs x p k w e = record {
-  went = rw (quiet-all n cap (p .table) gs) (frames-went n cap gs i 0 p);
-  needs = rw (quiet-all n cap (p .table) gs) (frames-need n cap gs i 0 p k ∙ needs-eq (omega arith) (omega arith));
-  words = rw (quiet-all n cap (p .table) gs) (frames-words n cap gs i 0 p w);
+of-frames : (n : ℕ) (cap : Cap) (i j : ℕ) (gs : List Gate) (x : ℕ) (p : Plain) (k : Needs) (w : Words) → x ≡ total gateNodes gs
+    → One n cap i j (map clifford gs) gs 0 x 0 (framed n gs) p k w
+of-frames n cap i j gs x p k w e = record {
+  went = rw (quiet-all n cap (p .table) gs) (frames-went n cap gs i j p);
+  needs = rw (quiet-all n cap (p .table) gs) (frames-need n cap gs i j p k ∙ needs-eq (omega arith) (omega arith));
+  words = rw (quiet-all n cap (p .table) gs) (frames-words n cap gs i j p w);
 }
 
-of-lone : (n : ℕ) (cap : Cap) (i : ℕ) (e : Elementary) (p : Plain) (k : Needs) (w : Words) → Lone e
-    → One n cap i (e ∷ []) [] (gives e) (elementNodes e) (elementOps e) (write n (p .given) i e) p k w
+of-lone : (n : ℕ) (cap : Cap) (i j : ℕ) (e : Elementary) (p : Plain) (k : Needs) (w : Words) → Lone e
+    → One n cap i j (e ∷ []) [] (gives e) (elementNodes e) (elementOps e) (write n (p .given) i e) p k w
 unfolding needRun needStep wordRun wordStep
-of-lone n cap i e p k w l = record {
-  went = rw (or-false (exceeds n cap (p .table) e)) (lone-went n cap e i p l);
+of-lone n cap i j e p k w l = record {
+  went = rw (or-false (exceeds n cap (p .table) e)) (lone-went n cap e i j p l);
   needs = rw (or-false (exceeds n cap (p .table) e));
   words = rw (or-false (exceeds n cap (p .table) e));
 }
@@ -223,26 +220,26 @@ writeRecord n given i KindSwap a b d w = framed n (recordGates KindSwap a b) w
 writeRecord n given i KindCy a b d w = framed n (recordGates KindCy a b) w
 writeRecord n given i Unsupported a b d w = framed n (recordGates Unsupported a b) w
 
-pub one-record : (n : ℕ) (cap : Cap) (i : ℕ) (kind : GateKind) (a b d : ℕ) (p : Plain) (k : Needs) (w : Words)
-    → One n cap i (lowerAs kind a b d) (recordGates kind a b) (measuresOf kind) (costOf kind .nodes) (costOf kind .operations) (writeRecord n (p .given) i kind a b d) p k w
+pub one-record : (n : ℕ) (cap : Cap) (i j : ℕ) (kind : GateKind) (a b d : ℕ) (p : Plain) (k : Needs) (w : Words)
+    → One n cap i j (lowerAs kind a b d) (recordGates kind a b) (measuresOf kind) (costOf kind .nodes) (costOf kind .operations) (writeRecord n (p .given) i kind a b d) p k w
 unfolding costOf lowerAs recordGates writeRecord
-one-record n cap i KindH a b d p k w = of-frames n cap i (gateH a ∷ []) (costOf KindH .nodes) p k w (omega arith)
-one-record n cap i KindX a b d p k w = of-frames n cap i (gateX a ∷ []) (costOf KindX .nodes) p k w (omega arith)
-one-record n cap i KindZ a b d p k w = of-frames n cap i (gateZ a ∷ []) (costOf KindZ .nodes) p k w (omega arith)
-one-record n cap i KindS a b d p k w = of-frames n cap i (gateS a ∷ []) (costOf KindS .nodes) p k w (omega arith)
-one-record n cap i KindSdg a b d p k w = of-frames n cap i (gateSdg a ∷ []) (costOf KindSdg .nodes) p k w (omega arith)
-one-record n cap i KindT a b d p k w = of-lone n cap i (elT a) p k w tt
-one-record n cap i KindTdg a b d p k w = of-lone n cap i (elTdg a) p k w tt
-one-record n cap i KindCnot a b d p k w = of-frames n cap i (gateCnot a b ∷ []) (costOf KindCnot .nodes) p k w (omega arith)
-one-record n cap i KindCz a b d p k w = of-frames n cap i (gateCz a b ∷ []) (costOf KindCz .nodes) p k w (omega arith)
-one-record n cap i KindCcx a b d p k w = of-lone n cap i (elCcx a b d) p k w tt
-one-record n cap i KindCcz a b d p k w = of-lone n cap i (elCcz a b d) p k w tt
-one-record n cap i KindMeasure a b d p k w = of-lone n cap i (elMeasure a b) p k w tt
-one-record n cap i KindY a b d p k w = of-frames n cap i (gateZ a ∷ gateX a ∷ []) (costOf KindY .nodes) p k w (omega arith)
-one-record n cap i KindSx a b d p k w = of-frames n cap i (gateH a ∷ gateS a ∷ gateH a ∷ []) (costOf KindSx .nodes) p k w (omega arith)
-one-record n cap i KindSwap a b d p k w = of-frames n cap i (gateCnot a b ∷ gateCnot b a ∷ gateCnot a b ∷ []) (costOf KindSwap .nodes) p k w (omega arith)
-one-record n cap i KindCy a b d p k w = of-frames n cap i (gateSdg b ∷ gateCnot a b ∷ gateS b ∷ []) (costOf KindCy .nodes) p k w (omega arith)
-one-record n cap i Unsupported a b d p k w = of-frames n cap i ([]) (costOf Unsupported .nodes) p k w (omega arith)
+one-record n cap i j KindH a b d p k w = of-frames n cap i j (gateH a ∷ []) (costOf KindH .nodes) p k w (omega arith)
+one-record n cap i j KindX a b d p k w = of-frames n cap i j (gateX a ∷ []) (costOf KindX .nodes) p k w (omega arith)
+one-record n cap i j KindZ a b d p k w = of-frames n cap i j (gateZ a ∷ []) (costOf KindZ .nodes) p k w (omega arith)
+one-record n cap i j KindS a b d p k w = of-frames n cap i j (gateS a ∷ []) (costOf KindS .nodes) p k w (omega arith)
+one-record n cap i j KindSdg a b d p k w = of-frames n cap i j (gateSdg a ∷ []) (costOf KindSdg .nodes) p k w (omega arith)
+one-record n cap i j KindT a b d p k w = of-lone n cap i j (elT a) p k w tt
+one-record n cap i j KindTdg a b d p k w = of-lone n cap i j (elTdg a) p k w tt
+one-record n cap i j KindCnot a b d p k w = of-frames n cap i j (gateCnot a b ∷ []) (costOf KindCnot .nodes) p k w (omega arith)
+one-record n cap i j KindCz a b d p k w = of-frames n cap i j (gateCz a b ∷ []) (costOf KindCz .nodes) p k w (omega arith)
+one-record n cap i j KindCcx a b d p k w = of-lone n cap i j (elCcx a b d) p k w tt
+one-record n cap i j KindCcz a b d p k w = of-lone n cap i j (elCcz a b d) p k w tt
+one-record n cap i j KindMeasure a b d p k w = of-lone n cap i j (elMeasure a b) p k w tt
+one-record n cap i j KindY a b d p k w = of-frames n cap i j (gateZ a ∷ gateX a ∷ []) (costOf KindY .nodes) p k w (omega arith)
+one-record n cap i j KindSx a b d p k w = of-frames n cap i j (gateH a ∷ gateS a ∷ gateH a ∷ []) (costOf KindSx .nodes) p k w (omega arith)
+one-record n cap i j KindSwap a b d p k w = of-frames n cap i j (gateCnot a b ∷ gateCnot b a ∷ gateCnot a b ∷ []) (costOf KindSwap .nodes) p k w (omega arith)
+one-record n cap i j KindCy a b d p k w = of-frames n cap i j (gateSdg b ∷ gateCnot a b ∷ gateS b ∷ []) (costOf KindCy .nodes) p k w (omega arith)
+one-record n cap i j Unsupported a b d p k w = of-frames n cap i j ([]) (costOf Unsupported .nodes) p k w (omega arith)
 
 -- what its frame gates add to a flush
 pub adds : (kind : GateKind) (a b : ℕ) → (total writtenNodes (recordGates kind a b) ≡ costOf kind .joints) × (total writtenOps (recordGates kind a b) ≡ costOf kind .rotations)
@@ -293,11 +290,11 @@ total-cond g true gs hs = omega arith
 total-cond g false gs hs = total-append g gs hs
 
 -- the count beside the plain state goes along
-pub count-one : (n : ℕ) (cap : Cap) (i : ℕ) (kind : GateKind) (a b d : ℕ) (p : Plain) (k : Needs)
+pub count-one : (n : ℕ) (cap : Cap) (i j : ℕ) (kind : GateKind) (a b d : ℕ) (p : Plain) (k : Needs)
     → costs (anyExceeds n cap (p .table) (lowerAs kind a b d)) (countFor p k) (costOf kind)
-    ≡ countFor (plainRun flushFrom n cap (placedFrom i 0 (lowerAs kind a b d)) p) (needRun n cap (placedFrom i 0 (lowerAs kind a b d)) p k)
-count-one n cap i kind a b d p k =
-    let o = one-record n cap i kind a b d p k (record { arena = record { count = 0; nodes = []; frame = [] }; ops = [] }) in
+    ≡ countFor (plainRun flushFrom n cap (placedFrom i j (lowerAs kind a b d)) p) (needRun n cap (placedFrom i j (lowerAs kind a b d)) p k)
+count-one n cap i j kind a b d p k =
+    let o = one-record n cap i j kind a b d p k (record { arena = record { count = 0; nodes = []; frame = [] }; ops = [] }) in
     let gs = recordGates kind a b in
     let ad = adds kind a b in
     rw (

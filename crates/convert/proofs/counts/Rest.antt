@@ -2,29 +2,26 @@
 use mathlib.Core.Path.{_≡_, refl, sym, ap, _∙_}
 use mathlib.Core.Bool.{Bool, true, false, cond}
 use mathlib.Core.List.{List, [], _∷_, _++_}
-use Prim.Native.Nat.{ℕ, zero, suc, _+_, _*_, _/_, _<_, _≤_}
+use Prim.Native.Nat.{ℕ, zero, suc, _+_, _*_, _/_, _%_, _<_, _≤_}
 use native.Mathlib.Omega.{arith}
-use native.Mathlib.Numerals.{add-one}
+use lib.Dec.{ltb}
+use borrow.Author.Tests.{ltb-true}
 use lib.ListN.{length, getD, drop, drop-of-length-le}
 use Rattle.pauli.specs.Rows.{Row}
 use Rattle.pauli.specs.Gates.{Gate}
 use Rattle.pauli.specs.Table.{start, step, run}
-use Rattle.convert.specs.Records.{GateKind, KindH, KindX, KindZ, KindS, KindSdg, KindT, KindTdg, KindCnot, KindCz, KindCcx, KindCcz, KindMeasure, KindY, KindSx, KindSwap, KindCy, Unsupported, Cap, Elementary, Placed, placedFrom, Record, records, kindOf, lower, lowerAs, lowerFrom, lowerAll}
+use Rattle.convert.specs.Records.{GateKind, KindH, KindX, KindZ, KindS, KindSdg, KindT, KindTdg, KindCnot, KindCz, KindCcx, KindCcz, KindMeasure, KindY, KindSx, KindSwap, KindCy, Unsupported, Cap, Elementary, Placed, placedFrom, Record, records, kindOf, lower, lowerAs, isNarrow, partsOf, lowerIn, lowerFrom, lowerAll}
 use Rattle.convert.specs.Plain.{Plain, flushFrom, plainBegin, plainRun}
-use Rattle.convert.specs.Code.Needs.{Needs, needRun}
+use Rattle.convert.specs.Code.Needs.{needRun}
 use Rattle.convert.specs.Code.RawPlanes.{Wide}
-use Rattle.convert.specs.Code.Raw.{planesFor, Decided, costOf, costs, needed, countFor, needsOf}
+use Rattle.convert.specs.Code.Raw.{recordAt, partAt, PartIn, nextPart, plainLast, needsLast, planesFor, Decided, costOf, costs, needed, countFor, needsOf}
+use Rattle.convert.specs.Code.Lists.{restOf}
+use Rattle.convert.specs.Code.Counting.{CountAt}
 use Rattle.convert.specs.declared.count.Needed.{Needed}
 use Rattle.convert.proofs.packed.Tables.{wide-step}
 use Rattle.convert.proofs.packed.Deciding.{wide-start}
+use Rattle.convert.proofs.counts.Parts.{parts-few, part-more, next-up}
 use Rattle.convert.proofs.counts.RecordSteps.{run-append, need-append, Went, one-record, count-one}
-
-abbrev pub recordAt : List ℕ → ℕ → Record
-recordAt gs i = record { kind = getD gs (4 * i) 0; a = getD gs (4 * i + 1) 0; b = getD gs (4 * i + 2) 0; c = getD gs (4 * i + 3) 0 }
-
--- the elementary gates of the records from i on
-abbrev pub restOf : List ℕ → ℕ → List (Placed Elementary)
-restOf gs i = lowerFrom i (drop i (records gs))
 
 -- the records from i on
 pub drop-record : (gs : List ℕ) (i : ℕ) → i < length gs / 4 → drop i (records gs) ≡ recordAt gs i ∷ drop (suc i) (records gs)
@@ -57,18 +54,44 @@ records-length (k ∷ a ∷ b ∷ c ∷ gs) = let r = records-length gs in omega
 pub no-more : (gs : List ℕ) (i : ℕ) → length gs / 4 ≤ i → drop i (records gs) ≡ []
 no-more gs i h = let g : length (records gs) ≤ i = rw (records-length gs) h in drop-of-length-le (records gs) g
 
-pub rest-more : (gs : List ℕ) (i : ℕ) → i < length gs / 4
-    → restOf gs i ≡ placedFrom i 0 (lowerAs (kindOf (getD gs (4 * i) 0)) (getD gs (4 * i + 1) 0) (getD gs (4 * i + 2) 0) (getD gs (4 * i + 3) 0)) ++ restOf gs (i + 1)
-unfolding lowerFrom lower
-rest-more gs i h = rw (drop-record gs i h, add-one i)
+-- those of the part at p, and those from the next position on
+pub rest-more : (narrow : Bool) (gs : List ℕ) (p : ℕ) → PartIn narrow gs p
+    → restOf narrow gs p
+    ≡ placedFrom (p / 16) (p % 16) (lowerAs (kindOf (partAt narrow gs p .kind)) (partAt narrow gs p .a) (partAt narrow gs p .b) (partAt narrow gs p .c)) ++ restOf narrow gs (nextPart narrow gs p)
+unfolding lowerFrom lower partAt nextPart
+rest-more narrow gs p at =
+    let r = recordAt gs (p / 16) in
+    let after = lowerFrom narrow (suc (p / 16)) (drop (suc (p / 16)) (records gs)) in
+    rw (drop-record gs (p / 16) (at .0)) (part-more narrow r (p / 16) (p % 16) after (at .1))
+    ∙ ap (λ (l : List (Placed Elementary)). placedFrom (p / 16) (p % 16) (lower (getD (partsOf narrow r) (p % 16) r)) ++ l)
+    (go (ltb (p % 16 + 1) (length (partsOf narrow r))) refl)
+  where
+    go : (b : Bool) → ltb (p % 16 + 1) (length (partsOf narrow (recordAt gs (p / 16)))) ≡ b
+        → cond b (drop (p % 16 + 1) (placedFrom (p / 16) 0 (lowerIn narrow (recordAt gs (p / 16))) ++ lowerFrom narrow (suc (p / 16)) (drop (suc (p / 16)) (records gs))))
+        (lowerFrom narrow (suc (p / 16)) (drop (suc (p / 16)) (records gs)))
+        ≡ restOf narrow gs (cond b (p + 1) (16 * (p / 16) + 16))
+    go true e =
+        let m = ltb-true (p % 16 + 1) (length (partsOf narrow (recordAt gs (p / 16)))) e in
+        let few = parts-few narrow (recordAt gs (p / 16)) .1 in
+        let e₁ : (p + 1) / 16 ≡ p / 16 = omega (arith, m, few) in
+        let e₂ : (p + 1) % 16 ≡ p % 16 + 1 = omega (arith, m, few) in
+        rw (e₁, e₂, drop-record gs (p / 16) (at .0))
+    go false e =
+        let e₁ : (16 * (p / 16) + 16) / 16 ≡ suc (p / 16) = omega arith in
+        let e₂ : (16 * (p / 16) + 16) % 16 ≡ 0 = omega arith in
+        rw (e₁, e₂)
 
-pub rest-end : (gs : List ℕ) (i : ℕ) → length gs / 4 ≤ i → restOf gs i ≡ []
+drop-nil : {A : Type 0} (k : ℕ) → drop {A = A} k [] ≡ []
+drop-nil zero = refl
+drop-nil (suc k) = refl
+
+pub rest-end : (narrow : Bool) (gs : List ℕ) (p : ℕ) → 16 * (length gs / 4) ≤ p → restOf narrow gs p ≡ []
 unfolding lowerFrom
-rest-end gs i h = rw (no-more gs i h)
+rest-end narrow gs p h = rw (no-more gs (p / 16) (omega (arith, h))) (drop-nil (p % 16))
 
-pub rest-all : (gs : List ℕ) → restOf gs 0 ≡ lowerAll (records gs)
+pub rest-all : (narrow : Bool) (gs : List ℕ) → restOf narrow gs 0 ≡ lowerAll narrow (records gs)
 unfolding lowerAll
-rest-all gs = refl
+rest-all narrow gs = refl
 
 -- ---- tables stay wide
 
@@ -86,27 +109,16 @@ wide-went n i f gs m p p′ e w = rw (e .table) (wide-run n gs (cond f (start n)
 
 -- ---- the counting pass
 
--- before record i the count k stands beside a plain state, from which the rest leads to the end
-pub record CountAt (n : ℕ) (cap : Cap) (gs ps₀ ps : List ℕ) (k : Needed) (i : ℕ) : Type 0 where
-  pub plain : Plain
-  pub done : Needs
-  pub wide : Wide n (plain .table)
-  pub same : k ≡ countFor plain done
-  pub ends : plainRun flushFrom n cap (restOf gs i) plain ≡ plainRun flushFrom n cap (lowerAll (records gs)) (plainBegin n)
-  pub totals : needRun n cap (restOf gs i) plain done ≡ needRun n cap (lowerAll (records gs)) (plainBegin n) (needsOf (1 + 2 * n) 0)
-  pub planes : ps ≡ planesFor cap n (plain .table) ps₀
-  pub few : (k .nodes + k .joints ≤ 513 + 16 * i) × (k .operations + k .rotations ≤ 16 * i)
-
-pub count-start : (n : ℕ) (cap : Cap) (gs ps₀ ps : List ℕ) (k : Needed) → n ≤ 256 → k ≡ needed (1 + 2 * n) 0 0 0 → ps ≡ planesFor cap n (start n) ps₀
-    → CountAt n cap gs ps₀ ps k 0
+pub count-start : (n : ℕ) (cap : Cap) (narrow : Bool) (gs ps₀ ps : List ℕ) (k : Needed) → narrow ≡ isNarrow cap → n ≤ 256 → k ≡ needed (1 + 2 * n) 0 0 0 → ps ≡ planesFor cap n (start n) ps₀
+    → CountAt n cap narrow gs ps₀ ps k 0
 unfolding plainBegin lowerAll
-count-start n cap gs ps₀ ps k h e at = record {
+count-start n cap narrow gs ps₀ ps k en h e at = record {
   plain = plainBegin n;
   done = needsOf (1 + 2 * n) 0;
   wide = wide-start n;
   same = e;
-  ends = refl;
-  totals = refl;
+  ends = rw en;
+  totals = rw en;
   planes = at;
   few = rw e (omega arith, omega arith);
 }
@@ -139,35 +151,36 @@ pub costs-few : (f : Bool) (k c : Needed) → (c .nodes + c .joints ≤ 16) × (
 costs-few true k c h = (omega arith, omega arith)
 costs-few false k c h = (omega arith, omega arith)
 
-pub count-more : (n : ℕ) (cap : Cap) (gs ps₀ ps : List ℕ) (k : Needed) (i : ℕ) (kind : GateKind) (a b d : ℕ) (f : Bool) (ps′ : List ℕ) (c r : Needed)
-    → CountAt n cap gs ps₀ ps k i → i < length gs / 4 → Decided n cap kind a b d ps f ps′ → c ≡ costOf kind → r ≡ costs f k c
-    → kind ≡ kindOf (getD gs (4 * i) 0) → a ≡ getD gs (4 * i + 1) 0 → b ≡ getD gs (4 * i + 2) 0 → d ≡ getD gs (4 * i + 3) 0
-    → CountAt n cap gs ps₀ ps′ r (i + 1)
-count-more n cap gs ps₀ ps k i kind a b d f ps′ c r at h dec ec er ek ea eb ed =
+pub count-more : (n : ℕ) (cap : Cap) (narrow : Bool) (gs ps₀ ps : List ℕ) (k : Needed) (i : ℕ) (kind : GateKind) (a b d : ℕ) (f : Bool) (ps′ : List ℕ) (c r : Needed) (next : ℕ)
+    → CountAt n cap narrow gs ps₀ ps k i → PartIn narrow gs i → Decided n cap kind a b d ps f ps′ → c ≡ costOf kind → r ≡ costs f k c
+    → kind ≡ kindOf (partAt narrow gs i .kind) → a ≡ partAt narrow gs i .a → b ≡ partAt narrow gs i .b → d ≡ partAt narrow gs i .c → next ≡ nextPart narrow gs i
+    → CountAt n cap narrow gs ps₀ ps′ r next
+count-more n cap narrow gs ps₀ ps k i kind a b d f ps′ c r next at h dec ec er ek ea eb ed enx =
     let p = at .plain in
     let els = lowerAs kind a b d in
-    let es = placedFrom i 0 els in
+    let es = placedFrom (i / 16) (i % 16) els in
     let s = dec .same (p .table) ps₀ (at .wide) (at .planes) in
-    let o = one-record n cap i kind a b d p (at .done) (record { arena = record { count = 0; nodes = []; frame = [] }; ops = [] }) in
-    let g : restOf gs i ≡ es ++ restOf gs (i + 1) = rw (ek, ea, eb, ed) (rest-more gs i h) in
+    let o = one-record n cap (i / 16) (i % 16) kind a b d p (at .done) (record { arena = record { count = 0; nodes = []; frame = [] }; ops = [] }) in
+    let g : restOf narrow gs i ≡ es ++ restOf narrow gs next = rw (ek, ea, eb, ed, enx) (rest-more narrow gs i h) in
+    let up = next-up narrow gs i in
     let fw = costs-few f k c (few-cost kind c ec) in
     record {
       plain = plainRun flushFrom n cap es p;
       done = needRun n cap es p (at .done);
       wide = wide-went n _ _ _ _ p (plainRun flushFrom n cap es p) (o .went) (at .wide);
-      same = er ∙ rw (ec, at .same, s .0) (count-one n cap i kind a b d p (at .done));
-      ends = sym (run-append n cap es (restOf gs (i + 1)) p) ∙ ap (λ (l : List (Placed Elementary)). plainRun flushFrom n cap l p) (sym g) ∙ at .ends;
-      totals = sym (need-append n cap es (restOf gs (i + 1)) p (at .done)) ∙ ap (λ (l : List (Placed Elementary)). needRun n cap l p (at .done)) (sym g) ∙ at .totals;
+      same = er ∙ rw (ec, at .same, s .0) (count-one n cap (i / 16) (i % 16) kind a b d p (at .done));
+      ends = sym (run-append n cap es (restOf narrow gs next) p) ∙ ap (λ (l : List (Placed Elementary)). plainRun flushFrom n cap l p) (sym g) ∙ at .ends;
+      totals = sym (need-append n cap es (restOf narrow gs next) p (at .done)) ∙ ap (λ (l : List (Placed Elementary)). needRun n cap l p (at .done)) (sym g) ∙ at .totals;
       planes = s .1 ∙ rw (o .went .table, s .0);
-      few = (rw er (omega (arith, fw .0, at .few .0)), rw er (omega (arith, fw .1, at .few .1)));
+      few = (rw er (omega (arith, fw .0, at .few .0, up, enx)), rw er (omega (arith, fw .1, at .few .1, up, enx)));
     }
 
-pub count-end : (n : ℕ) (cap : Cap) (gs ps₀ ps : List ℕ) (k : Needed) (i : ℕ) → CountAt n cap gs ps₀ ps k i → length gs / 4 ≤ i
-    → (k ≡ countFor (plainRun flushFrom n cap (lowerAll (records gs)) (plainBegin n)) (needRun n cap (lowerAll (records gs)) (plainBegin n) (needsOf (1 + 2 * n) 0)))
-    × (ps ≡ planesFor cap n (plainRun flushFrom n cap (lowerAll (records gs)) (plainBegin n) .table) ps₀)
+pub count-end : (n : ℕ) (cap : Cap) (narrow : Bool) (gs ps₀ ps : List ℕ) (k : Needed) (i : ℕ) → CountAt n cap narrow gs ps₀ ps k i → 16 * (length gs / 4) ≤ i
+    → (k ≡ countFor (plainLast n cap gs) (needsLast n cap gs))
+    × (ps ≡ planesFor cap n (plainLast n cap gs .table) ps₀)
 unfolding plainRun needRun
-count-end n cap gs ps₀ ps k i at h =
-    let e = rest-end gs i h in
-    let p : at .plain ≡ plainRun flushFrom n cap (lowerAll (records gs)) (plainBegin n) = rw e at (at .ends) in
-    let m : at .done ≡ needRun n cap (lowerAll (records gs)) (plainBegin n) (needsOf (1 + 2 * n) 0) = rw e at (at .totals) in
+count-end n cap narrow gs ps₀ ps k i at h =
+    let e = rest-end narrow gs i h in
+    let p : at .plain ≡ plainLast n cap gs = rw e at (at .ends) in
+    let m : at .done ≡ needsLast n cap gs = rw e at (at .totals) in
     (at .same ∙ rw (p, m), at .planes ∙ rw p)

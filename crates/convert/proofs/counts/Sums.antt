@@ -1,27 +1,28 @@
 -- The most that a conversion can need: the sums over its records, as if every flush came at the end.
 use mathlib.Core.Path.{_≡_, refl, sym, ap, _∙_}
-use mathlib.Core.Bool.{Bool, true, false, _||_}
-use mathlib.Core.List.{List, [], _∷_}
-use Prim.Native.Nat.{ℕ, suc, _+_, _*_, _/_, _%_, _<_, _≤_}
+use mathlib.Core.Bool.{Bool, true, false, true≢false, cond, _||_, _&&_}
+use mathlib.Core.List.{List, [], _∷_, _++_}
+use Prim.Native.Nat.{ℕ, zero, suc, _+_, _*_, _/_, _%_, _<_, _≤_}
 use native.Mathlib.Omega.{arith}
 use native.Mathlib.Numerals.{add-one}
-use lib.Dec.{ltb}
-use lib.ListN.{length, getD, drop}
-use borrow.Author.Tests.{ltb-false, le-ltb}
+use lib.Dec.{ltb, leb}
+use lib.ListN.{length, getD, drop, length-append}
+use borrow.Author.Tests.{ltb-false, le-ltb, leb-true}
 use Rattle.arena.specs.Limits.{maxNodes, maxOperations, nodeWords, operationWords}
 use Rattle.arena.specs.Errors.{_⟫_⇒_}
 use Rattle.arena.proofs.Accepted.{passed-before, test-passed, left-false, right-false}
 use Rattle.convert.specs.Types.{PbcError, NoFrame, NoNodes, NoOperations, Checked, Fine, Wrong}
 use Rattle.pauli.specs.Rows.{Row}
-use Rattle.convert.specs.Records.{GateKind, Cap, NoCap, AtMost, Elementary, placedFrom, Record, records, kindOf, lower, lowerAs, lowerFrom, lowerAll}
+use Rattle.convert.specs.Records.{GateKind, Cap, NoCap, AtMost, isNarrow, Elementary, Placed, placed, placedFrom, Record, recordOf, records, kindOf, thirteenOf, fifteenOf, partsAs, partsOf, expanded, lower, lowerAs, lowerParts, lowerIn, lowerFrom, lowerAll}
 use Rattle.convert.specs.Plain.{Plain, flushFrom, plainBegin, plainRun}
 use Rattle.convert.specs.Code.Needs.{Needs, needRun}
-use Rattle.convert.specs.Conversion.{roomChecked, limits}
+use Rattle.convert.specs.Conversion.{isDoubly, roomChecked, limits}
 use Rattle.convert.specs.Code.RawPlanes.{Wide}
 use Rattle.convert.specs.Code.Raw.{anyExceeds, costOf, costs, summed, needed, closed, mostNeeded, countFor, needsOf, planesFor, plainLast, needsLast, NeedsChecked}
-use Rattle.convert.specs.Code.Tables.{tableOf, together, packedCost, sumOver}
+use Rattle.convert.specs.Code.Tables.{tableOf, together, packedCost, sumOver, sumIn}
 use Rattle.convert.specs.declared.count.Needed.{Needed}
 use Rattle.convert.proofs.packed.Deciding.{never, wide-start, planes-over}
+use Rattle.convert.proofs.counts.Parts.{Split, whole, ccx, ccz, split, parts-few}
 use Rattle.convert.proofs.counts.RecordSteps.{run-append, need-append, one-record, count-one}
 use Rattle.convert.proofs.counts.Rest.{drop-record, no-more, records-length, wide-went, few-cost, costs-few}
 use Rattle.convert.proofs.counts.Light.{no-flush}
@@ -40,43 +41,87 @@ even-costs true false a b c e = record { nodes = omega (arith, e .nodes); operat
 even-costs false true a b c e = record { nodes = omega (arith, e .nodes); operations = omega (arith, e .operations) }
 even-costs false false a b c e = record { nodes = omega (arith, e .nodes); operations = omega (arith, e .operations) }
 
-even-run : (n : ℕ) (cap : Cap) (i : ℕ) (rs : List Record) (p : Plain) (k : Needs) (b : Needed) → Even (countFor p k) b
-    → Even (countFor (plainRun flushFrom n cap (lowerFrom i rs) p) (needRun n cap (lowerFrom i rs) p k)) (summed b rs)
-unfolding lowerFrom lower summed plainRun needRun
-even-run n cap i [] p k b e = e
-even-run n cap i (r ∷ rs) p k b e =
+placed-append : (i j : ℕ) (es fs : List Elementary) → placedFrom i j (es ++ fs) ≡ placedFrom i j es ++ placedFrom i (j + length es) fs
+placed-append i j [] fs = let e : j + 0 ≡ j = omega arith in rw e
+placed-append i j (e ∷ es) fs = let z : j + suc (length es) ≡ suc j + length es = omega arith in rw z (ap (λ (l : List (Placed Elementary)). placed i j e ∷ l) (placed-append i (suc j) es fs))
+
+summed-append : (k : Needed) (rs qs : List Record) → summed k (rs ++ qs) ≡ summed (summed k rs) qs
+unfolding summed
+summed-append k [] qs = refl
+summed-append k (r ∷ rs) qs = summed-append (costs false k (costOf (kindOf (r .kind)))) rs qs
+
+-- what elementary gates make of the count beside a plain state
+abbrev countAfter : ℕ → Cap → List (Placed Elementary) → Plain → Needs → Needed
+countAfter n cap es p k = countFor (plainRun flushFrom n cap es p) (needRun n cap es p k)
+
+count-append : (n : ℕ) (cap : Cap) (es fs : List (Placed Elementary)) (p : Plain) (k : Needs)
+    → countAfter n cap (es ++ fs) p k ≡ countAfter n cap fs (plainRun flushFrom n cap es p) (needRun n cap es p k)
+count-append n cap es fs p k = rw (run-append n cap es fs p, need-append n cap es fs p k)
+
+even-parts : (n : ℕ) (cap : Cap) (i j : ℕ) (rs : List Record) (p : Plain) (k : Needs) (b : Needed) → Even (countFor p k) b
+    → Even (countAfter n cap (placedFrom i j (lowerParts rs)) p k) (summed b rs)
+unfolding lower summed plainRun needRun
+even-parts n cap i j [] p k b e = e
+even-parts n cap i j (r ∷ rs) p k b e =
     let kind = kindOf (r .kind) in
-    let es = placedFrom i 0 (lowerAs kind (r .a) (r .b) (r .c)) in
-    let one = even-costs (anyExceeds n cap (p .table) (lowerAs kind (r .a) (r .b) (r .c))) false (countFor p k) b (costOf kind) e in
-    let h = even-run n cap (suc i) rs (plainRun flushFrom n cap es p) (needRun n cap es p k) (costs false b (costOf kind)) (rw (← count-one n cap i kind (r .a) (r .b) (r .c) p k) one) in
-    rw (run-append n cap es (lowerFrom (suc i) rs) p, need-append n cap es (lowerFrom (suc i) rs) p k) h
+    let els = lowerAs kind (r .a) (r .b) (r .c) in
+    let es = placedFrom i j els in
+    let one = even-costs (anyExceeds n cap (p .table) els) false (countFor p k) b (costOf kind) e in
+    let h = even-parts n cap i (j + length els) rs (plainRun flushFrom n cap es p) (needRun n cap es p k) (costs false b (costOf kind)) (rw (← count-one n cap i j kind (r .a) (r .b) (r .c) p k) one) in
+    rw (placed-append i j els (lowerParts rs), count-append n cap es (placedFrom i (j + length els) (lowerParts rs)) p k) h
+
+even-run : (n : ℕ) (cap : Cap) (narrow : Bool) (i : ℕ) (rs : List Record) (p : Plain) (k : Needs) (b : Needed) → Even (countFor p k) b
+    → Even (countAfter n cap (lowerFrom narrow i rs) p k) (summed b (expanded narrow rs))
+unfolding lowerFrom lowerIn plainRun needRun summed
+even-run n cap narrow i [] p k b e = e
+even-run n cap narrow i (r ∷ rs) p k b e =
+    let es = placedFrom i 0 (lowerParts (partsOf narrow r)) in
+    let h = even-run n cap narrow (suc i) rs (plainRun flushFrom n cap es p) (needRun n cap es p k) (summed b (partsOf narrow r)) (even-parts n cap i 0 (partsOf narrow r) p k b e) in
+    rw (count-append n cap es (lowerFrom narrow (suc i) rs) p k, summed-append b (partsOf narrow r) (expanded narrow rs)) h
 
 -- where no flush can come, the sums are the needs
 module _ (n : ℕ) (cap : Cap) (quiet : (t : List Row) (es : List Elementary) → Wide n t → anyExceeds n cap t es ≡ false) where
-  same-run : (i : ℕ) (rs : List Record) (p : Plain) (k : Needs) → Wide n (p .table)
-      → countFor (plainRun flushFrom n cap (lowerFrom i rs) p) (needRun n cap (lowerFrom i rs) p k) ≡ summed (countFor p k) rs
-  unfolding lowerFrom lower summed plainRun needRun
-  same-run i [] p k w = refl
-  same-run i (r ∷ rs) p k w =
+  -- the table stays wide
+  record Same (es : List (Placed Elementary)) (p : Plain) (k : Needs) (b : Needed) : Type 0 where
+    is : countAfter n cap es p k ≡ b
+    wide : Wide n (plainRun flushFrom n cap es p .table)
+
+  same-parts : (i j : ℕ) (rs : List Record) (p : Plain) (k : Needs) → Wide n (p .table) → Same (placedFrom i j (lowerParts rs)) p k (summed (countFor p k) rs)
+  unfolding lower summed plainRun needRun
+  same-parts i j [] p k w = record { is = refl; wide = w }
+  same-parts i j (r ∷ rs) p k w =
       let kind = kindOf (r .kind) in
       let els = lowerAs kind (r .a) (r .b) (r .c) in
-      let es = placedFrom i 0 els in
-      let o = one-record n cap i kind (r .a) (r .b) (r .c) p k (record { arena = record { count = 0; nodes = []; frame = [] }; ops = [] }) in
-      let h = same-run (suc i) rs (plainRun flushFrom n cap es p) (needRun n cap es p k) (wide-went n i _ _ _ p (plainRun flushFrom n cap es p) (o .went) w) in
-      rw (run-append n cap es (lowerFrom (suc i) rs) p, need-append n cap es (lowerFrom (suc i) rs) p k)
-      (h ∙ ap (λ (c : Needed). summed c rs) (sym (count-one n cap i kind (r .a) (r .b) (r .c) p k) ∙ ap (λ (f : Bool). costs f (countFor p k) (costOf kind)) (quiet (p .table) els w)))
+      let es = placedFrom i j els in
+      let o = one-record n cap i j kind (r .a) (r .b) (r .c) p k (record { arena = record { count = 0; nodes = []; frame = [] }; ops = [] }) in
+      let h = same-parts i (j + length els) rs (plainRun flushFrom n cap es p) (needRun n cap es p k) (wide-went n i _ _ _ p (plainRun flushFrom n cap es p) (o .went) w) in
+      let c = sym (count-one n cap i j kind (r .a) (r .b) (r .c) p k) ∙ ap (λ (f : Bool). costs f (countFor p k) (costOf kind)) (quiet (p .table) els w) in
+      record {
+        is = rw (placed-append i j els (lowerParts rs), count-append n cap es (placedFrom i (j + length els) (lowerParts rs)) p k) (h .is ∙ ap (λ (c : Needed). summed c rs) c);
+        wide = rw (placed-append i j els (lowerParts rs), run-append n cap es (placedFrom i (j + length els) (lowerParts rs)) p) (h .wide);
+      }
 
-  same-needs : (gs : List ℕ) → (needsLast n cap gs .nodes ≡ mostNeeded n false gs .nodes) × (needsLast n cap gs .operations ≡ mostNeeded n false gs .operations)
+  same-run : (narrow : Bool) (i : ℕ) (rs : List Record) (p : Plain) (k : Needs) → Wide n (p .table)
+      → countAfter n cap (lowerFrom narrow i rs) p k ≡ summed (countFor p k) (expanded narrow rs)
+  unfolding lowerFrom lowerIn plainRun needRun summed
+  same-run narrow i [] p k w = refl
+  same-run narrow i (r ∷ rs) p k w =
+      let es = placedFrom i 0 (lowerParts (partsOf narrow r)) in
+      let s = same-parts i 0 (partsOf narrow r) p k w in
+      count-append n cap es (lowerFrom narrow (suc i) rs) p k ∙ same-run narrow (suc i) rs (plainRun flushFrom n cap es p) (needRun n cap es p k) (s .wide)
+      ∙ ap (λ (c : Needed). summed c (expanded narrow rs)) (s .is) ∙ sym (summed-append (countFor p k) (partsOf narrow r) (expanded narrow rs))
+
+  same-needs : (gs : List ℕ) → (needsLast n cap gs .nodes ≡ mostNeeded n (isNarrow cap) false gs .nodes) × (needsLast n cap gs .operations ≡ mostNeeded n (isNarrow cap) false gs .operations)
   unfolding lowerAll plainBegin
   same-needs gs =
-      let e = same-run 0 (records gs) (plainBegin n) (needsOf (1 + 2 * n) 0) (wide-start n) in
+      let e = same-run (isNarrow cap) 0 (records gs) (plainBegin n) (needsOf (1 + 2 * n) 0) (wide-start n) in
       (omega (arith, ap (λ (c : Needed). c .nodes) e), omega (arith, ap (λ (c : Needed). c .operations) e))
 
 capped-needs : (n m : ℕ) (gs : List ℕ) (f : Bool) → ltb m n ≡ f
-    → (needsLast n (AtMost m) gs .nodes ≤ mostNeeded n f gs .nodes) × (needsLast n (AtMost m) gs .operations ≤ mostNeeded n f gs .operations)
+    → (needsLast n (AtMost m) gs .nodes ≤ mostNeeded n (isNarrow (AtMost m)) f gs .nodes) × (needsLast n (AtMost m) gs .operations ≤ mostNeeded n (isNarrow (AtMost m)) f gs .operations)
 unfolding lowerAll plainBegin
 capped-needs n m gs true h =
-    let e = even-run n (AtMost m) 0 (records gs) (plainBegin n) (needsOf (1 + 2 * n) 0) (needed (1 + 2 * n) 0 0 0) (record { nodes = refl; operations = refl }) in
+    let e = even-run n (AtMost m) (isNarrow (AtMost m)) 0 (records gs) (plainBegin n) (needsOf (1 + 2 * n) 0) (needed (1 + 2 * n) 0 0 0) (record { nodes = refl; operations = refl }) in
     (omega (arith, e .nodes), omega (arith, e .operations))
 capped-needs n m gs false h =
     let e = same-needs n (AtMost m) (λ t es w. no-flush n m t es (ltb-false m n h) w) gs in
@@ -95,10 +140,72 @@ pub sum-end : (f : GateKind → ℕ) (gs : List ℕ) (i : ℕ) → length gs / 4
 unfolding sumOver
 sum-end f gs i h = rw (no-more gs i h)
 
-pub packed-few : (f : Bool) (kind : GateKind) → packedCost f kind ≤ 137438953472
-unfolding packedCost
-packed-few true kind = let h = few-cost kind (costOf kind) refl in omega (arith, h .0, h .1)
-packed-few false kind = let h = few-cost kind (costOf kind) refl in omega (arith, h .0, h .1)
+-- all entries are at most m
+abbrev allMost : ℕ → List ℕ → Bool
+allMost m [] = true
+allMost m (x ∷ xs) = leb x m && allMost m xs
+
+and-left : (a b : Bool) → (a && b) ≡ true → a ≡ true
+and-left true b e = refl
+and-left false b e = e
+
+and-right : (a b : Bool) → (a && b) ≡ true → b ≡ true
+and-right true b e = e
+and-right false b e = absurd (true≢false (sym e))
+
+all-most : (m : ℕ) (xs : List ℕ) → allMost m xs ≡ true → (j : ℕ) → getD xs j 0 ≤ m
+all-most m [] e j = omega arith
+all-most m (x ∷ xs) e zero = leb-true x m (and-left (leb x m) (allMost m xs) e)
+all-most m (x ∷ xs) e (suc j) = all-most m xs (and-right (leb x m) (allMost m xs) e) j
+
+few-entries : (narrow f : Bool) → allMost 137438953472 (tableOf (sumIn narrow (packedCost f))) ≡ true
+unfolding sumIn sumOver packedCost costOf lowerAs kindOf
+few-entries true true = refl
+few-entries true false = refl
+few-entries false true = refl
+few-entries false false = refl
+
+-- a record needs at most 31 operations, and fewer nodes
+pub packed-few : (narrow f : Bool) (j : ℕ) → getD (tableOf (sumIn narrow (packedCost f))) j 0 ≤ 137438953472
+packed-few narrow f = all-most 137438953472 (tableOf (sumIn narrow (packedCost f))) (few-entries narrow f)
+
+-- ---- the parts of records
+
+sum-append : (f : GateKind → ℕ) (rs qs : List Record) → sumOver f (rs ++ qs) ≡ sumOver f rs + sumOver f qs
+unfolding sumOver
+sum-append f [] qs = omega arith
+sum-append f (r ∷ rs) qs = omega (arith, sum-append f rs qs)
+
+-- the operands do not matter
+sum-fifteen : (f : GateKind → ℕ) (a b d : ℕ) → sumOver f (fifteenOf a b d) ≡ sumOver f (fifteenOf 0 0 0)
+unfolding sumOver
+sum-fifteen f a b d = refl
+
+sum-thirteen : (f : GateKind → ℕ) (a b d : ℕ) → sumOver f (thirteenOf a b d) ≡ sumOver f (thirteenOf 0 0 0)
+unfolding sumOver
+sum-thirteen f a b d = refl
+
+sum-one : (f : GateKind → ℕ) (r : Record) → sumOver f (r ∷ []) ≡ f (kindOf (r .kind))
+unfolding sumOver
+sum-one f r = omega arith
+
+sum-parts : (narrow : Bool) (f : GateKind → ℕ) (r : Record) → sumOver f (partsOf narrow r) ≡ sumIn narrow f (kindOf (r .kind))
+unfolding sumIn
+sum-parts narrow f r = go (split narrow r)
+  where
+    go : Split narrow r → sumOver f (partsOf narrow r) ≡ cond (narrow && isDoubly (kindOf (r .kind))) (sumOver f (partsAs (kindOf (r .kind)) (recordOf 0 0 0 0))) (f (kindOf (r .kind)))
+    go (whole e d) = rw (e, d) (sum-one f r)
+    go (ccx t k e) = rw (e, t, k) (sum-fifteen f (r .a) (r .b) (r .c))
+    go (ccz t k e) = rw (e, t, k) (sum-thirteen f (r .a) (r .b) (r .c))
+
+sum-expanded : (narrow : Bool) (f : GateKind → ℕ) (rs : List Record) → sumOver f (expanded narrow rs) ≡ sumOver (sumIn narrow f) rs
+unfolding sumOver
+sum-expanded narrow f [] = refl
+sum-expanded narrow f (r ∷ rs) = sum-append f (partsOf narrow r) (expanded narrow rs) ∙ omega (arith, sum-parts narrow f r, sum-expanded narrow f rs)
+
+length-expanded : (narrow : Bool) (rs : List Record) → length (expanded narrow rs) ≤ 15 * length rs
+length-expanded narrow [] = omega arith
+length-expanded narrow (r ∷ rs) = omega (arith, length-append (partsOf narrow r) (expanded narrow rs), parts-few narrow r .1, length-expanded narrow rs)
 
 pack-one : (f : Bool) (k c : Needed) → together (closed f (costs false k c)) ≡ together (closed f k) + together (closed f c)
 pack-one true k c = omega arith
@@ -130,16 +237,17 @@ start-is : (f : Bool) (m : ℕ) → together (closed f (needed m 0 0 0)) ≡ m
 start-is true m = omega arith
 start-is false m = omega arith
 
-pub unpacked : (f : Bool) (n : ℕ) (gs : List ℕ) (k : ℕ) → n ≤ 256 → length gs ≤ 262144 → k ≡ 1 + 2 * n + sumOver (packedCost f) (records gs)
-    → needed (k % 4294967296) (k / 4294967296) 0 0 ≡ mostNeeded n f gs
-unpacked f n gs k hn hg e =
-    let s = summed (needed (1 + 2 * n) 0 0 0) (records gs) in
-    let p = pack-run f (needed (1 + 2 * n) 0 0 0) (records gs) in
+pub unpacked : (narrow f : Bool) (n : ℕ) (gs : List ℕ) (k : ℕ) → n ≤ 256 → length gs ≤ 262144 → k ≡ 1 + 2 * n + sumOver (sumIn narrow (packedCost f)) (records gs)
+    → needed (k % 4294967296) (k / 4294967296) 0 0 ≡ mostNeeded n narrow f gs
+unpacked narrow f n gs k hn hg e =
+    let rs = expanded narrow (records gs) in
+    let s = summed (needed (1 + 2 * n) 0 0 0) rs in
+    let p = pack-run f (needed (1 + 2 * n) 0 0 0) rs in
     let q = start-is f (1 + 2 * n) in
-    let r = few-nodes f (needed (1 + 2 * n) 0 0 0) (records gs) in
+    let r = few-nodes f (needed (1 + 2 * n) 0 0 0) rs in
     let l = records-length gs in
-    let few : closed f s .nodes < 4294967296 = omega (arith, r, l, hn, hg) in
-    let whole : k ≡ closed f s .nodes + 4294967296 * closed f s .operations = omega (arith, e, p, q) in
+    let few : closed f s .nodes < 4294967296 = omega (arith, r, length-expanded narrow (records gs), l, hn, hg) in
+    let whole : k ≡ closed f s .nodes + 4294967296 * closed f s .operations = omega (arith, e, p, q, sum-expanded narrow (packedCost f) (records gs)) in
     closed-is f s (k % 4294967296) (k / 4294967296) (omega (arith, few, whole)) (omega (arith, few, whole))
 
 -- ---- the room
@@ -162,18 +270,18 @@ not-wrong : (e : PbcError) → Fine ≡ Wrong e → ⊥
 not-wrong e p = let z : _≡_ {A = ℕ} 0 1 = cc in omega arith
 
 -- without a cap the sums are the needs
-pub summed-needs : (n : ℕ) (gs ps : List ℕ) (frame ns os : ℕ) (k : Needed) (r : Checked) → k ≡ mostNeeded n false gs → r ≡ roomChecked limits Fine (k .nodes) (k .operations) n frame ns os
+pub summed-needs : (n : ℕ) (gs ps : List ℕ) (frame ns os : ℕ) (k : Needed) (r : Checked) → k ≡ mostNeeded n false false gs → r ≡ roomChecked limits Fine (k .nodes) (k .operations) n frame ns os
     → NeedsChecked n NoCap gs frame ns os ps r ps
 summed-needs n gs ps frame ns os k r ek er =
     let h = same-needs n NoCap (λ t es w. sym (never n t es)) gs in
     record { same = er ∙ rw (ek, h .0, h .1); planes = λ t. refl; ended = λ w q. refl }
 
 -- the most that can be needed fits
-pub fits-most : (n m : ℕ) (gs ps : List ℕ) (frame ns os : ℕ) (k : Needed) (r : Checked) → k ≡ mostNeeded n (ltb m n) gs → r ≡ roomChecked limits Fine (k .nodes) (k .operations) n frame ns os → r ≡ Fine
+pub fits-most : (n m : ℕ) (gs ps : List ℕ) (frame ns os : ℕ) (k : Needed) (r : Checked) → k ≡ mostNeeded n (isNarrow (AtMost m)) (ltb m n) gs → r ≡ roomChecked limits Fine (k .nodes) (k .operations) n frame ns os → r ≡ Fine
     → NeedsChecked n (AtMost m) gs frame ns os ps r ps
 fits-most n m gs ps frame ns os k r ek er e =
     let h = capped-needs n m gs (ltb m n) refl in
-    let f : roomChecked limits Fine (mostNeeded n (ltb m n) gs .nodes) (mostNeeded n (ltb m n) gs .operations) n frame ns os ≡ Fine
+    let f : roomChecked limits Fine (mostNeeded n (isNarrow (AtMost m)) (ltb m n) gs .nodes) (mostNeeded n (isNarrow (AtMost m)) (ltb m n) gs .operations) n frame ns os ≡ Fine
     = ap (λ (c : Needed). roomChecked limits Fine (c .nodes) (c .operations) n frame ns os) (sym ek) ∙ sym er ∙ e in
     record {
       same = e ∙ room-less _ _ _ _ n frame ns os (h .0) (h .1) f;

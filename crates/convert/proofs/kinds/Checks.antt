@@ -9,16 +9,16 @@ use lib.ListN.{length, getD, take, drop, List·getD-map}
 use native.Mathlib.Omega.{arith}
 use lib.Dec.{leb, ltb, eqb}
 use lib.Bits.{bitOr, or-zero-r}
-use borrow.Author.Tests.{ltb-true, eqb-true, le-leb, lt-leb, ne-eqb, not-true}
+use borrow.Author.Tests.{ltb-true, eqb-true, lt-leb, ne-eqb, not-true}
 use Rattle.arena.specs.Errors.{_⟫_⇒_}
 use Rattle.convert.specs.Types.{PbcError, QubitOutOfRange, RepeatedOperand, UnsupportedGate, ClassicalBitOutOfRange, TargetTaken, BadStore, NonCliffordFrameGate, NoFrame, NoNodes, Header, Checked, Fine, Wrong}
 use Rattle.arena.specs.Store.{breaksLimit, exceedsNodes, noNodeRoom}
 use Rattle.convert.specs.Planes.{partWords}
 use Rattle.convert.proofs.counts.Rest.{drop-record, no-more}
-use Rattle.convert.specs.Records.{GateKind, KindH, KindX, KindZ, KindS, KindSdg, KindT, KindTdg, KindCnot, KindCz, KindCcx, KindCcz, KindMeasure, KindY, KindSx, KindSwap, KindCy, Unsupported, Shape, NoShape, OneQubit, TwoQubits, ThreeQubits, Measured, shapeOf, shapeNumber, hasShape, Record, records, kinds, kindOf, lowerAs}
+use Rattle.convert.specs.Records.{GateKind, KindH, KindX, KindZ, KindS, KindSdg, KindT, KindTdg, KindCnot, KindCz, KindCcx, KindCcz, KindMeasure, KindY, KindSx, KindSwap, KindCy, Unsupported, Shape, NoShape, OneQubit, TwoQubits, ThreeQubits, Measured, shapeOf, shapeNumber, hasShape, Record, records, kinds, kindOf, recordOf, lowerAs}
 use Rattle.convert.specs.Frame.{qubitsBy, qubitsOf, member, operandsChecked, namesUnused, frameGates, gateNodes, total, cliffordCheck}
-use Rattle.convert.specs.Conversion.{isDoubly, isMeasure, takenWith, recordChecked, recordsChecked, anyDoubly}
-use Rattle.convert.specs.Code.Raw.{isFrame, frameNodes, measuresOf, recordOf}
+use Rattle.convert.specs.Conversion.{isDoubly, isMeasure, takenWith, recordChecked, recordsChecked}
+use Rattle.convert.specs.Code.Raw.{isFrame, frameNodes, measuresOf}
 use Rattle.convert.specs.Code.Tables.{tableOf, boundBy, boundOf, apartBy, apartOf, Passes}
 use Rattle.convert.specs.Code.Marks.{isMarked, marked, Marks}
 use Rattle.convert.proofs.kinds.Entries.{table-at}
@@ -135,13 +135,6 @@ stays-refused (Wrong e) n cbits i taken rs h = sym (wrong-records e n cbits i ta
 or-assoc : (a b c : Bool) → (a || (b || c)) ≡ ((a || b) || c)
 or-assoc true b c = refl
 or-assoc false b c = refl
-
-pub doubly-more : (gs : List ℕ) (i : ℕ) (f : Bool) → i < length gs / 4
-    → (f || anyDoubly (drop i (records gs))) ≡ ((f || isDoubly (kindOf (getD gs (4 * i) 0))) || anyDoubly (drop (i + 1) (records gs)))
-doubly-more gs i f h = rw (drop-record gs i h, add-one i) (or-assoc f (isDoubly (kindOf (getD gs (4 * i) 0))) (anyDoubly (drop (suc i) (records gs))))
-
-pub doubly-end : (gs : List ℕ) (i : ℕ) (f : Bool) → length gs / 4 ≤ i → (f || anyDoubly (drop i (records gs))) ≡ f
-doubly-end gs i f h = rw (no-more gs i h) (or-false f)
 
 -- 4nL does not overflow
 pub plane-words : (n l : ℕ) → n < 4294967296 → l ≡ partWords n → 4 * n * l ≤ 4 * n * 67108864
@@ -341,10 +334,3 @@ module _ (gs : List ℕ) (i number : ℕ) (h : i < length gs / 4) (en : number �
       checks-more s n cbits gs i h
       ∙ ap (λ (t : Checked). recordsChecked t n cbits (i + 1) (takenTo gs (i + 1)) (drop (i + 1) (records gs)))
       (rw (← en, ← ea, ← eb₂) (target-record s n cbits i (takenTo gs i) (recordOf number a b _) (sym (measures-at number hn) ∙ m) ha hb ∙ rw new (no-test s (TargetTaken i b))))
-
--- a cap above 2 is never too small
-pub cap-above : (most : ℕ) (d : Bool) → 2 < most → false ≡ (eqb most 0 || (leb most 2 && d))
-cap-above most d h = rw (ne-eqb most 0 (λ e. omega arith), lt-leb most 2 h)
-
-pub cap-below : (most : ℕ) (d : Bool) → most ≤ 2 → (eqb most 0 || d) ≡ (eqb most 0 || (leb most 2 && d))
-cap-below most d h = rw (le-leb most 2 h)

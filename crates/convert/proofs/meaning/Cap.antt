@@ -1,10 +1,10 @@
 -- Under a cap no axis with an odd angle, and no measured one, has more letters other than I than the cap.
 use mathlib.Core.Path.{_≡_, refl}
-use mathlib.Core.Bool.{Bool, true, false, cond, _||_, _&&_}
-use mathlib.Core.List.{List, [], _∷_, _++_, map}
+use mathlib.Core.Bool.{Bool, true, false, cond, _&&_}
+use mathlib.Core.List.{List, [], _∷_, _++_, map, append-nil}
 use Prim.Native.Nat.{ℕ, suc, _+_, _%_, _≤_, _<_}
 use native.Mathlib.Omega.{arith}
-use borrow.Author.Tests.{ltb-false, leb-false, eqb-false}
+use borrow.Author.Tests.{ltb-false, leb-false, eqb-false, le-leb}
 use lib.Dec.{ltb, leb, eqb}
 use Rattle.pauli.specs.Letters.{_·_}
 use Rattle.pauli.specs.Rows.{Row, products, _★_, single, tally, present, weight}
@@ -13,14 +13,15 @@ use Rattle.pauli.specs.Rotations.{Rotation, Each, flush}
 use Rattle.pauli.proofs.Weight.{weight-single, flush-light}
 use Rattle.arena.proofs.Accepted.{left-false, right-false}
 use Rattle.convert.specs.Types.{Pauli, One, I, X, Y, Z, Target, Bit}
-use Rattle.convert.specs.Records.{GateKind, KindH, KindX, KindZ, KindS, KindSdg, KindT, KindTdg, KindCnot, KindCz, KindCcx, KindCcz, KindMeasure, KindY, KindSx, KindSwap, KindCy, Unsupported, Cap, NoCap, AtMost, Record, kindOf, Elementary, clifford, elT, elTdg, elCcx, elCcz, elMeasure, lowerAs, lower, Placed, placedFrom, lowerFrom, bare, from, withoutIndex, Proper, AllProper}
+use Rattle.convert.specs.Records.{GateKind, KindH, KindX, KindZ, KindS, KindSdg, KindT, KindTdg, KindCnot, KindCz, KindCcx, KindCcz, KindMeasure, KindY, KindSx, KindSwap, KindCy, Unsupported, Cap, NoCap, AtMost, Record, kindOf, Elementary, clifford, elT, elTdg, elCcx, elCcz, elMeasure, isNarrow, thirteenOf, fifteenOf, partsOf, lowerAs, lower, lowerParts, lowerIn, Placed, placedFrom, lowerFrom, bare, from, withoutIndex, Proper, AllProper}
 use Rattle.convert.specs.Plain.{Operation, anyAbove, seven, asRotation, flushFrom}
 use Rattle.convert.specs.Paper.{Paper, axes, tooHeavy, sevenAngles, rotateAll, measureFirst, writes, paperPerform, paperFlushed, paperStep, paperRun, paperBegin}
 use Rattle.convert.specs.Paper as paper
-use Rattle.convert.specs.Conversion.{isDoubly, anyDoubly, capTooSmall}
+use Rattle.convert.specs.Conversion.{isDoubly, capTooSmall}
 use Rattle.convert.specs.Statement.{AllWithin, Capped}
 use Rattle.convert.proofs.meaning.Words.{map-append, valid-append, bare-snoc, without-more, without-flushed}
 use Rattle.convert.proofs.Accepted.{bare-placed}
+use Rattle.convert.proofs.counts.Parts.{Split, whole, ccx, ccz, split}
 
 -- ---- weights
 
@@ -168,14 +169,6 @@ kept-run cap n c (e ∷ es) p h b K = kept-run cap n c es (paperStep flushFrom n
 
 -- ---- records under a cap that is not too small
 
-both-left : (a b c : Bool) → (a && (b || c)) ≡ false → (a && b) ≡ false
-both-left true b c e = left-false b c e
-both-left false b c e = refl
-
-both-right : (a b c : Bool) → (a && (b || c)) ≡ false → (a && c) ≡ false
-both-right true b c e = right-false b c e
-both-right false b c e = refl
-
 and-true : (a : Bool) → (a && true) ≡ false → a ≡ false
 and-true true e = e
 and-true false e = refl
@@ -207,18 +200,38 @@ borne-append : (cap : ℕ) (us vs : List Elementary) → AllBorne cap us → All
 borne-append cap [] vs u v = v
 borne-append cap (e ∷ us) vs u v = (u .0, borne-append cap us vs (u .1) v)
 
-borne-records : (cap i : ℕ) (rs : List Record) → 0 < cap → (leb cap 2 && anyDoubly rs) ≡ false → AllBorne cap (bare (lowerFrom i rs))
-unfolding lowerFrom lower
-borne-records cap i [] h e = tt
-borne-records cap i (r ∷ rs) h e =
-    rw (map-append _ (placedFrom i 0 (lower r)) (lowerFrom (suc i) rs), bare-placed i 0 (lower r))
-    (borne-append cap (lower r) (bare (lowerFrom (suc i) rs))
-    (borne-lower cap (kindOf (r .kind)) (r .a) (r .b) (r .c) h (both-left (leb cap 2) (isDoubly (kindOf (r .kind))) (anyDoubly rs) e))
-    (borne-records cap (suc i) rs h (both-right (leb cap 2) (isDoubly (kindOf (r .kind))) (anyDoubly rs) e)))
+-- ccx and ccz stand whole only under a cap of 3 and more
+borne-thirteen : (cap a b d : ℕ) → 0 < cap → AllBorne cap (lowerParts (thirteenOf a b d))
+unfolding lower lowerAs kindOf
+borne-thirteen cap a b d h = (tt, (h, (tt, (h, (tt, (h, (tt, (h, (h, (tt, (h, (h, (tt, tt)))))))))))))
 
-pub capped : (n c i : ℕ) (cap : Cap) (rs : List Record) → AllProper n c (bare (lowerFrom i rs)) → capTooSmall cap rs ≡ false
-    → Capped cap (withoutIndex (paperRun flushFrom n cap (lowerFrom i rs) paperBegin .operations))
+borne-fifteen : (cap a b d : ℕ) → 0 < cap → AllBorne cap (lowerParts (fifteenOf a b d))
+unfolding lower lowerAs kindOf
+borne-fifteen cap a b d h = (tt, (tt, (h, (tt, (h, (tt, (h, (tt, (h, (h, (tt, (h, (h, (tt, (tt, tt)))))))))))))))
+
+borne-whole : (cap : ℕ) (r : Record) → 0 < cap → (leb cap 2 && isDoubly (kindOf (r .kind))) ≡ false → AllBorne cap (lower r)
+unfolding lower
+borne-whole cap r h d = borne-lower cap (kindOf (r .kind)) (r .a) (r .b) (r .c) h d
+
+borne-in : (cap : ℕ) (r : Record) → 0 < cap → AllBorne cap (lowerIn (isNarrow (AtMost cap)) r)
+unfolding lowerIn
+borne-in cap r h = go (split (isNarrow (AtMost cap)) r)
+  where
+    go : Split (isNarrow (AtMost cap)) r → AllBorne cap (lowerParts (partsOf (isNarrow (AtMost cap)) r))
+    go (whole e d) = rw (e, append-nil (lower r)) (borne-whole cap r h (rw (le-leb 1 cap h) at d))
+    go (ccx t k e) = rw e (borne-fifteen cap (r .a) (r .b) (r .c) h)
+    go (ccz t k e) = rw e (borne-thirteen cap (r .a) (r .b) (r .c) h)
+
+borne-records : (cap i : ℕ) (rs : List Record) → 0 < cap → AllBorne cap (bare (lowerFrom (isNarrow (AtMost cap)) i rs))
+unfolding lowerFrom
+borne-records cap i [] h = tt
+borne-records cap i (r ∷ rs) h =
+    let narrow = isNarrow (AtMost cap) in
+    rw (map-append _ (placedFrom i 0 (lowerIn narrow r)) (lowerFrom narrow (suc i) rs), bare-placed i 0 (lowerIn narrow r))
+    (borne-append cap (lowerIn narrow r) (bare (lowerFrom narrow (suc i) rs)) (borne-in cap r h) (borne-records cap (suc i) rs h))
+
+pub capped : (n c i : ℕ) (cap : Cap) (rs : List Record) → AllProper n c (bare (lowerFrom (isNarrow cap) i rs)) → capTooSmall cap ≡ false
+    → Capped cap (withoutIndex (paperRun flushFrom n cap (lowerFrom (isNarrow cap) i rs) paperBegin .operations))
 capped n c i NoCap rs v e = tt
 capped n c i (AtMost cap) rs v e =
-    kept-run cap n c (lowerFrom i rs) paperBegin v
-    (borne-records cap i rs (positive cap (left-false (eqb cap 0) _ e)) (right-false (eqb cap 0) _ e)) (record { valid = tt; within = tt }) .within
+    kept-run cap n c (lowerFrom (isNarrow (AtMost cap)) i rs) paperBegin v (borne-records cap i rs (positive cap e)) (record { valid = tt; within = tt }) .within

@@ -9,48 +9,49 @@ use lib.ListN.{length, drop, length-append}
 use lib.Seq.{drop-at, append-snoc}
 use Rattle.pauli.specs.Rows.{Row}
 use Rattle.pauli.specs.Gates.{Gate}
-use Rattle.convert.specs.Records.{GateKind, KindH, KindX, KindZ, KindS, KindSdg, KindT, KindTdg, KindCnot, KindCz, KindCcx, KindCcz, KindMeasure, KindY, KindSx, KindSwap, KindCy, Unsupported, Cap, NoCap, AtMost, Record, records, kindOf, Elementary, clifford, elT, elTdg, elCcx, elCcz, elMeasure, lowerAs, lower, Placed, placedFrom, lowerFrom, lowerAll}
+use Rattle.convert.specs.Records.{GateKind, KindH, KindX, KindZ, KindS, KindSdg, KindT, KindTdg, KindCnot, KindCz, KindCcx, KindCcz, KindMeasure, KindY, KindSx, KindSwap, KindCy, Unsupported, Cap, NoCap, AtMost, Record, records, kindOf, Elementary, clifford, elT, elTdg, elCcx, elCcz, elMeasure, lowerAs, lower, isNarrow, lowerIn, Placed, placedFrom, lowerFrom, lowerAll}
 use Rattle.convert.specs.Plain.{Plain, plainBegin, tested, exceeds, flushFrom, flushed, performAs, perform, plainStep, plainRun}
 use Rattle.convert.specs.Conversion.{Input, gatesIn, plainEnd}
 use Rattle.convert.specs.Code.Needs.{Place, placeOf, placeStep, placeRun, gatesFrom, cliffordAs, cliffords}
+use Rattle.convert.proofs.counts.Parts.{lower-whole}
 
 -- ---- each gate stands at its place
 
 -- from the place of each gate of es on, the records rs have that gate and those after it
-abbrev Located : List Record → List (Placed Elementary) → Type 0
-Located rs [] = Unit {0}
-Located rs (e ∷ es) = (gatesFrom (placeOf e) rs ≡ e ∷ es) × Located rs es
+abbrev Located : Bool → List Record → List (Placed Elementary) → Type 0
+Located narrow rs [] = Unit {0}
+Located narrow rs (e ∷ es) = (gatesFrom narrow (placeOf e) rs ≡ e ∷ es) × Located narrow rs es
 
 drop-placed : (i k : ℕ) (us vs : List Elementary) (rest : List (Placed Elementary))
     → drop (length us) (placedFrom i k (us ++ vs) ++ rest) ≡ placedFrom i (k + length us) vs ++ rest
 drop-placed i k [] vs rest = ap (λ m. placedFrom i m vs ++ rest) (sym (add-zero k))
 drop-placed i k (u ∷ us) vs rest = drop-placed i (suc k) us vs rest ∙ ap (λ m. placedFrom i m vs ++ rest) (suc-add k (length us) ∙ sym (add-suc k (length us)))
 
-module _ (before : List Record) (r : Record) (after : List Record) where
+module _ (narrow : Bool) (before : List Record) (r : Record) (after : List Record) where
   rest : List (Placed Elementary)
-  rest = lowerFrom (suc (length before)) after
+  rest = lowerFrom narrow (suc (length before)) after
 
-  at-part : (us vs : List Elementary) → lower r ≡ us ++ vs
-      → gatesFrom (record { index = length before; part = length us }) (before ++ r ∷ after) ≡ placedFrom (length before) (length us) vs ++ rest
+  at-part : (us vs : List Elementary) → lowerIn narrow r ≡ us ++ vs
+      → gatesFrom narrow (record { index = length before; part = length us }) (before ++ r ∷ after) ≡ placedFrom (length before) (length us) vs ++ rest
   unfolding gatesFrom lowerFrom rest
   at-part us vs e =
-      ap (λ l. drop (length us) (lowerFrom (length before) l)) (drop-at before (r ∷ after) (length before) refl)
-      ∙ ap (λ l. drop (length us) (placedFrom (length before) 0 l ++ lowerFrom (suc (length before)) after)) e
-      ∙ drop-placed (length before) 0 us vs (lowerFrom (suc (length before)) after)
-      ∙ ap (λ m. placedFrom (length before) m vs ++ lowerFrom (suc (length before)) after) (zero-add (length us))
+      ap (λ l. drop (length us) (lowerFrom narrow (length before) l)) (drop-at before (r ∷ after) (length before) refl)
+      ∙ ap (λ l. drop (length us) (placedFrom (length before) 0 l ++ lowerFrom narrow (suc (length before)) after)) e
+      ∙ drop-placed (length before) 0 us vs (lowerFrom narrow (suc (length before)) after)
+      ∙ ap (λ m. placedFrom (length before) m vs ++ lowerFrom narrow (suc (length before)) after) (zero-add (length us))
 
-  located-parts : (us vs : List Elementary) (j : ℕ) → j ≡ length us → lower r ≡ us ++ vs → Located (before ++ r ∷ after) rest
-      → Located (before ++ r ∷ after) (placedFrom (length before) j vs ++ rest)
+  located-parts : (us vs : List Elementary) (j : ℕ) → j ≡ length us → lowerIn narrow r ≡ us ++ vs → Located narrow (before ++ r ∷ after) rest
+      → Located narrow (before ++ r ∷ after) (placedFrom (length before) j vs ++ rest)
   located-parts us [] j e h L = L
   located-parts us (v ∷ vs) j e h L = rw e
       (at-part us (v ∷ vs) h, located-parts (us ++ v ∷ []) vs (suc (length us)) (sym (length-append us (v ∷ []) ∙ omega arith)) (h ∙ sym (append-snoc us v vs)) L)
 
-located-from : (rs before after : List Record) (i : ℕ) → i ≡ length before → rs ≡ before ++ after → Located rs (lowerFrom i after)
+located-from : (narrow : Bool) (rs before after : List Record) (i : ℕ) → i ≡ length before → rs ≡ before ++ after → Located narrow rs (lowerFrom narrow i after)
 unfolding lowerFrom rest
-located-from rs before [] i e h = tt
-located-from rs before (r ∷ after) i e h = rw (e, h)
-    (located-parts before r after [] (lower r) 0 refl refl
-    (located-from (before ++ r ∷ after) (before ++ r ∷ []) after (suc (length before)) (sym (length-append before (r ∷ []) ∙ omega arith)) (sym (append-snoc before r after))))
+located-from narrow rs before [] i e h = tt
+located-from narrow rs before (r ∷ after) i e h = rw (e, h)
+    (located-parts narrow before r after [] (lowerIn narrow r) 0 refl refl
+    (located-from narrow (before ++ r ∷ after) (before ++ r ∷ []) after (suc (length before)) (sym (length-append before (r ∷ []) ∙ omega arith)) (sym (append-snoc before r after))))
 
 -- ---- a run
 
@@ -77,18 +78,18 @@ perform-pending n i j (elCcz a b d) p = sym (append-nil (p .pending))
 perform-pending n i j (elMeasure q k) p = sym (append-nil (p .pending))
 
 -- `seen` are the gates since the last flush, es those to come
-place-run : (n : ℕ) (cap : Cap) (rs : List Record) (es seen : List (Placed Elementary)) (at : Place) (p : Plain) → Located rs es
-    → gatesFrom at rs ≡ seen ++ es → p .pending ≡ cliffords seen
-    → plainRun flushFrom n cap es p .pending ≡ cliffords (gatesFrom (placeRun n cap es p at) rs)
+place-run : (n : ℕ) (cap : Cap) (narrow : Bool) (rs : List Record) (es seen : List (Placed Elementary)) (at : Place) (p : Plain) → Located narrow rs es
+    → gatesFrom narrow at rs ≡ seen ++ es → p .pending ≡ cliffords seen
+    → plainRun flushFrom n cap es p .pending ≡ cliffords (gatesFrom narrow (placeRun n cap es p at) rs)
 unfolding plainRun placeRun plainStep placeStep flushed cliffords
-place-run n cap rs [] seen at p L g h = h ∙ ap cliffords (sym (g ∙ append-nil seen))
-place-run n cap rs (e ∷ es) seen at p L g h =
-    place-run n cap rs es (cond b (e ∷ []) (seen ++ e ∷ [])) (cond b (placeOf e) at) (perform n e (cond b (flushed flushFrom n p) p)) (L .1) (here b) (pending b)
+place-run n cap narrow rs [] seen at p L g h = h ∙ ap cliffords (sym (g ∙ append-nil seen))
+place-run n cap narrow rs (e ∷ es) seen at p L g h =
+    place-run n cap narrow rs es (cond b (e ∷ []) (seen ++ e ∷ [])) (cond b (placeOf e) at) (perform n e (cond b (flushed flushFrom n p) p)) (L .1) (here b) (pending b)
   where
     b : Bool
     b = exceeds n cap (p .table) (e .gate)
 
-    here : (b : Bool) → gatesFrom (cond b (placeOf e) at) rs ≡ cond b (e ∷ []) (seen ++ e ∷ []) ++ es
+    here : (b : Bool) → gatesFrom narrow (cond b (placeOf e) at) rs ≡ cond b (e ∷ []) (seen ++ e ∷ []) ++ es
     here true = L .0
     here false = g ∙ sym (append-snoc seen e es)
 
@@ -99,12 +100,12 @@ place-run n cap rs (e ∷ es) seen at p L g h =
 abbrev pub firstPlace : Place
 firstPlace = record { index = 0; part = 0 }
 
-pub pending-since : (n : ℕ) (cap : Cap) (rs : List Record)
-    → plainRun flushFrom n cap (lowerAll rs) (plainBegin n) .pending ≡ cliffords (gatesFrom (placeRun n cap (lowerAll rs) (plainBegin n) firstPlace) rs)
+pub pending-since : (n : ℕ) (cap : Cap) (narrow : Bool) (rs : List Record)
+    → plainRun flushFrom n cap (lowerAll narrow rs) (plainBegin n) .pending ≡ cliffords (gatesFrom narrow (placeRun n cap (lowerAll narrow rs) (plainBegin n) firstPlace) rs)
 unfolding plainBegin lowerAll gatesFrom cliffords
-pending-since n cap rs = place-run n cap rs (lowerFrom 0 rs) [] firstPlace (plainBegin n) (located-from rs [] rs 0 refl refl) refl refl
+pending-since n cap narrow rs = place-run n cap narrow rs (lowerFrom narrow 0 rs) [] firstPlace (plainBegin n) (located-from narrow rs [] rs 0 refl refl) refl refl
 
--- ---- a flush comes only before a gate that is the first of its record
+-- ---- without a narrow cap a flush comes only before a gate that is the first of its record
 
 abbrev Whole : List (Placed Elementary) → Type 0
 Whole [] = Unit {0}
@@ -142,10 +143,11 @@ whole-lower i KindSwap a b c = (frame 0 _, (frame 1 _, (frame 2 _, tt)))
 whole-lower i KindCy a b c = (frame 0 _, (frame 1 _, (frame 2 _, tt)))
 whole-lower i Unsupported a b c = tt
 
-whole-from : (i : ℕ) (rs : List Record) → Whole (lowerFrom i rs)
+whole-from : (i : ℕ) (rs : List Record) → Whole (lowerFrom false i rs)
 unfolding lowerFrom lower
 whole-from i [] = tt
-whole-from i (r ∷ rs) = whole-append (placedFrom i 0 (lower r)) (lowerFrom (suc i) rs) (whole-lower i (kindOf (r .kind)) (r .a) (r .b) (r .c)) (whole-from (suc i) rs)
+whole-from i (r ∷ rs) =
+    rw (lower-whole r) (whole-append (placedFrom i 0 (lower r)) (lowerFrom false (suc i) rs) (whole-lower i (kindOf (r .kind)) (r .a) (r .b) (r .c)) (whole-from (suc i) rs))
 
 whole-run : (n : ℕ) (cap : Cap) (es : List (Placed Elementary)) (p : Plain) (at : Place) → Whole es → at .part ≡ 0 → placeRun n cap es p at .part ≡ 0
 unfolding placeRun placeStep
@@ -158,18 +160,19 @@ whole-run n cap (e ∷ es) p at W h = whole-run n cap es (plainStep flushFrom n 
     go false k = h
 
 -- the place of the last flush is a whole record
-pub place-whole : (n : ℕ) (cap : Cap) (rs : List Record) (p : Plain) → placeRun n cap (lowerAll rs) p firstPlace .part ≡ 0
+pub place-whole : (n : ℕ) (cap : Cap) (rs : List Record) (p : Plain) → placeRun n cap (lowerAll false rs) p firstPlace .part ≡ 0
 unfolding lowerAll
-place-whole n cap rs p = whole-run n cap (lowerFrom 0 rs) p firstPlace (whole-from 0 rs) refl
+place-whole n cap rs p = whole-run n cap (lowerFrom false 0 rs) p firstPlace (whole-from 0 rs) refl
 
 -- ---- of a conversion
 
--- the pending gates are the frame gates from the place of the last flush on, which is a whole record
+-- the pending gates are the frame gates from the place of the last flush on
 pub pending-from-place : (x : Input)
-    → plainEnd x .pending ≡ cliffords (gatesFrom (placeRun (x .qubits) (x .cap) (gatesIn x) (plainBegin (x .qubits)) firstPlace) (records (x .gates)))
+    → plainEnd x .pending ≡ cliffords (gatesFrom (isNarrow (x .cap)) (placeRun (x .qubits) (x .cap) (gatesIn x) (plainBegin (x .qubits)) firstPlace) (records (x .gates)))
 unfolding plainEnd gatesIn
-pending-from-place x = pending-since (x .qubits) (x .cap) (records (x .gates))
+pending-from-place x = pending-since (x .qubits) (x .cap) (isNarrow (x .cap)) (records (x .gates))
 
-pub place-is-whole : (x : Input) → placeRun (x .qubits) (x .cap) (gatesIn x) (plainBegin (x .qubits)) firstPlace .part ≡ 0
+-- which is a whole record, but under a cap of 1 or 2
+pub place-is-whole : (x : Input) → isNarrow (x .cap) ≡ false → placeRun (x .qubits) (x .cap) (gatesIn x) (plainBegin (x .qubits)) firstPlace .part ≡ 0
 unfolding gatesIn
-place-is-whole x = place-whole (x .qubits) (x .cap) (records (x .gates)) (plainBegin (x .qubits))
+place-is-whole x e = rw e (place-whole (x .qubits) (x .cap) (records (x .gates)) (plainBegin (x .qubits)))

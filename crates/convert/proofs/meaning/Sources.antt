@@ -12,7 +12,7 @@ use Rattle.pauli.specs.Rows.{Row}
 use Rattle.pauli.specs.Gates.{Gate, gateH, gateX, gateZ, gateS, gateSdg, gateCnot, gateCz}
 use Rattle.pauli.specs.Rotations.{Rotation, written, Each}
 use Rattle.convert.specs.Types.{Target, Bit}
-use Rattle.convert.specs.Records.{Cap, Record, records, Elementary, clifford, elT, elTdg, elCcx, elCcz, elMeasure, lower, Placed, placed, placedFrom, lowerFrom, lowerAll, bare, From, from, mapFrom}
+use Rattle.convert.specs.Records.{Cap, Record, records, isNarrow, Elementary, clifford, elT, elTdg, elCcx, elCcz, elMeasure, lowerIn, Placed, placed, placedFrom, lowerFrom, lowerAll, bare, From, from, mapFrom}
 use Rattle.convert.specs.Plain.{Operation, asRotation, flushFrom}
 use Rattle.convert.specs.Paper.{Paper, axes, tooHeavy, sevenAngles, rotateAll, measureFirst, writes, paperPerform, paperFlushed, paperStep, paperRun, paperBegin}
 use Rattle.convert.specs.Conversion.{Input, gatesIn, paperEnd}
@@ -128,26 +128,26 @@ writes-odd n gs k (elMeasure q c) o m = measured k (Bit c) (axes n gs (elMeasure
 -- ---- the gates of records
 
 -- a gate is one of those that its record is lowered to
-abbrev Lowered : List Record → Placed Elementary → Type 0
-Lowered rs e = Member (e .gate) (getD (map lower rs) (e .index) [])
+abbrev Lowered : Bool → List Record → Placed Elementary → Type 0
+Lowered narrow rs e = Member (e .gate) (getD (map (lowerIn narrow) rs) (e .index) [])
 
 -- no index is below b or below the one before it
 abbrev Rising : ℕ → List (Placed Elementary) → Type 0
 Rising b [] = Unit {0}
 Rising b (e ∷ es) = (b ≤ e .index) × Rising (e .index) es
 
-record-at : (before after : List Record) (r : Record) → getD (map lower (before ++ r ∷ after)) (length before) [] ≡ lower r
-record-at before after r =
-    ap (λ l. getD l (length before) []) (map-append lower before (r ∷ after))
-    ∙ getD-at (map lower before) (lower r) (map lower after) [] (length before) (length-map before lower)
+record-at : (narrow : Bool) (before after : List Record) (r : Record) → getD (map (lowerIn narrow) (before ++ r ∷ after)) (length before) [] ≡ lowerIn narrow r
+record-at narrow before after r =
+    ap (λ l. getD l (length before) []) (map-append (lowerIn narrow) before (r ∷ after))
+    ∙ getD-at (map (lowerIn narrow) before) (lowerIn narrow r) (map (lowerIn narrow) after) [] (length before) (length-map before (lowerIn narrow))
 
-lowered-from : (rs before after : List Record) (i : ℕ) → i ≡ length before → rs ≡ before ++ after → All (Lowered rs) (lowerFrom i after)
+lowered-from : (narrow : Bool) (rs before after : List Record) (i : ℕ) → i ≡ length before → rs ≡ before ++ after → All (Lowered narrow rs) (lowerFrom narrow i after)
 unfolding lowerFrom
-lowered-from rs before [] i e h = tt
-lowered-from rs before (r ∷ after) i e h =
-    all-append (Lowered rs) (placedFrom i 0 (lower r)) (lowerFrom (suc i) after)
-    (each-placed (Lowered rs) i 0 (lower r) (λ k x m. rw (e, h, record-at before after r) m))
-    (lowered-from rs (before ++ r ∷ []) after (suc i) (sym (length-append before (r ∷ []) ∙ omega arith)) (h ∙ sym (append-snoc before r after)))
+lowered-from narrow rs before [] i e h = tt
+lowered-from narrow rs before (r ∷ after) i e h =
+    all-append (Lowered narrow rs) (placedFrom i 0 (lowerIn narrow r)) (lowerFrom narrow (suc i) after)
+    (each-placed (Lowered narrow rs) i 0 (lowerIn narrow r) (λ k x m. rw (e, h, record-at narrow before after r) m))
+    (lowered-from narrow rs (before ++ r ∷ []) after (suc i) (sym (length-append before (r ∷ []) ∙ omega arith)) (h ∙ sym (append-snoc before r after)))
 
 rising-lower : (b c : ℕ) (es : List (Placed Elementary)) → b ≤ c → Rising c es → Rising b es
 rising-lower b c [] le R = tt
@@ -157,55 +157,55 @@ rising-placed : (b i j : ℕ) (us : List Elementary) (vs : List (Placed Elementa
 rising-placed b i j [] vs le R = rising-lower b i vs le R
 rising-placed b i j (u ∷ us) vs le R = (le, rising-placed i i (suc j) us vs (omega arith) R)
 
-rising-from : (i : ℕ) (rs : List Record) → Rising i (lowerFrom i rs)
+rising-from : (narrow : Bool) (i : ℕ) (rs : List Record) → Rising i (lowerFrom narrow i rs)
 unfolding lowerFrom
-rising-from i [] = tt
-rising-from i (r ∷ rs) = rising-placed i i 0 (lower r) (lowerFrom (suc i) rs) (omega arith) (rising-lower i (suc i) (lowerFrom (suc i) rs) (omega arith) (rising-from (suc i) rs))
+rising-from narrow i [] = tt
+rising-from narrow i (r ∷ rs) = rising-placed i i 0 (lowerIn narrow r) (lowerFrom narrow (suc i) rs) (omega arith) (rising-lower i (suc i) (lowerFrom narrow (suc i) rs) (omega arith) (rising-from narrow (suc i) rs))
 
 -- ---- the run
 
-abbrev Pends : List Record → Placed Gate → Type 0
-Pends rs g = Member (clifford (g .gate)) (getD (map lower rs) (g .index) [])
+abbrev Pends : Bool → List Record → Placed Gate → Type 0
+Pends narrow rs g = Member (clifford (g .gate)) (getD (map (lowerIn narrow) rs) (g .index) [])
 
 -- what is known before a gate of a record from b on
-record Sourced (n : ℕ) (rs : List Record) (b : ℕ) (p : Paper) : Type 0 where
-  pending : All (Pends rs) (p .since)
-  named : All (OfRecord n rs) (p .operations)
+record Sourced (n : ℕ) (narrow : Bool) (rs : List Record) (b : ℕ) (p : Paper) : Type 0 where
+  pending : All (Pends narrow rs) (p .since)
+  named : All (OfRecord n narrow rs) (p .operations)
   never-fall : NeverFall (unflushedIndices (p .operations))
   most : All (λ i. i ≤ b) (unflushedIndices (p .operations))
 
-flush-named : (n : ℕ) (rs : List Record) (gs : List (Placed Gate)) → All (Pends rs) gs → All (OfRecord n rs) (map (mapFrom asRotation) (flushFrom n gs))
+flush-named : (n : ℕ) (narrow : Bool) (rs : List Record) (gs : List (Placed Gate)) → All (Pends narrow rs) gs → All (OfRecord n narrow rs) (map (mapFrom asRotation) (flushFrom n gs))
 unfolding flushFrom
-flush-named n rs [] h = tt
-flush-named n rs (g ∷ gs) h =
+flush-named n narrow rs [] h = tt
+flush-named n narrow rs (g ∷ gs) h =
     rw (map-append (mapFrom asRotation) (map (from (g .index)) (written n (g .gate))) (flushFrom n gs), map-from asRotation (g .index) (written n (g .gate)))
-    (all-append (OfRecord n rs) (map (from (g .index)) (map asRotation (written n (g .gate)))) (map (mapFrom asRotation) (flushFrom n gs))
-    (each-from (OfRecord n rs) (g .index) (map asRotation (written n (g .gate))) (λ o m. record { gate = clifford (g .gate); lowered = h .0; wrote = inl (m, even-turns (written n (g .gate)) (written-even n (g .gate)) o m) }))
-    (flush-named n rs gs (h .1)))
+    (all-append (OfRecord n narrow rs) (map (from (g .index)) (map asRotation (written n (g .gate)))) (map (mapFrom asRotation) (flushFrom n gs))
+    (each-from (OfRecord n narrow rs) (g .index) (map asRotation (written n (g .gate))) (λ o m. record { gate = clifford (g .gate); lowered = h .0; wrote = inl (m, even-turns (written n (g .gate)) (written-even n (g .gate)) o m) }))
+    (flush-named n narrow rs gs (h .1)))
 
-module _ (n : ℕ) (rs : List Record) (b : ℕ) (p : Paper) (S : Sourced n rs b p) where
+module _ (n : ℕ) (narrow : Bool) (rs : List Record) (b : ℕ) (p : Paper) (S : Sourced n narrow rs b p) where
   flushed-indices : unflushedIndices (paperFlushed flushFrom n p .operations) ≡ unflushedIndices (p .operations)
   flushed-indices =
       unflushed-append (p .operations) (map (mapFrom asRotation) (flushFrom n (p .since)))
       ∙ ap (λ l. unflushedIndices (p .operations) ++ l) (flush-unflushed n (p .since)) ∙ append-nil (unflushedIndices (p .operations))
 
-  sourced-flushed : Sourced n rs b (paperFlushed flushFrom n p)
+  sourced-flushed : Sourced n narrow rs b (paperFlushed flushFrom n p)
   sourced-flushed = record {
     pending = tt;
-    named = all-append (OfRecord n rs) (p .operations) _ (S .named) (flush-named n rs (p .since) (S .pending));
+    named = all-append (OfRecord n narrow rs) (p .operations) _ (S .named) (flush-named n narrow rs (p .since) (S .pending));
     never-fall = rw flushed-indices (S .never-fall);
     most = rw flushed-indices (S .most);
   }
 
   -- a gate of record i writes
-  module _ (i : ℕ) (le : b ≤ i) (e : Elementary) (m : Member e (getD (map lower rs) i [])) where
+  module _ (i : ℕ) (le : b ≤ i) (e : Elementary) (m : Member e (getD (map (lowerIn narrow) rs) i [])) where
     new : List Operation
     new = writes n (bare (p .since)) (p .given) e
 
-    more-named : All (OfRecord n rs) (p .operations ++ map (from i) new)
+    more-named : All (OfRecord n narrow rs) (p .operations ++ map (from i) new)
     unfolding new
-    more-named = all-append (OfRecord n rs) (p .operations) (map (from i) new) (S .named)
-        (each-from (OfRecord n rs) i new (λ o w. record { gate = e; lowered = m; wrote = inr (record { since = bare (p .since); given = p .given; wrote = w }, writes-odd n (bare (p .since)) (p .given) e o w) }))
+    more-named = all-append (OfRecord n narrow rs) (p .operations) (map (from i) new) (S .named)
+        (each-from (OfRecord n narrow rs) i new (λ o w. record { gate = e; lowered = m; wrote = inr (record { since = bare (p .since); given = p .given; wrote = w }, writes-odd n (bare (p .since)) (p .given) e o w) }))
 
     old : List ℕ
     old = unflushedIndices (p .operations)
@@ -232,13 +232,13 @@ module _ (n : ℕ) (rs : List Record) (b : ℕ) (p : Paper) (S : Sourced n rs b 
         (all-append (λ k. k ≤ i) old added (all-imply (λ k. k ≤ b) (λ k. k ≤ i) old (λ k h. omega arith) (S .most))
         (all-imply (λ k. k ≡ i) (λ k. k ≤ i) added (λ k e. omega arith) added-same))
 
-    sourced-more : (given : ℕ) → Sourced n rs i (record { since = p .since; operations = p .operations ++ map (from i) new; given = given })
+    sourced-more : (given : ℕ) → Sourced n narrow rs i (record { since = p .since; operations = p .operations ++ map (from i) new; given = given })
     sourced-more given = record { pending = S .pending; named = more-named; never-fall = more-never-fall; most = more-most }
 
-  sourced-perform : (i j : ℕ) → b ≤ i → (e : Elementary) → Member e (getD (map lower rs) i []) → Sourced n rs i (paperPerform n i j e p)
+  sourced-perform : (i j : ℕ) → b ≤ i → (e : Elementary) → Member e (getD (map (lowerIn narrow) rs) i []) → Sourced n narrow rs i (paperPerform n i j e p)
   unfolding paperPerform new
   sourced-perform i j le (clifford g) m = record {
-    pending = all-append (Pends rs) (p .since) (placed i j g ∷ []) (S .pending) (m, tt);
+    pending = all-append (Pends narrow rs) (p .since) (placed i j g ∷ []) (S .pending) (m, tt);
     named = S .named;
     never-fall = S .never-fall;
     most = all-imply (λ k. k ≤ b) (λ k. k ≤ i) (unflushedIndices (p .operations)) (λ k h. omega arith) (S .most);
@@ -249,37 +249,37 @@ module _ (n : ℕ) (rs : List Record) (b : ℕ) (p : Paper) (S : Sourced n rs b 
   sourced-perform i j le (elCcz a c d) m = sourced-more i le (elCcz a c d) m (p .given)
   sourced-perform i j le (elMeasure q k) m = sourced-more i le (elMeasure q k) m (suc (p .given))
 
-abbrev Claims : ℕ → List Record → List (From Operation) → Type 0
-Claims n rs os = All (OfRecord n rs) os × NeverFall (unflushedIndices os)
+abbrev Claims : ℕ → Bool → List Record → List (From Operation) → Type 0
+Claims n narrow rs os = All (OfRecord n narrow rs) os × NeverFall (unflushedIndices os)
 
-sourced-run : (n : ℕ) (cap : Cap) (rs : List Record) (b : ℕ) (es : List (Placed Elementary)) (p : Paper) → Rising b es → All (Lowered rs) es → Sourced n rs b p
-    → Claims n rs (paperRun flushFrom n cap es p .operations)
+sourced-run : (n : ℕ) (cap : Cap) (narrow : Bool) (rs : List Record) (b : ℕ) (es : List (Placed Elementary)) (p : Paper) → Rising b es → All (Lowered narrow rs) es → Sourced n narrow rs b p
+    → Claims n narrow rs (paperRun flushFrom n cap es p .operations)
 unfolding paperRun paperStep
-sourced-run n cap rs b [] p R L S = (S .named, S .never-fall)
-sourced-run n cap rs b (e ∷ es) p R L S = sourced-run n cap rs (e .index) es (paperStep flushFrom n cap e p) (R .1) (L .1) (go (tooHeavy n cap (bare (p .since)) (e .gate)))
+sourced-run n cap narrow rs b [] p R L S = (S .named, S .never-fall)
+sourced-run n cap narrow rs b (e ∷ es) p R L S = sourced-run n cap narrow rs (e .index) es (paperStep flushFrom n cap e p) (R .1) (L .1) (go (tooHeavy n cap (bare (p .since)) (e .gate)))
   where
-    go : (heavy : Bool) → Sourced n rs (e .index) (paperPerform n (e .index) (e .part) (e .gate) (cond heavy (paperFlushed flushFrom n p) p))
-    go true = sourced-perform n rs b (paperFlushed flushFrom n p) (sourced-flushed n rs b p S) (e .index) (e .part) (R .0) (e .gate) (L .0)
-    go false = sourced-perform n rs b p S (e .index) (e .part) (R .0) (e .gate) (L .0)
+    go : (heavy : Bool) → Sourced n narrow rs (e .index) (paperPerform n (e .index) (e .part) (e .gate) (cond heavy (paperFlushed flushFrom n p) p))
+    go true = sourced-perform n narrow rs b (paperFlushed flushFrom n p) (sourced-flushed n narrow rs b p S) (e .index) (e .part) (R .0) (e .gate) (L .0)
+    go false = sourced-perform n narrow rs b p S (e .index) (e .part) (R .0) (e .gate) (L .0)
 
-sourced : (n : ℕ) (cap : Cap) (rs : List Record) → Claims n rs (paperRun flushFrom n cap (lowerAll rs) paperBegin .operations)
+sourced : (n : ℕ) (cap : Cap) (narrow : Bool) (rs : List Record) → Claims n narrow rs (paperRun flushFrom n cap (lowerAll narrow rs) paperBegin .operations)
 unfolding lowerAll
-sourced n cap rs =
-    sourced-run n cap rs 0 (lowerFrom 0 rs) paperBegin (rising-from 0 rs) (lowered-from rs [] rs 0 refl refl) (record { pending = tt; named = tt; never-fall = tt; most = tt })
+sourced n cap narrow rs =
+    sourced-run n cap narrow rs 0 (lowerFrom narrow 0 rs) paperBegin (rising-from narrow 0 rs) (lowered-from narrow rs [] rs 0 refl refl) (record { pending = tt; named = tt; never-fall = tt; most = tt })
 
 -- ---- of a conversion by the papers
 
-pub paper-named : (x : Input) → All (OfRecord (x .qubits) (records (x .gates))) (paperEnd x .operations)
+pub paper-named : (x : Input) → All (OfRecord (x .qubits) (isNarrow (x .cap)) (records (x .gates))) (paperEnd x .operations)
 unfolding paperEnd gatesIn
-paper-named x = sourced (x .qubits) (x .cap) (records (x .gates)) .0
+paper-named x = sourced (x .qubits) (x .cap) (isNarrow (x .cap)) (records (x .gates)) .0
 
 pub paper-never-falls : (x : Input) → NeverFall (unflushedIndices (paperEnd x .operations))
 unfolding paperEnd gatesIn
-paper-never-falls x = sourced (x .qubits) (x .cap) (records (x .gates)) .1
+paper-never-falls x = sourced (x .qubits) (x .cap) (isNarrow (x .cap)) (records (x .gates)) .1
 
 -- an operation of a record names one of the list
-named-below : (n : ℕ) (rs : List Record) (os : List (From Operation)) → All (OfRecord n rs) os → All (λ o. o .index < length rs) os
-named-below n rs os = all-imply (OfRecord n rs) (λ o. o .index < length rs) os (λ o h. omega (arith, length-map rs lower, member-inside (map lower rs) (o .index) (h .gate) (h .lowered)))
+named-below : (n : ℕ) (narrow : Bool) (rs : List Record) (os : List (From Operation)) → All (OfRecord n narrow rs) os → All (λ o. o .index < length rs) os
+named-below n narrow rs os = all-imply (OfRecord n narrow rs) (λ o. o .index < length rs) os (λ o h. omega (arith, length-map rs (lowerIn narrow), member-inside (map (lowerIn narrow) rs) (o .index) (h .gate) (h .lowered)))
 
 pub paper-below : (x : Input) → All (λ o. o .index < length (records (x .gates))) (paperEnd x .operations)
-paper-below x = named-below (x .qubits) (records (x .gates)) (paperEnd x .operations) (paper-named x)
+paper-below x = named-below (x .qubits) (isNarrow (x .cap)) (records (x .gates)) (paperEnd x .operations) (paper-named x)

@@ -12,7 +12,8 @@ use Rattle.pauli.specs.Gates.{Gate}
 use Rattle.pauli.specs.Rotations.{Rotation}
 use Rattle.arena.proofs.Accepted.{passed-before, test-passed, left-false}
 use Rattle.convert.specs.Types.{Bit, NoTarget, Checked, Fine}
-use Rattle.convert.specs.Records.{GateKind, KindH, KindX, KindZ, KindS, KindSdg, KindT, KindTdg, KindCnot, KindCz, KindCcx, KindCcz, KindMeasure, KindY, KindSx, KindSwap, KindCy, Unsupported, Cap, Record, records, kindOf, Elementary, clifford, elT, elTdg, elCcx, elCcz, elMeasure, lowerAs, lower, Placed, placedFrom, lowerFrom, lowerAll, bare, From, from, mapFrom}
+use Rattle.convert.specs.Records.{GateKind, KindH, KindX, KindZ, KindS, KindSdg, KindT, KindTdg, KindCnot, KindCz, KindCcx, KindCcz, KindMeasure, KindY, KindSx, KindSwap, KindCy, Unsupported, Cap, Record, records, kindOf, Elementary, clifford, elT, elTdg, elCcx, elCcz, elMeasure, lowerAs, lower, isNarrow, thirteenOf, fifteenOf, partsOf, lowerParts, lowerIn, Placed, placedFrom, lowerFrom, lowerAll, bare, From, from, mapFrom}
+use Rattle.convert.proofs.counts.Parts.{Split, whole, ccx, ccz, split}
 use Rattle.convert.specs.Plain.{Operation, rotateBy, measureOf, conditionalBy, malformed, asRotation, flushFrom}
 use Rattle.convert.specs.Paper.{Paper, gateProducts, axes, tooHeavy, sevenAngles, rotateAll, writes, paperPerform, paperFlushed, paperStep, paperRun, paperBegin}
 use Rattle.convert.specs.Frame.{member}
@@ -153,12 +154,34 @@ placed-targets : (i j : ℕ) (es : List Elementary) → gather targetPlaced (pla
 placed-targets i j [] = refl
 placed-targets i j (e ∷ es) = ap (λ l. targetOfGate e ++ l) (placed-targets i (suc j) es)
 
-lowered-targets : (i : ℕ) (rs : List Record) → gather targetPlaced (lowerFrom i rs) ≡ gather targetIn rs
-unfolding lowerFrom lower
-lowered-targets i [] = refl
-lowered-targets i (r ∷ rs) =
-    gather-append targetPlaced (placedFrom i 0 (lower r)) (lowerFrom (suc i) rs)
-    ∙ ap₂ (λ us vs. us ++ vs) (placed-targets i 0 (lower r) ∙ lowered-target (kindOf (r .kind)) (r .a) (r .b) (r .c)) (lowered-targets (suc i) rs)
+-- the parts of ccx and ccz measure nothing
+whole-target : (r : Record) → gather targetOfGate (lower r) ≡ targetIn r
+unfolding lower
+whole-target r = lowered-target (kindOf (r .kind)) (r .a) (r .b) (r .c)
+
+no-thirteen : (a b d : ℕ) → gather targetOfGate (lowerParts (thirteenOf a b d)) ≡ []
+unfolding lower lowerAs kindOf
+no-thirteen a b d = refl
+
+no-fifteen : (a b d : ℕ) → gather targetOfGate (lowerParts (fifteenOf a b d)) ≡ []
+unfolding lower lowerAs kindOf
+no-fifteen a b d = refl
+
+in-target : (narrow : Bool) (r : Record) → gather targetOfGate (lowerIn narrow r) ≡ targetIn r
+unfolding lowerIn
+in-target narrow r = go (split narrow r)
+  where
+    go : Split narrow r → gather targetOfGate (lowerParts (partsOf narrow r)) ≡ targetIn r
+    go (whole e d) = rw (e, append-nil (lower r)) (whole-target r)
+    go (ccx t k e) = rw (e, k) (no-fifteen (r .a) (r .b) (r .c))
+    go (ccz t k e) = rw (e, k) (no-thirteen (r .a) (r .b) (r .c))
+
+lowered-targets : (narrow : Bool) (i : ℕ) (rs : List Record) → gather targetPlaced (lowerFrom narrow i rs) ≡ gather targetIn rs
+unfolding lowerFrom
+lowered-targets narrow i [] = refl
+lowered-targets narrow i (r ∷ rs) =
+    gather-append targetPlaced (placedFrom i 0 (lowerIn narrow r)) (lowerFrom narrow (suc i) rs)
+    ∙ ap₂ (λ us vs. us ++ vs) (placed-targets i 0 (lowerIn narrow r) ∙ in-target narrow r) (lowered-targets narrow (suc i) rs)
 
 -- ---- operations
 
@@ -233,7 +256,7 @@ run-targets n cap (e ∷ es) p =
 
 paper-targets : (x : Input) → gather targetFrom (paperEnd x .operations) ≡ gather targetIn (records (x .gates))
 unfolding paperEnd gatesIn lowerAll
-paper-targets x = run-targets (x .qubits) (x .cap) (lowerFrom 0 (records (x .gates))) paperBegin ∙ lowered-targets 0 (records (x .gates))
+paper-targets x = run-targets (x .qubits) (x .cap) (lowerFrom (isNarrow (x .cap)) 0 (records (x .gates))) paperBegin ∙ lowered-targets (isNarrow (x .cap)) 0 (records (x .gates))
 
 pub operations-apart : (l : Limits) (x : Input) → convertCheck l x ≡ Fine
     → (i j b c : ℕ) → i < j → At (λ o. OperationInto b (o .what)) (paperEnd x .operations) i → At (λ o. OperationInto c (o .what)) (paperEnd x .operations) j → b ≢ c

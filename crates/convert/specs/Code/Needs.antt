@@ -1,5 +1,5 @@
 -- What a conversion needs, counted without writing; and the place of the last flush.
-use mathlib.Core.Bool.{cond}
+use mathlib.Core.Bool.{Bool, cond}
 use mathlib.Core.List.{List, [], _∷_}
 use Prim.Native.Nat.{ℕ, _+_}
 use lib.ListN.{drop}
@@ -76,8 +76,8 @@ placeRun n cap [] p at = at
 placeRun n cap (e ∷ es) p at = placeRun n cap es (plainStep flushFrom n cap e p) (placeStep n cap e p at)
 
 -- the elementary gates of a list of records from a place on
-unfoldable pub gatesFrom : Place → List Record → List (Placed Elementary)
-gatesFrom at rs = drop (at .part) (lowerFrom (at .index) (drop (at .index) rs))
+unfoldable pub gatesFrom : (narrow : Bool) → Place → List Record → List (Placed Elementary)
+gatesFrom narrow at rs = drop (at .part) (lowerFrom narrow (at .index) (drop (at .index) rs))
 
 -- the frame gates among elementary gates
 abbrev pub cliffordAs : ℕ → ℕ → Elementary → List (Placed Gate) → List (Placed Gate)

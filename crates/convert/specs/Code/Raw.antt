@@ -2,7 +2,7 @@
 use mathlib.Core.Path.{_≡_}
 use mathlib.Core.Bool.{Bool, true, false, not, cond, _||_}
 use mathlib.Core.List.{List, [], _∷_, _++_, map}
-use Prim.Native.Nat.{ℕ, zero, suc, _+_, _*_, _/_, _<_, _≤_}
+use Prim.Native.Nat.{ℕ, zero, suc, _+_, _*_, _/_, _%_, _<_, _≤_}
 use lib.Dec.{eqb, ltb}
 use lib.Seq.{sets}
 use lib.ListN.{length, getD, set}
@@ -16,7 +16,7 @@ use Rattle.arena.specs.Operations.{rotateWords, measureWords}
 use Rattle.convert.specs.Words.{Words, startWords, wordRun, idX, idZ}
 use Rattle.convert.specs.Types.{One, PlusI, MinusOne, MinusI, Bit, PbcError, Checked, Fine, Wrong}
 use Rattle.convert.specs.Records.{GateKind, KindH, KindX, KindZ, KindS, KindSdg, KindT, KindTdg, KindCnot, KindCz, KindCcx, KindCcz, KindMeasure, KindY, KindSx, KindSwap, KindCy, Unsupported}
-use Rattle.convert.specs.Records.{Cap, NoCap, AtMost, Elementary, clifford, elT, elTdg, elCcx, elCcz, elMeasure, bare, From, from, withoutIndex, lowerAs, Record, records, kindOf, AllProper, lowerAll}
+use Rattle.convert.specs.Records.{Cap, NoCap, AtMost, Elementary, clifford, elT, elTdg, elCcx, elCcz, elMeasure, bare, From, from, withoutIndex, lowerAs, Record, recordOf, records, kindOf, isNarrow, partsAs, partsOf, expanded, AllProper, lowerAll}
 use Rattle.pauli.specs.Letters.{phaseNumber}
 use Rattle.pauli.specs.Rows.{Row, tally}
 use Rattle.pauli.specs.Doubly.{Term, term, sevenRows}
@@ -119,8 +119,8 @@ pub record Ran (n : ℕ) (gs : List Gate) (c : ℕ) (ns fs : List ℕ) (c′ : �
 
 -- ---- records among the words
 
-abbrev pub recordOf : ℕ → ℕ → ℕ → ℕ → Record
-recordOf k a b c = record { kind = k; a = a; b = b; c = c }
+abbrev pub recordAt : List ℕ → ℕ → Record
+recordAt gs i = recordOf (getD gs (4 * i) 0) (getD gs (4 * i + 1) 0) (getD gs (4 * i + 2) 0) (getD gs (4 * i + 3) 0)
 
 -- every record passed the checks: its kind is in the list, its operands are among the n qubits, and differ
 pub record Fits (n : ℕ) (gs : List ℕ) : Type 0 where
@@ -129,6 +129,56 @@ pub record Fits (n : ℕ) (gs : List ℕ) : Type 0 where
       → AllProper n (getD gs (4 * i + 2) 0 + 1) (lowerAs (kindOf (getD gs (4 * i) 0)) (getD gs (4 * i + 1) 0) (getD gs (4 * i + 2) 0) (getD gs (4 * i + 3) 0))
   pub bits : (i : ℕ) → i < length gs / 4
       → AllProper n maxCbits (lowerAs (kindOf (getD gs (4 * i) 0)) (getD gs (4 * i + 1) 0) (getD gs (4 * i + 2) 0) (getD gs (4 * i + 3) 0))
+
+-- ---- parts of records, by position: 16 times the record's index, and the part's number
+
+-- the parts of a kind under a narrow cap
+abbrev pub partCount : GateKind → ℕ
+partCount kind = length (partsAs kind (recordOf 0 0 0 0))
+
+unfoldable pub partAt : (narrow : Bool) → List ℕ → ℕ → Record
+partAt narrow gs p = getD (partsOf narrow (recordAt gs (p / 16))) (p % 16) (recordAt gs (p / 16))
+
+abbrev pub PartIn : (narrow : Bool) → List ℕ → ℕ → Type 0
+PartIn narrow gs p = (p / 16 < length gs / 4) × (p % 16 < length (partsOf narrow (recordAt gs (p / 16))))
+
+-- a part, or the end
+abbrev pub InParts : (narrow : Bool) → List ℕ → ℕ → Type 0
+InParts narrow gs p = p < 16 * (length gs / 4) → PartIn narrow gs p
+
+-- the next part of the record, or the first of the next record
+unfoldable pub nextPart : (narrow : Bool) → List ℕ → ℕ → ℕ
+nextPart narrow gs p = cond (ltb (p % 16 + 1) (length (partsOf narrow (recordAt gs (p / 16))))) (p + 1) (16 * (p / 16) + 16)
+
+-- so many parts further
+abbrev pub stepped : (narrow : Bool) → List ℕ → ℕ → ℕ → ℕ
+stepped narrow gs zero p = p
+stepped narrow gs (suc k) p = stepped narrow gs k (nextPart narrow gs p)
+
+-- word j of a record
+abbrev pub wordIn : Record → ℕ → ℕ
+wordIn r zero = r .kind
+wordIn r (suc zero) = r .a
+wordIn r (suc (suc zero)) = r .b
+wordIn r (suc (suc (suc j))) = r .c
+
+-- the words of a record
+abbrev pub recordWords : Record → List ℕ
+recordWords r = r .kind ∷ r .a ∷ r .b ∷ r .c ∷ []
+
+-- the parts of ccx, of which ccz has all but the first and the last: 16 times the kind, 4 times the first operand, and the second; 1, 2 and 3 are
+-- ccx's own operands, 0 is none
+abbrev pub packedParts : List ℕ
+packedParts = 12 ∷ 139 ∷ 108 ∷ 135 ∷ 92 ∷ 139 ∷ 108 ∷ 135 ∷ 88 ∷ 92 ∷ 134 ∷ 84 ∷ 104 ∷ 134 ∷ 12 ∷ []
+
+abbrev pub chosen : Record → ℕ → ℕ
+chosen r zero = 0
+chosen r (suc zero) = r .a
+chosen r (suc (suc zero)) = r .b
+chosen r (suc (suc (suc s))) = r .c
+
+abbrev pub unpackedPart : Record → ℕ → Record
+unpackedPart r m = recordOf (m / 16) (chosen r (m / 4 % 4)) (chosen r (m % 4)) 0
 
 -- ---- planes before a record's operations, and after its gates
 
@@ -190,8 +240,8 @@ mayFlush n NoCap = false
 mayFlush n (AtMost most) = ltb most n
 
 -- the most that a list can need
-abbrev pub mostNeeded : ℕ → Bool → List ℕ → Needed
-mostNeeded n f gs = closed f (summed (needed (1 + 2 * n) 0 0 0) (records gs))
+abbrev pub mostNeeded : ℕ → (narrow flushed : Bool) → List ℕ → Needed
+mostNeeded n narrow f gs = closed f (summed (needed (1 + 2 * n) 0 0 0) (expanded narrow (records gs)))
 
 -- the count that stands beside a plain state
 abbrev pub countFor : Plain → Needs → Needed
@@ -258,13 +308,25 @@ pub record Flushed (gs : List (From Gate)) (c : ℕ) (ns : List ℕ) (u : ℕ) (
   pub counted : c′ ≡ c + flushedNodes gs
   pub turned : u′ ≡ u + flushedOps gs
 
--- the frame gates of record i, and of so many records from i on
+-- the frame gates of record i, and of so many parts from a position on
 abbrev pub recordFrom : ℕ → GateKind → ℕ → ℕ → List (From Gate)
 recordFrom i kind a b = map (from i) (recordGates kind a b)
 
-abbrev pub gatesOver : List ℕ → ℕ → ℕ → List (From Gate)
-gatesOver gs i zero = []
-gatesOver gs i (suc k) = recordFrom i (kindOf (getD gs (4 * i) 0)) (getD gs (4 * i + 1) 0) (getD gs (4 * i + 2) 0) ++ gatesOver gs (suc i) k
+abbrev pub gatesOver : (narrow : Bool) → List ℕ → ℕ → ℕ → List (From Gate)
+gatesOver narrow gs p zero = []
+gatesOver narrow gs p (suc k) =
+    recordFrom (p / 16) (kindOf (partAt narrow gs p .kind)) (partAt narrow gs p .a) (partAt narrow gs p .b) ++ gatesOver narrow gs (nextPart narrow gs p) k
+
+-- those of so many records of a list from record i on, where the first record of the list has this index
+abbrev pub listedGates : ℕ → List ℕ → ℕ → ℕ → List (From Gate)
+listedGates index gs i zero = []
+listedGates index gs i (suc k) = recordFrom (index + i) (kindOf (recordAt gs i .kind)) (recordAt gs i .a) (recordAt gs i .b) ++ listedGates index gs (suc i) k
+
+-- the buffers are ready for a flush of the parts from one position to another
+pub record FlushOver (n : ℕ) (narrow : Bool) (gs : List ℕ) (first to : ℕ) (c : ℕ) (ns : List ℕ) (u : ℕ) (os : List ℕ) : Type 0 where
+  pub count : ℕ
+  pub ends : stepped narrow gs count first ≡ to
+  pub ready : FlushReady n (gatesOver narrow gs first count) c ns u os
 
 -- ---- ccx and ccz, by the words of a, b and d
 
@@ -359,13 +421,13 @@ pub record FlushedIf (f : Bool) (n : ℕ) (gs : List (From Gate)) (c : ℕ) (ns 
 -- ---- the ends of a conversion
 
 abbrev pub plainLast : ℕ → Cap → List ℕ → Plain
-plainLast n cap gs = plainRun flushFrom n cap (lowerAll (records gs)) (plainBegin n)
+plainLast n cap gs = plainRun flushFrom n cap (lowerAll (isNarrow cap) (records gs)) (plainBegin n)
 
 abbrev pub wordsLast : ℕ → Cap → List ℕ → Words
-wordsLast n cap gs = wordRun n cap (lowerAll (records gs)) (plainBegin n) (startWords n)
+wordsLast n cap gs = wordRun n cap (lowerAll (isNarrow cap) (records gs)) (plainBegin n) (startWords n)
 
 abbrev pub needsLast : ℕ → Cap → List ℕ → Needs
-needsLast n cap gs = needRun n cap (lowerAll (records gs)) (plainBegin n) (needsOf (1 + 2 * n) 0)
+needsLast n cap gs = needRun n cap (lowerAll (isNarrow cap) (records gs)) (plainBegin n) (needsOf (1 + 2 * n) 0)
 
 -- the needs fit
 pub record Room (n : ℕ) (cap : Cap) (gs ns os : List ℕ) : Type 0 where

@@ -1,13 +1,13 @@
 -- Tables that are made once a conversion: an entry for each kind from number 0 to 20.
 use mathlib.Core.Path.{_≡_}
-use mathlib.Core.Bool.{Bool, true, false}
+use mathlib.Core.Bool.{Bool, true, false, cond, _&&_}
 use mathlib.Core.List.{List, [], _∷_, map}
 use Prim.Native.Nat.{ℕ, _+_, _*_}
 use Rattle.pauli.specs.Gates.{Gate, gateH, gateX, gateZ, gateS, gateSdg, gateCnot, gateCz}
 use Rattle.convert.specs.Types.{Checked}
-use Rattle.convert.specs.Records.{GateKind, Shape, NoShape, OneQubit, TwoQubits, ThreeQubits, Measured, shapeOf, kinds, kindOf, Record, records, Elementary, clifford, elT, elTdg, elCcx, elCcz, elMeasure, lowerAs}
-use Rattle.convert.specs.Conversion.{isMeasure, recordChecked, recordsChecked}
-use Rattle.convert.specs.Code.Raw.{recordOf, costOf, closed, firstWordOf}
+use Rattle.convert.specs.Records.{GateKind, Shape, NoShape, OneQubit, TwoQubits, ThreeQubits, Measured, shapeOf, kinds, kindOf, Record, recordOf, records, partsAs, Elementary, clifford, elT, elTdg, elCcx, elCcz, elMeasure, lowerAs}
+use Rattle.convert.specs.Conversion.{isDoubly, isMeasure, recordChecked, recordsChecked}
+use Rattle.convert.specs.Code.Raw.{costOf, closed, firstWordOf}
 use Rattle.convert.specs.declared.count.Needed.{Needed}
 
 abbrev pub tableOf : (GateKind → ℕ) → List ℕ
@@ -61,6 +61,10 @@ packedCost f kind = together (closed f (costOf kind))
 unfoldable pub sumOver : (GateKind → ℕ) → List Record → ℕ
 sumOver f [] = 0
 sumOver f (r ∷ rs) = f (kindOf (r .kind)) + sumOver f rs
+
+-- and over the parts of a kind
+unfoldable pub sumIn : (narrow : Bool) → (GateKind → ℕ) → GateKind → ℕ
+sumIn narrow f kind = cond (narrow && isDoubly kind) (sumOver f (partsAs kind (recordOf 0 0 0 0))) (f kind)
 
 -- ---- forms
 

@@ -19,7 +19,7 @@ tested-by-requires c κs =
 returns : tie.Need-returns
 returns c =
     let args = c .before .before .before .before .args in
-    rw (c .enum-told .given .1) (decided-uncapped (args .n) (args .kind) (args .a) (args .b) (args .d) (args .planes .now), λ on. refuted on)
+    rw (c .enum-told .given .1) (decided-uncapped (args .n) (args .kind) (args .a) (args .b) (args .d) (args .planes .now), λ on off. refuted on)
 
 same-length : tie.Need-same-length
 same-length c = search needs
@@ -27,7 +27,7 @@ same-length c = search needs
 returns-2 : tie.Need-returns-2
 returns-2 c =
     let tested-by = c .before .before .tested-by in
-    rw (c .before .before .before .before .before .cap .given .1) (tested-by .ensures .0, λ on. tested-by .ensures .1)
+    rw (c .before .before .before .before .before .cap .given .1) (tested-by .ensures .0, λ on off. tested-by .ensures .1 off)
 
 pub decide-by-spec : {M : Type 1} → statement M
 decide-by-spec =

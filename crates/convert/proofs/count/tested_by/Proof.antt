@@ -26,8 +26,8 @@ returns c =
     let r = p .1 .1 .1 .0 in (
       decided-untested (a .n) (a .l) (a .most) (a .kind) (a .a) (a .b) (a .d) (a .planes .now) _ (p .1 .0 .0) (p .0) (bits-untested (a .kind) (a .form)
           (p .1 .1 .0) (c .before .before .before .before .if1 .taken)) (c .before .before .planes-by .ensures),
-      since-more (a .n) (a .l) (omega (arith, p .1 .0 .0)) (a .gates .now) (a .kind) (a .to) false (a .a) (a .b) (a .from) (a .planes .now) _ (p .1 .0 .1)
-          (r .0) (r .2) (r .3) (p .1 .1 .1 .1) (c .before .before .planes-by .ensures),
+      λ off. since-more (a .n) (a .l) (omega (arith, p .1 .0 .0)) (a .gates .now) (a .kind) (a .to) false (a .a) (a .b) (a .from) (a .planes .now) _ (p .1 .0 .1)
+          (r .0 off) (r .2 off .0) (r .2 off .1) (p .1 .1 .1 .1 off) (c .before .before .planes-by .ensures),
     )
 
 heavy-by-requires : tie.Need-heavy-by-requires
@@ -55,8 +55,8 @@ returns-2 c =
     let tested = bits-tested (a .kind) (a .form) (p .1 .1 .0) (c .before .before .before .before .before .before .if1 .left) in (
       decided-tested (a .n) (a .l) (a .most) (a .kind) (a .a) (a .b) (a .d) (a .planes .now) (heavy-by .result) _ (p .1 .0 .0) (p .0) tested
           (heavy-by .ensures) (refresh-since .ensures),
-      since-more (a .n) (a .l) (omega (arith, p .1 .0 .0)) (a .gates .now) (a .kind) (a .to) (heavy-by .result) (a .a) (a .b) (a .from) (a .planes .now) _
-          (p .1 .0 .1) (r .0) (r .2) (r .3) (p .1 .1 .1 .1)
+      λ off. since-more (a .n) (a .l) (omega (arith, p .1 .0 .0)) (a .gates .now) (a .kind) (a .to) (heavy-by .result) (a .a) (a .b) (a .from) (a .planes .now) _
+          (p .1 .0 .1) (r .0 off) (r .2 off .0) (r .2 off .1) (p .1 .1 .1 .1 off)
           (refresh-since .ensures ∙ run-tested (a .l) (a .kind) (a .a) (a .b) (refreshed (heavy-by .result) (a .n) (a .l) (a .planes .now)) tested),
     )
 
