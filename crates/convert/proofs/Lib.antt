@@ -14,3 +14,4 @@ pub mod Examples
 pub mod Theorems
 pub mod LaterExamples
 pub mod Pins
+pub mod RoutedPins

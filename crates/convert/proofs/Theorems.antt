@@ -1,9 +1,9 @@
 -- What is claimed of the conversion and of the later calls, in the words of specs/.
 use mathlib.Core.Path.{_≡_, refl, ap, ap₂, sym, _∙_, subst}
 use mathlib.Core.Logic.{_≢_}
-use mathlib.Core.Bool.{false, true≢false}
+use mathlib.Core.Bool.{true, false, true≢false}
 use mathlib.Core.List.{List, [], _∷_, map, Perm}
-use Prim.Native.Nat.{ℕ, _*_, _≤_, _<_}
+use Prim.Native.Nat.{ℕ, _*_, _<_}
 use native.Mathlib.Omega.{arith}
 use lib.ListN.{length, take}
 use lib.Seq.{take-all}
@@ -18,21 +18,21 @@ use Rattle.arena.specs.Nodes.{image}
 use Rattle.arena.specs.Builder.{overlay}
 use Rattle.arena.specs.Walk.{fine, refused as refusedWith}
 use Rattle.arena.specs.Readers.{Report}
-use Rattle.arena.specs.Expansion.{badNodes, badOperations, expandStep, hermitianStep, reportStep}
+use Rattle.arena.specs.Expansion.{badNodes, badOperations, expandStep, hermitianStep, reportStep, kindReportStep}
 use Rattle.arena.proofs.NodeRows.{image-older}
 use Rattle.arena.proofs.Readable.{both-false}
 use Rattle.arena.proofs.Theorems.{expand-bad, hermitian-bad, report-bad}
 use Rattle.convert.specs.Types.{Header, PauliRef, PbcError, BadStore, TargetTaken, Fine, Wrong}
-use Rattle.convert.specs.Records.{isNarrow, KindY, KindSx, KindSwap, KindCy, Cap, AtMost, records, lowerAll, kindOf, Elementary, Placed, bare, mapFrom, withoutIndex, AllProper}
+use Rattle.convert.specs.Records.{isNarrow, KindY, KindSx, KindSwap, KindCy, Cap, records, lowerAll, kindOf, Elementary, Placed, bare, mapFrom, withoutIndex, AllProper}
 use Rattle.convert.specs.Plain.{plainBegin, flushFrom, plainRun}
-use Rattle.convert.specs.Paper.{AllHermitian}
 use Rattle.convert.specs.Frame.{Arena, frameGates, cliffordCheck, opened}
 use Rattle.convert.specs.Words.{Words, decoded, meaning, opFrom, opsFrom, operationsIn, wordRun, startWords}
 use Rattle.convert.specs.Conversion.{Limits, limits, Input, gatesIn, plainEnd, tableEnd, paperEnd, wordEnd, gatesCheck, convertCheck, convertedHeader, ConvertedMade, ConvertedRefused, convertWithin, convertStep}
 use Rattle.convert.specs.Later.{Circuit, converted, LaterCall, callFrame, later, laters, AllCarried}
-use Rattle.convert.specs.Statement.{AllWithin, Capped, Frame, Means, frameImages, Converts, endTable, endGates, Demand3}
+use Rattle.convert.specs.Statement.{Frame, Means, frameImages, Converts, endTable, endGates, Demand3}
 use Rattle.convert.specs.Lowering.{ruleY, ruleSx, ruleSwap, ruleCy, loweredActs}
 use Rattle.convert.specs.Sources.{All, OfRecord, unflushedIndices, NeverFall, Sources}
+use Rattle.convert.specs.Routing.{AllRouted, RoutedWeights}
 use Rattle.convert.specs.Targets.{At, OperationInto, Repeats, TargetsDiffer}
 use Rattle.convert.specs.Thirteen.{reordered, ThirteenAsSeven, ThirteenInPlace, NarrowAsReplaced}
 use Rattle.convert.specs.Circuits.{HandCircuits}
@@ -40,9 +40,8 @@ use Rattle.convert.proofs.meaning.Nodes.{image-append}
 use Rattle.convert.proofs.meaning.FrameRows.{Keeps, kept-map, Shows, shown}
 use Rattle.convert.proofs.meaning.Words.{Meant, meant, reads-kept}
 use Rattle.convert.proofs.meaning.Papers.{table-run}
-use Rattle.convert.proofs.meaning.Signs.{hermitian}
 use Rattle.convert.proofs.Accepted.{accepted, FitsGate, fits-gate}
-use Rattle.convert.proofs.meaning.Cap.{capped}
+use Rattle.convert.proofs.meaning.Routing.{light-from, routed}
 use Rattle.convert.proofs.meaning.Sources.{paper-below, paper-named, paper-never-falls}
 use Rattle.convert.proofs.meaning.Repeats.{refused-repeats, repeats-refused, refused-early, early-refused}
 use Rattle.convert.proofs.meaning.Targets.{records-apart, operations-apart}
@@ -54,7 +53,7 @@ use Rattle.convert.proofs.Replaced.{as-replaced}
 use Rattle.convert.proofs.meaning.Operations.{ops-read}
 use Rattle.convert.proofs.calls.Readable.{rowsOpened, gate-shows, reads-nodes, reads-back, reads-laters}
 use Rattle.convert.proofs.calls.Operations.{operates-on, operates-back, operates-laters}
-use Rattle.convert.proofs.calls.Converted.{sized-words, reads-converted, operates-converted, report-within, converted-made, converted-refused}
+use Rattle.convert.proofs.calls.Converted.{sized-words, reads-converted, operates-converted, weights-routed, converted-made, converted-refused}
 
 -- ---- Means
 
@@ -87,13 +86,9 @@ flush-acts n cbits cap es v Q w = flush-as-gates n _ Q (meant n 0 cbits cap es v
 
 -- ---- an accepted conversion
 
-hermitian-input : (x : Input) → convertCheck limits x ≡ Fine → AllHermitian (withoutIndex (paperEnd x .operations))
-unfolding paperEnd
-hermitian-input x e = hermitian (x .qubits) (x .cbits) (x .cap) (gatesIn x) (accepted limits x e .proper)
-
-capped-input : (x : Input) → convertCheck limits x ≡ Fine → Capped (x .cap) (withoutIndex (paperEnd x .operations))
+routed-input : (x : Input) → convertCheck limits x ≡ Fine → AllRouted (x .cap) (withoutIndex (paperEnd x .operations))
 unfolding paperEnd gatesIn lowerAll
-capped-input x e = capped (x .qubits) (x .cbits) 0 (x .cap) (records (x .gates)) (accepted limits x e .proper) (accepted limits x e .cap)
+routed-input x e = routed flushFrom light-from (x .qubits) (x .cbits) (x .cap) (records (x .gates)) (accepted limits x e .proper) (accepted limits x e .cap)
 
 -- ---- the frame words of a circuit, read through all its words
 
@@ -162,8 +157,7 @@ operations-read x e =
 pub converts : (x : Input) → convertCheck limits x ≡ Fine → Converts x
 converts x e = record {
   operations = operations-read x e;
-  hermitian = hermitian-input x e;
-  capped = capped-input x e;
+  routed = routed-input x e;
   measurements = agrees-input x e .given;
   frame = subst (λ t. Frame (x .qubits) (bare (paperEnd x .since)) t) (sym (images-are (x .qubits) (converted x) _ (good-converted x e .qubits) (good-converted x e .shows) ∙ agrees-input x e .table-of))
       (frame-table (x .qubits) (bare (paperEnd x .since)) (agrees-input x e .valid));
@@ -220,6 +214,25 @@ thirteen-in-place = in-place-of
 -- under these caps a conversion is `to_pbc` on those gates, but for the index of the original gate
 pub narrow-as-replaced : NarrowAsReplaced
 narrow-as-replaced = as-replaced
+
+-- ---- E6 of document 02: what the cap guarantees
+
+-- every operation that an accepted conversion leaves in its words: odd angles and measurements have sign +1 or -1 and a weight within the cap;
+-- even angles have sign +1 and weight at most 2, and come under a cap alone
+pub cap-guarantee : (x : Input) → convertCheck limits x ≡ Fine
+    → AllRouted (x .cap) (withoutIndex (operationsIn (convertedHeader x) (convertStep x .nodes) (convertStep x .operations)))
+cap-guarantee x e = subst (λ os. AllRouted (x .cap) (withoutIndex os)) (sym (converts x e .operations)) (converts x e .routed)
+
+-- so do the weight reports on them, where they answer: under a cap at most the cap, and at most 2 of Clifford rotations; without one no Clifford rotation
+pub report-routed : (x : Input) → convertCheck limits x ≡ Fine → (scratch pool : List ℕ) (limit : ℕ) (r : Report)
+    → reportStep (convertedHeader x) (convertStep x .nodes) (convertStep x .operations) scratch pool limit .answer ≡ fine r → RoutedWeights (x .cap) (r .weights)
+unfolding reportStep
+report-routed x e = weights-routed true (x .cap) (convertedHeader x) (convertStep x .nodes) (convertStep x .operations) (cap-guarantee x e)
+
+pub kind-report-routed : (x : Input) → convertCheck limits x ≡ Fine → (scratch pool : List ℕ) (limit : ℕ) (r : Report)
+    → kindReportStep (convertedHeader x) (convertStep x .nodes) (convertStep x .operations) scratch pool limit .answer ≡ fine r → RoutedWeights (x .cap) (r .weights)
+unfolding kindReportStep
+kind-report-routed x e = weights-routed false (x .cap) (convertedHeader x) (convertStep x .nodes) (convertStep x .operations) (cap-guarantee x e)
 
 -- ---- demand 3
 
@@ -296,12 +309,6 @@ pub report-never-bad-store : (x : Input) → convertCheck limits x ≡ Fine → 
 report-never-bad-store x e cs a scratch pool limit p =
     true≢false (sym (report-bad (laters cs (converted x) .header) (laters cs (converted x) .nodes) (laters cs (converted x) .operations) scratch pool limit p)
     ∙ both-false _ _ (nodes-readable x e cs) (operations-readable x e cs a))
-
--- a report on an accepted conversion under a cap answers no larger weight, but for Clifford rotations
-pub report-capped : (x : Input) → convertCheck limits x ≡ Fine → (cap : ℕ) → x .cap ≡ AtMost cap → (scratch pool : List ℕ) (limit : ℕ) (r : Report)
-    → reportStep (convertedHeader x) (convertStep x .nodes) (convertStep x .operations) scratch pool limit .answer ≡ fine r → r .weights .nonClifford ≤ cap
-report-capped x e cap c scratch pool limit r p = report-within (convertedHeader x) (convertStep x .nodes) (convertStep x .operations) scratch pool limit r cap p
-    (subst (λ os. AllWithin cap (withoutIndex os)) (sym (converts x e .operations)) (subst (λ k. Capped k (withoutIndex (paperEnd x .operations))) c (converts x e .capped)))
 
 -- ---- lowering: the lowered gates act by conjugation as the gate does
 

@@ -8,8 +8,9 @@ pub mod Numbers
 pub mod Papers
 pub mod Signs
 pub mod Pending
-pub mod Cap
 pub mod Sources
+pub mod Cap
+pub mod Routing
 pub mod Repeats
 pub mod Targets
 pub mod Operations

@@ -1,15 +1,13 @@
 -- The conversion by the papers alone: no table. An axis is U† P U for the Clifford gates U since the last flush.
-use mathlib.Core.Path.{_≡_}
-use mathlib.Core.Bool.{Bool, true, false, cond}
+use mathlib.Core.Bool.{Bool, false, cond}
 use mathlib.Core.List.{List, [], _∷_, _++_, map}
 use Prim.Native.Nat.{ℕ, suc}
-use Rattle.pauli.specs.Letters.{real}
 use Rattle.pauli.specs.Rows.{Row, single}
 use Rattle.pauli.specs.Gates.{Gate, back}
 use Rattle.pauli.specs.Doubly.{sevenRows}
 use Rattle.convert.specs.Types.{X, Z, Target, Bit}
 use Rattle.convert.specs.Records.{Cap, NoCap, AtMost, Elementary, clifford, elT, elTdg, elCcx, elCcz, elMeasure, Placed, placed, bare, From, from, mapFrom}
-use Rattle.convert.specs.Plain.{Operation, rotateBy, measureOf, conditionalBy, malformed, seven, anyAbove, Flush, asRotation}
+use Rattle.convert.specs.Plain.{Operation, rotateBy, measureOf, seven, anyAbove, Flush, asRotation}
 
 -- the Clifford gates since the last flush, the operations with the gate records that they are of, and the measurements given
 pub record Paper : Type 0 where
@@ -85,14 +83,3 @@ paperRun flush n cap (e ∷ es) p = paperRun flush n cap es (paperStep flush n c
 
 abbrev pub paperBegin : Paper
 paperBegin = record { since = []; operations = []; given = 0 }
-
--- every axis has sign +1 or -1
-abbrev pub Hermitian : Operation → Type 0
-Hermitian (rotateBy k P) = real (P .phase) ≡ true
-Hermitian (measureOf P m b) = real (P .phase) ≡ true
-Hermitian (conditionalBy k P m) = real (P .phase) ≡ true
-Hermitian malformed = ⊥
-
-abbrev pub AllHermitian : List Operation → Type 0
-AllHermitian [] = Unit {0}
-AllHermitian (o ∷ os) = Hermitian o × AllHermitian os

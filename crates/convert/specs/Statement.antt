@@ -2,21 +2,21 @@
 use mathlib.Core.Path.{_≡_}
 use mathlib.Core.Logic.{_≢_}
 use mathlib.Core.Bool.{Bool, true}
-use mathlib.Core.List.{List, [], _∷_, _++_, map}
-use Prim.Native.Nat.{ℕ, _+_, _*_, _%_, _<_, _≤_}
+use mathlib.Core.List.{List, _++_, map}
+use Prim.Native.Nat.{ℕ, _+_, _*_, _<_}
 use lib.ListN.{length, getD, take}
 use Rattle.pauli.specs.Letters.{real}
-use Rattle.pauli.specs.Rows.{Row, identity, weight}
+use Rattle.pauli.specs.Rows.{Row, identity}
 use Rattle.pauli.specs.Gates.{Gate, back}
 use Rattle.pauli.specs.Table.{start, run, productOver}
 use Rattle.arena.specs.Nodes.{image}
-use Rattle.convert.specs.Records.{Cap, NoCap, AtMost, bare, mapFrom, withoutIndex}
-use Rattle.convert.specs.Plain.{Operation, rotateBy, measureOf, conditionalBy, malformed, Plain}
-use Rattle.convert.specs.Paper.{AllHermitian}
+use Rattle.convert.specs.Records.{bare, mapFrom, withoutIndex}
+use Rattle.convert.specs.Plain.{Plain}
 use Rattle.convert.specs.Frame.{word}
 use Rattle.convert.specs.Words.{Words, decoded, meaning, operationsIn}
 use Rattle.convert.specs.Conversion.{Input, plainEnd, tableEnd, paperEnd, convertedHeader, convertStep}
 use Rattle.convert.specs.Later.{Circuit, converted, LaterCall, fed}
+use Rattle.convert.specs.Routing.{AllRouted}
 
 -- rows that are U† P U for U the gates gs and P the X or Z of each place, with sign +1 or -1, and independent
 pub record Frame (n : ℕ) (gs : List Gate) (t : List Row) : Type 0 where
@@ -35,26 +35,10 @@ pub record Means (n owner cbits : ℕ) (p : Plain) (w : Words) : Type 0 where
 unfoldable pub frameImages : Circuit → List Row
 frameImages s = map (image (s .header .qubits) (s .header .nodes) (s .nodes)) (take (2 * s .header .qubits) (s .frame))
 
--- an axis with an odd angle, or measured, has at most so many letters other than I
-abbrev pub Within : ℕ → Operation → Type 0
-Within cap (rotateBy k P) = k % 2 ≡ 1 → weight (P .letters) ≤ cap
-Within cap (measureOf P m b) = weight (P .letters) ≤ cap
-Within cap (conditionalBy k P m) = weight (P .letters) ≤ cap
-Within cap malformed = ⊥
-
-abbrev pub AllWithin : ℕ → List Operation → Type 0
-AllWithin cap [] = Unit {0}
-AllWithin cap (o ∷ os) = Within cap o × AllWithin cap os
-
-abbrev pub Capped : Cap → List Operation → Type 0
-Capped NoCap os = Unit {0}
-Capped (AtMost cap) os = AllWithin cap os
-
 -- an accepted conversion: its operation words, read through its node words, are the operations of the papers, each with its gate record
 pub record Converts (x : Input) : Type 0 where
   pub operations : operationsIn (convertedHeader x) (convertStep x .nodes) (convertStep x .operations) ≡ paperEnd x .operations
-  pub hermitian : AllHermitian (withoutIndex (paperEnd x .operations))
-  pub capped : Capped (x .cap) (withoutIndex (paperEnd x .operations))
+  pub routed : AllRouted (x .cap) (withoutIndex (paperEnd x .operations))
   pub measurements : convertedHeader x .measurements ≡ paperEnd x .given
   pub frame : Frame (x .qubits) (bare (paperEnd x .since)) (frameImages (converted x))
 

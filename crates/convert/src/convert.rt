@@ -17,7 +17,10 @@ ghost use Prim.Native.Nat.{_+_, _*_, _≤_};
 ghost use lib.ListN.{length};
 ghost use Rattle.arena.specs.Builder.{headerOf};
 ghost use Rattle.convert.specs.Planes.{partWords};
-ghost use Rattle.convert.specs.Conversion.{convertStep, convertOf, inputOf};
+ghost use Rattle.convert.specs.Records.{withoutIndex};
+ghost use Rattle.convert.specs.Words.{operationsIn};
+ghost use Rattle.convert.specs.Conversion.{ConvertedMade, convertStep, convertOf, inputOf};
+ghost use Rattle.convert.specs.Routing.{AllRouted};
 ghost use Rattle.convert.specs.Code.Raw.{isCapped, Fits, NeedsChecked};
 
 /// What `to_pbc` answers.
@@ -86,7 +89,7 @@ fn check_needs(
 /// The gate list as a Pauli-based circuit. Under a cap of 1 or 2, ccx and ccz are written first as gates with short axes, and their operations keep their
 /// index. Refuses with 1, 2, 5, 7, 8, 9, 24, 11 to 15. O(gates) without a cap; under a cap each gate works on
 /// whole images, O(gates × qubits / 64), and a flush on those touched since the last one, or on all; once more where the room lent might be too small.
-/// Promise: `convertStep`.
+/// Promise: `convertStep`, and of the operations left what the cap guarantees (`AllRouted`).
 pub fn to_pbc(
     qubits: u32,
     cbits: u32,
@@ -102,6 +105,7 @@ pub fn to_pbc(
         convertOf r (now (nodes .exit)) (now (operations .exit)) (now (frame .exit)) (now (planes .exit))
         ≡ convertStep
         (inputOf qubits cbits owner cap (now (gates .entry)) (now (nodes .entry)) (now (operations .entry)) (now (frame .entry)) (now (planes .entry))) ⌝ }
+    ensures { λ r. ⌜ ((h : Header) → r ≡ ConvertedMade h → AllRouted cap (withoutIndex (operationsIn h (now (nodes .exit)) (now (operations .exit))))) ⌝ }
 {
     let checked = check_gates(qubits, cbits, cap, gates, planes.len());
     if let Checked::Wrong(error) = checked {

@@ -5,7 +5,7 @@ use mathlib.Core.List.{List, [], _∷_, _++_, map, append-nil, append-assoc}
 use Prim.Native.Nat.{ℕ, suc}
 use lib.Dec.{eqb}
 use Rattle.pauli.specs.Rows.{Row}
-use Rattle.pauli.specs.Rotations.{Rotation, flush}
+use Rattle.pauli.specs.Rotations.{Rotation}
 use Rattle.convert.specs.Records.{isNarrow, thirteenOf, fifteenOf, partsOf, lowerParts, lowerIn, Record, records, kindOf, Elementary, clifford, elT, elTdg, elCcx, elCcz, elMeasure, lowerAs, lower, placedFrom, lowerFrom, lowerAll, Placed, bare, From, from, withoutIndex}
 use Rattle.convert.specs.Plain.{Operation, rotateBy, measureOf, conditionalBy, malformed, asRotation, flushFrom}
 use Rattle.convert.specs.Paper.{Paper, gateProducts, axes, tooHeavy, rotateAll, writes, paperPerform, paperFlushed, paperStep, paperRun, paperBegin}
@@ -70,7 +70,7 @@ bits-perform n i j (elMeasure q k) p = more-from (p .operations) i (writes n (ba
 
 bits-flushed : (n : ℕ) (p : Paper) → bitsOf (paperFlushed flushFrom n p) ≡ bitsOf p
 bits-flushed n p =
-    ap operationBits (without-flushed (p .operations) n (p .since)) ∙ more (withoutIndex (p .operations)) _ [] (bits-rotations (flush n (bare (p .since)))) ∙ append-nil (bitsOf p)
+    ap operationBits (without-flushed (p .operations) (flushFrom n (p .since))) ∙ more (withoutIndex (p .operations)) _ [] (bits-rotations (withoutIndex (flushFrom n (p .since)))) ∙ append-nil (bitsOf p)
 
 bits-step : (n : ℕ) (cap : Cap) (e : Placed Elementary) (p : Paper) → bitsOf (paperStep flushFrom n cap e p) ≡ bitsOf p ++ elementBits (e .gate)
 unfolding paperStep

@@ -12,7 +12,7 @@ use Rattle.pauli.proofs.Rows.{width-★}
 use Rattle.convert.specs.Records.{Elementary, clifford, elT, elTdg, elCcx, elCcz, elMeasure, Placed, bare, from, withoutIndex, Proper, AllProper}
 use Rattle.convert.specs.Plain.{Operation, asRotation, seven, flushFrom}
 use Rattle.convert.specs.Paper.{Paper, gateProducts, axes, tooHeavy, sevenAngles, rotateAll, writes, paperPerform, paperFlushed, paperStep, paperRun}
-use Rattle.convert.proofs.meaning.Words.{without-more, without-flushed, valid-append, bare-snoc}
+use Rattle.convert.proofs.meaning.Words.{without-more, flush-without, without-flushed, valid-append, bare-snoc}
 use Rattle.operators.specs.Types.{Pauli, X, Z, Cap}
 use Rattle.operators.specs.Operators.{Operators, rootTo, turn}
 use Rattle.operators.specs.Textbook.{seen, controlled}
@@ -73,7 +73,8 @@ module _ {n : ℕ} (O : Operators n) (outcome : ℕ → Bool) where
   unfolding flush
   flushed-value p =
       let gs = bare (p .since) in
-      sym (O .one-left _ ∙ ap ops (without-flushed (p .operations) n (p .since)) ∙ ops-append (withoutIndex (p .operations)) (map asRotation (flush n gs))
+      sym (O .one-left _ ∙ ap ops (without-flushed (p .operations) (flushFrom n (p .since))) ∙ ap (λ rs. ops (withoutIndex (p .operations) ++ map asRotation rs)) (flush-without n (p .since))
+      ∙ ops-append (withoutIndex (p .operations)) (map asRotation (flush n gs))
       ∙ ap (λ a. a ⊠ ops (withoutIndex (p .operations))) (ops-turns (flush n gs)))
 
   -- an operator in front of the gates that is a list of operations behind them

@@ -1,13 +1,13 @@
--- What a flush writes is light: each axis has weight at most 2 and sign +1, and each angle is even.
+-- Weights: of one letter, of a product; and what a flush writes is light: each axis has weight at most 2 and sign +1, and each angle is even.
 use mathlib.Core.Path.{_≡_, refl, ap, sym, subst}
 use mathlib.Core.Logic.{_≢_}
 use mathlib.Core.Bool.{Bool, true, false}
 use mathlib.Core.List.{List, [], _∷_, _++_}
-use Prim.Native.Nat.{ℕ, zero, suc, _<_, _≤_, _%_}
+use Prim.Native.Nat.{ℕ, zero, suc, _+_, _<_, _≤_, _%_}
 use native.Mathlib.Omega.{arith}
 use lib.ListN.{set, replicate}
-use Rattle.pauli.specs.Letters.{Pauli, One, I, X, Z}
-use Rattle.pauli.specs.Rows.{_★_, single, tally, present, weight}
+use Rattle.pauli.specs.Letters.{Pauli, One, I, X, Y, Z, _·_}
+use Rattle.pauli.specs.Rows.{products, _★_, single, tally, present, weight}
 use Rattle.pauli.specs.Gates.{Gate, gateH, gateX, gateZ, gateS, gateSdg, gateCnot, gateCz, Valid, AllValid}
 use Rattle.pauli.specs.Rotations.{Rotation, Each, written, flush}
 use Rattle.pauli.proofs.Short.{pair, pair-of}
@@ -28,6 +28,22 @@ weight-set : (u : List Pauli) (q : ℕ) (a : Pauli) → weight (set u q a) ≤ s
 weight-set [] q a = omega arith
 weight-set (b ∷ u) zero a = tally-most (present a) (weight u) (weight (b ∷ u)) (tally-least (present b) (weight u))
 weight-set (b ∷ u) (suc q) a = tally-up (present b) (weight (set u q a)) (weight u) (weight-set u q a)
+
+-- a product has no letter where both factors have none
+tally-product : (a b : Pauli) (x y z : ℕ) → x ≤ y + z → tally (present (a · b)) x ≤ tally (present a) y + tally (present b) z
+tally-product I b x y z h = go (present b)
+  where
+    go : (c : Bool) → tally c x ≤ y + tally c z
+    go true = omega arith
+    go false = h
+tally-product X b x y z h = omega (arith, tally-most (present (X · b)) x _ h, tally-least (present b) z)
+tally-product Y b x y z h = omega (arith, tally-most (present (Y · b)) x _ h, tally-least (present b) z)
+tally-product Z b x y z h = omega (arith, tally-most (present (Z · b)) x _ h, tally-least (present b) z)
+
+pub weight-products : (us vs : List Pauli) → weight (products us vs) ≤ weight us + weight vs
+weight-products [] vs = omega arith
+weight-products (a ∷ us) [] = omega arith
+weight-products (a ∷ us) (b ∷ vs) = tally-product a b _ (weight us) (weight vs) (weight-products us vs)
 
 weight-I : (n : ℕ) → weight (replicate n I) ≡ 0
 weight-I zero = refl

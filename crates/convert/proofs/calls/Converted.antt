@@ -1,38 +1,38 @@
--- What an accepted conversion leaves can be read; its report is within the cap.
-use mathlib.Core.Path.{_≡_, refl, ap, ap₂, sym, _∙_, subst}
+-- What an accepted conversion leaves can be read; its reports are within the cap.
+use mathlib.Core.Path.{_≡_, refl, ap, sym, _∙_, subst}
 use mathlib.Core.Bool.{Bool, true, false, cond, true≢false}
-use mathlib.Core.List.{List, [], _∷_, _++_, map}
-use Prim.Native.Nat.{ℕ, zero, suc, _+_, _*_, _%_, _≤_, _<_}
-use native.Mathlib.Nat.{zero-add, add-zero, add-suc, suc-add}
+use mathlib.Core.List.{List, [], _∷_, map}
+use Prim.Native.Nat.{ℕ, zero, suc, _*_, _%_, _≤_, _<_}
 use native.Mathlib.Omega.{arith}
-use borrow.Author.Tests.{lt-ltb, eqb-true}
+use borrow.Author.Tests.{lt-ltb, eqb-true, eqb-false}
 use lib.Dec.{eqb}
 use lib.ListN.{length, drop, length-map}
 use Rattle.pauli.specs.Angle.{eighthsOf}
-use Rattle.pauli.specs.Rows.{weight}
+use Rattle.pauli.specs.Rows.{Row}
 use Rattle.arena.specs.Limits.{operationWords, maxGates}
 use Rattle.arena.specs.Nodes.{image}
-use Rattle.arena.specs.declared.op.AxisKind.the-variants.{None as NoKind, Pi8, Clifford}
+use Rattle.arena.specs.declared.op.AxisKind.the-variants.{the-data as AxisKind, None as NoKind, Pi8, Clifford}
 use Rattle.arena.specs.Operations.{sourceOf, angleKind, axisKind}
 use Rattle.arena.specs.Builder.{overlay}
 use Rattle.arena.specs.Walk.{fine}
-use Rattle.arena.specs.Readers.{Weights, countsNonClifford, raised, largest, wordsOf, Report}
-use Rattle.arena.specs.Expansion.{opAt, isBadOp, isNoSource, weighedOf, axesTo, reportStep}
+use Rattle.arena.specs.Readers.{countsNonClifford, countsClifford, Report}
+use Rattle.arena.specs.Expansion.{opAt, isBadOp, isNoSource, axisWord, reportBy}
+use Rattle.arena.specs.Reports.{kindAt, weightAt, Largest}
 use Rattle.arena.proofs.Overlay.{length-overlay}
 use Rattle.arena.proofs.Accepted.{Sound}
 use Rattle.arena.proofs.Readable.{both-false, formed-over}
-use Rattle.arena.proofs.walk.Readers.{report-reads}
+use Rattle.arena.proofs.WeightReports.{report-largest}
 use Rattle.convert.specs.Types.{Header, PbcError, PbcOp, Rotate, Measure, ConditionalRotate, Malformed, Checked, Fine, Wrong}
-use Rattle.convert.specs.Records.{records, From, mapFrom, withoutIndex}
+use Rattle.convert.specs.Records.{Cap, NoCap, AtMost, records, From, mapFrom, withoutIndex}
 use Rattle.convert.specs.Plain.{plainBegin}
 use Rattle.convert.specs.Words.{startWords, flat, decoded, meaning, opFrom, opsFrom, operationsIn}
 use Rattle.convert.specs.Conversion.{limits, Input, gatesIn, plainEnd, wordEnd, gatesCheck, convertCheck, planesAfter, convertedHeader, ConvertedMade, ConvertedRefused, convertAs, convertWithin, convertStep}
 use Rattle.convert.specs.Later.{converted}
-use Rattle.convert.specs.Statement.{AllWithin}
 use Rattle.convert.specs.Sources.{All}
+use Rattle.convert.specs.Routing.{Within, Light, Routed, AllRouted, RoutedWeights}
 use Rattle.convert.proofs.Accepted.{Accepted, accepted}
 use Rattle.convert.proofs.counts.Rest.{records-length}
-use Rattle.convert.proofs.meaning.Words.{Meant, map-append, without-mapped}
+use Rattle.convert.proofs.meaning.Words.{Meant, without-mapped}
 use Rattle.convert.proofs.meaning.Formed.{Formed, formed-words}
 use Rattle.convert.proofs.meaning.Numbers.{Given, given-plain, AllNumbered, good-ops, all-at}
 use Rattle.convert.proofs.meaning.Operations.{AllSized, sized-run, length-flat, ops-read}
@@ -132,64 +132,83 @@ module _ (x : Input) (e : convertCheck limits x ≡ Fine) where
         (gate-known _ (omega (arith, few-records, at-each (λ o. o .index < length (records (x .gates))) all-below i lt))));
   }
 
--- ---- the report under a cap
-
-ops-snoc : {A : Type 0} (op : ℕ → A) (i k : ℕ) → opsFrom op i (suc k) ≡ opsFrom op i k ++ (op (i + k) ∷ [])
-ops-snoc op i zero = ap (λ m. op m ∷ []) (sym (add-zero i))
-ops-snoc op i (suc k) = ap (λ l. op i ∷ l) (ops-snoc op (suc i) k ∙ ap (λ m. opsFrom op (suc i) k ++ (op m ∷ [])) (suc-add i k ∙ sym (add-suc i k)))
-
-pub axes-are : (op : ℕ → PbcOp) (k : ℕ) → axesTo op k ≡ map weighedOf (opsFrom op 0 k)
-axes-are op zero = refl
-axes-are op (suc k) =
-    ap₂ (λ l m. l ++ (weighedOf (op m) ∷ [])) (axes-are op k) (sym (zero-add k))
-    ∙ sym (map-append weighedOf (opsFrom op 0 k) (op (0 + k) ∷ [])) ∙ ap (map weighedOf) (sym (ops-snoc op 0 k))
-
-module _ (n k : ℕ) (nodes : List ℕ) (cap : ℕ) where
-  abbrev weightOf : ℕ → ℕ
-  weightOf w = weight (image n k nodes w .letters)
-
-  abbrev weightsOf : List PbcOp → Weights
-  weightsOf ops = largest true (map weighedOf ops) (map weightOf (wordsOf (map weighedOf ops)))
-
-  raised-within : (b : Bool) (w m : ℕ) → (b ≡ true → w ≤ cap) → m ≤ cap → raised b w m ≤ cap
-  raised-within true w m h le = let l : w ≤ cap = h refl in omega arith
-  raised-within false w m h le = le
-
-  -- an angle that is not Clifford is odd
-  odd : (a : ℕ) → countsNonClifford (angleKind a) ≡ true → a % 2 ≡ 1
-  odd a = go (eqb a 0) (eqb (a % 2) 1) refl
-    where
-      go : (b c : Bool) → eqb (a % 2) 1 ≡ c → countsNonClifford (cond b NoKind (cond c Pi8 Clifford)) ≡ true → a % 2 ≡ 1
-      go true c p e = absurd (true≢false (sym e))
-      go false true p e = eqb-true (a % 2) 1 p
-      go false false p e = absurd (true≢false (sym e))
-
-  pub most-within : (ops : List PbcOp) → AllWithin cap (map (meaning n k nodes) ops) → weightsOf ops .nonClifford ≤ cap
-  unfolding meaning axisKind
-  most-within [] h = omega arith
-  most-within (Rotate x a ∷ ops) h = raised-within (countsNonClifford (angleKind (eighthsOf a))) (weightOf (x .0 .word)) (weightsOf ops .nonClifford) (λ e. h .0 (odd (eighthsOf a) e)) (most-within ops (h .1))
-  most-within (Measure x m t ∷ ops) h = raised-within true (weightOf (x .0 .word)) (weightsOf ops .nonClifford) (λ e. h .0) (most-within ops (h .1))
-  most-within (ConditionalRotate x a m ∷ ops) h = raised-within (countsNonClifford (angleKind (eighthsOf a))) (weightOf (x .0 .word)) (weightsOf ops .nonClifford) (λ e. h .0) (most-within ops (h .1))
-  most-within (Malformed ∷ ops) h = absurd (h .0)
+-- ---- the weight reports, by the operations that are routed
 
 ops-without : (op : ℕ → From PbcOp) (i k : ℕ) → withoutIndex (opsFrom op i k) ≡ opsFrom (λ j. op j .what) i k
 ops-without op i zero = refl
 ops-without op i (suc k) = ap (λ l. op i .what ∷ l) (ops-without op (suc i) k)
 
--- the report on any circuit whose operations are within the cap
-pub report-within : (h : Header) (nodes ops scratch pool : List ℕ) (limit : ℕ) (r : Report) (cap : ℕ) → reportStep h nodes ops scratch pool limit .answer ≡ fine r
-    → AllWithin cap (withoutIndex (operationsIn h nodes ops)) → r .weights .nonClifford ≤ cap
-unfolding operationsIn reportStep
-report-within h nodes ops scratch pool limit r cap p w =
-    subst (λ (m : Weights). m .nonClifford ≤ cap)
-    (sym (report-reads true h nodes ops scratch pool limit r p
-    ∙ ap (λ axes. largest true axes (map (λ w. weight (image (h .qubits) (h .nodes) nodes w .letters)) (wordsOf axes))) (axes-are (opAt h ops) (h .operations))))
-    (most-within (h .qubits) (h .nodes) nodes cap (opsFrom (opAt h ops) 0 (h .operations)) (subst (AllWithin cap) plain w))
+all-map : {A B : Type 0} (P : B → Type 0) (f : A → B) (l : List A) → All P (map f l) → All (λ a. P (f a)) l
+all-map P f [] h = tt
+all-map P f (a ∷ l) h = (h .0, all-map P f l (h .1))
+
+-- a kind that counts as other than Clifford is of an odd angle, one that counts as Clifford of an even one
+odd : (a : ℕ) → countsNonClifford (angleKind a) ≡ true → a % 2 ≡ 1
+odd a = go (eqb a 0) (eqb (a % 2) 1) refl
   where
-    plain : withoutIndex (map (mapFrom (meaning (h .qubits) (h .nodes) nodes)) (opsFrom (opFrom h ops) 0 (h .operations)))
-        ≡ map (meaning (h .qubits) (h .nodes) nodes) (opsFrom (opAt h ops) 0 (h .operations))
-    plain = without-mapped (meaning (h .qubits) (h .nodes) nodes) (opsFrom (opFrom h ops) 0 (h .operations))
-        ∙ ap (map (meaning (h .qubits) (h .nodes) nodes)) (ops-without (opFrom h ops) 0 (h .operations))
+    go : (b c : Bool) → eqb (a % 2) 1 ≡ c → countsNonClifford (cond b NoKind (cond c Pi8 Clifford)) ≡ true → a % 2 ≡ 1
+    go true c p e = absurd (true≢false (sym e))
+    go false true p e = eqb-true (a % 2) 1 p
+    go false false p e = absurd (true≢false (sym e))
+
+even : (zeros : Bool) (a : ℕ) → countsClifford zeros (angleKind a) ≡ true → a % 2 ≡ 0
+even zeros a = go (eqb a 0) (eqb (a % 2) 1) refl refl
+  where
+    go : (b c : Bool) → eqb a 0 ≡ b → eqb (a % 2) 1 ≡ c → countsClifford zeros (cond b NoKind (cond c Pi8 Clifford)) ≡ true → a % 2 ≡ 0
+    go true c p q e = ap (λ k. k % 2) (eqb-true a 0 p)
+    go false true p q e = absurd (true≢false (sym e))
+    go false false p q e = let ne : a % 2 ≡ 1 → ⊥ = eqb-false (a % 2) 1 q in omega arith
+
+module _ (zeros : Bool) (cap : Cap) (h : Header) (nodes ops : List ℕ) (a : AllRouted cap (withoutIndex (operationsIn h nodes ops))) where
+  abbrev seen : ℕ → Row
+  seen w = image (h .qubits) (h .nodes) nodes w
+
+  plain : withoutIndex (operationsIn h nodes ops) ≡ map (meaning (h .qubits) (h .nodes) nodes) (opsFrom (opAt h ops) 0 (h .operations))
+  unfolding operationsIn
+  plain = without-mapped (meaning (h .qubits) (h .nodes) nodes) (opsFrom (opFrom h ops) 0 (h .operations))
+      ∙ ap (map (meaning (h .qubits) (h .nodes) nodes)) (ops-without (opFrom h ops) 0 (h .operations))
+
+  routed-at : (i : ℕ) → i < h .operations → Routed cap (meaning (h .qubits) (h .nodes) nodes (opAt h ops i))
+  routed-at i lt = all-at (λ o. Routed cap (meaning (h .qubits) (h .nodes) nodes o)) (opAt h ops) 0 (h .operations)
+      (all-map (Routed cap) (meaning (h .qubits) (h .nodes) nodes) (opsFrom (opAt h ops) 0 (h .operations)) (subst (AllRouted cap) plain a)) i (omega arith) (omega arith)
+
+  counts-within : (o : PbcOp) → Routed cap (meaning (h .qubits) (h .nodes) nodes o) → countsNonClifford (axisKind o) ≡ true → Within cap (seen (axisWord o))
+  unfolding meaning axisKind
+  counts-within (Rotate x k) r e = r .0 (odd (eighthsOf k) e) .1
+  counts-within (Measure x m t) r e = r .1
+  counts-within (ConditionalRotate x k m) r e = absurd r
+  counts-within Malformed r e = absurd r
+
+  counts-light : (o : PbcOp) → Routed cap (meaning (h .qubits) (h .nodes) nodes o) → countsClifford zeros (axisKind o) ≡ true → Light cap (seen (axisWord o))
+  unfolding meaning axisKind
+  counts-light (Rotate x k) r e = r .1 (even zeros (eighthsOf k) e)
+  counts-light (Measure x m t) r e = absurd (true≢false (sym e))
+  counts-light (ConditionalRotate x k m) r e = absurd r
+  counts-light Malformed r e = absurd r
+
+  -- what holds of 0 and of each weight that counts holds of the largest
+  by-largest : (P : ℕ → Type 0) (counts : AxisKind → Bool) (most : ℕ) → Largest h nodes ops counts most → P 0
+      → ((i : ℕ) → i < h .operations → counts (kindAt h nodes ops i) ≡ true → P (weightAt h nodes ops i)) → P most
+  by-largest P counts zero L z f = z
+  by-largest P counts (suc m) L z f = let r = L .reached (λ (e : suc m ≡ 0). omega arith) in subst P (r .3) (f (r .0) (r .1) (r .2))
+
+  pub weights-routed : (scratch pool : List ℕ) (limit : ℕ) (r : Report) → reportBy zeros h nodes ops scratch pool limit .answer ≡ fine r → RoutedWeights cap (r .weights)
+  weights-routed scratch pool limit r p = go cap refl
+    where
+      L : Largest h nodes ops countsNonClifford (r .weights .nonClifford) × Largest h nodes ops (countsClifford zeros) (r .weights .clifford)
+      L = report-largest zeros h nodes ops scratch pool limit r p
+
+      light : (i : ℕ) → i < h .operations → countsClifford zeros (kindAt h nodes ops i) ≡ true → Light cap (seen (axisWord (opAt h ops i)))
+      light i lt e = counts-light (opAt h ops i) (routed-at i lt) e
+
+      go : (c : Cap) → cap ≡ c → RoutedWeights c (r .weights)
+      go NoCap e = by-largest (λ m. m ≡ 0) (countsClifford zeros) (r .weights .clifford) (L .1) refl (λ i lt k. absurd (subst (λ c. Light c (seen (axisWord (opAt h ops i)))) e (light i lt k)))
+      go (AtMost w) e = (
+        by-largest (λ m. m ≤ w) countsNonClifford (r .weights .nonClifford) (L .0) (omega arith)
+            (λ i lt k. subst (λ c. Within c (seen (axisWord (opAt h ops i)))) e (counts-within (opAt h ops i) (routed-at i lt) k)),
+        by-largest (λ m. m ≤ 2) (countsClifford zeros) (r .weights .clifford) (L .1) (omega arith)
+            (λ i lt k. subst (λ c. Light c (seen (axisWord (opAt h ops i)))) e (light i lt k) .1),
+      )
 
 -- ---- the answer of a conversion
 

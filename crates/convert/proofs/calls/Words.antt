@@ -6,11 +6,14 @@ use mathlib.Core.List.{List, [], _∷_, _++_}
 use Prim.Native.Nat.{ℕ, zero, suc, _+_}
 use native.Mathlib.Numerals.{add-one}
 use Rattle.convert.specs.Types.{Header, PbcError, Checked, Fine, Wrong}
+use Rattle.convert.specs.Records.{withoutIndex}
+use Rattle.convert.specs.Words.{operationsIn}
 use Rattle.convert.specs.Conversion.{limits, Input, convertCheck, Converted, ConvertedMade, ConvertedRefused, ConvertStep, convertStep, convertOf}
 use Rattle.convert.specs.Later.{Circuit, circuitOf, converted, LaterCall, later, laters}
 use Rattle.convert.specs.LaterWords.{CallWords, callAs, callIn, wordsAt, callsTo, callsIn, runAs, runStep}
 use Rattle.convert.specs.Statement.{Demand3}
-use Rattle.convert.proofs.Theorems.{demand3, made, refused}
+use Rattle.convert.specs.Routing.{AllRouted}
+use Rattle.convert.proofs.Theorems.{demand3, cap-guarantee, made, made-back, refused}
 
 -- the kinds from 5 on
 pub call-rest : (k : ℕ) (w : CallWords) → k ≢ 0 → k ≢ 1 → k ≢ 2 → k ≢ 3 → k ≢ 4 → callAs k w ≡ callAs 5 w
@@ -91,3 +94,11 @@ pub demand3-of : (x : Input) (calls : List ℕ) (s : ConvertStep) → s ≡ runS
     → Demand3 x (callsIn calls) (circuitOf h (s .nodes) (s .operations) (s .frame))
 demand3-of x calls s p h e =
     subst (λ t. Demand3 x (callsIn calls) (circuitOf h (t .nodes) (t .operations) (t .frame))) (sym p) (demand3-ran x calls h (sym (ap (λ t. t .answer) p) ∙ e))
+
+-- the cap's guarantee of an answer and words that are those of a conversion
+pub routed-of : (x : Input) (s : ConvertStep) → s ≡ convertStep x → (h : Header) → s .answer ≡ ConvertedMade h
+    → AllRouted (x .cap) (withoutIndex (operationsIn h (s .nodes) (s .operations)))
+routed-of x s p h e =
+    let m = made-back x h (sym (ap (λ t. t .answer) p) ∙ e) in
+    subst (λ t. AllRouted (x .cap) (withoutIndex (operationsIn h (t .nodes) (t .operations)))) (sym p)
+    (subst (λ k. AllRouted (x .cap) (withoutIndex (operationsIn k (convertStep x .nodes) (convertStep x .operations)))) (sym (m .1)) (cap-guarantee x (m .0)))

@@ -9,7 +9,7 @@ use borrow.Author.Tests.{le-leb}
 use Rattle.pauli.specs.Rows.{Row, _★_, single}
 use Rattle.pauli.specs.Gates.{Gate, gateH, gateX, gateZ, gateS, gateSdg, gateCnot, gateCz, Valid, AllValid}
 use Rattle.pauli.specs.Table.{start, step, run, table, xRow, zRow}
-use Rattle.pauli.specs.Rotations.{written, flush}
+use Rattle.pauli.specs.Rotations.{Rotation, written, flush}
 use Rattle.pauli.specs.Angle.{eighthsOf}
 use Rattle.pauli.proofs.Table.{table-snoc}
 use Rattle.arena.specs.Nodes.{image}
@@ -54,11 +54,8 @@ flush-without n [] = refl
 flush-without n (g ∷ gs) = without-append (map (from (g .index)) (written n (g .gate))) (flushFrom n gs) ∙ ap₂ _++_ (without-from (g .index) (written n (g .gate))) (flush-without n gs)
 
 -- what a flush adds
-pub without-flushed : (l : List (From Operation)) (n : ℕ) (gs : List (Placed Gate))
-    → withoutIndex (l ++ map (mapFrom asRotation) (flushFrom n gs)) ≡ withoutIndex l ++ map asRotation (flush n (bare gs))
-without-flushed l n gs =
-    without-append l (map (mapFrom asRotation) (flushFrom n gs))
-    ∙ ap (λ r. withoutIndex l ++ r) (without-mapped asRotation (flushFrom n gs) ∙ ap (map asRotation) (flush-without n gs))
+pub without-flushed : (l : List (From Operation)) (rs : List (From Rotation)) → withoutIndex (l ++ map (mapFrom asRotation) rs) ≡ withoutIndex l ++ map asRotation (withoutIndex rs)
+without-flushed l rs = without-append l (map (mapFrom asRotation) rs) ∙ ap (λ r. withoutIndex l ++ r) (without-mapped asRotation rs)
 
 -- ---- operations
 

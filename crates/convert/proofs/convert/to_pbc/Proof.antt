@@ -2,6 +2,7 @@ use native.Mathlib.Omega.{arith}
 use mathlib.Core.Path.{refl, _∙_, sym}
 use Rattle.arena.specs.Builder.{newHeader, startNodes, startFrame}
 use Rattle.convert.proofs.buffers.Conversion.{gates-fit, counts-are, refused-first, refused-second, made, new-fine, new-words, not-refused, start-least, room-from, room-again, start-again, over-start, over-frame}
+use Rattle.convert.proofs.calls.Words.{routed-of}
 use borrow.Author.Needs.{needs}
 use Rattle.convert.proofs.convert.to_pbc.Statement.{statement}
 use Rattle.convert.proofs.convert.to_pbc.Tie as tie
@@ -19,8 +20,9 @@ returns c =
     let checked = c .before .checked in
     let check-gates = c .before .before .before .check-gates in
     let args = c .before .before .before .before .before .before .before .before .before .args in
-    refused-first (args .qubits) (args .cbits) (args .owner) (args .cap) (args .gates .now) (args .nodes .now) (args .operations .now)
-    (args .frame .now) (args .planes .now) _ (sym (check-gates .ensures) ∙ checked .given .1)
+    let p = refused-first (args .qubits) (args .cbits) (args .owner) (args .cap) (args .gates .now) (args .nodes .now) (args .operations .now)
+    (args .frame .now) (args .planes .now) _ (sym (check-gates .ensures) ∙ checked .given .1) in
+    (p, routed-of _ _ p)
 
 enum-told : tie.Need-enum-told
 enum-told c = search needs
@@ -48,8 +50,9 @@ returns-2 c =
     let passed = sym (check-gates .ensures) ∙ the-enum-told .given .1 in
     let k = check-needs .ensures in
     let counts = counts-are (args .qubits) (args .cap) (args .gates .now) in
-    refused-second (args .qubits) (args .cbits) (args .owner) (args .cap) (args .gates .now) (args .nodes .now) (args .operations .now)
-    (args .frame .now) (args .planes .now) passed _ _ (counts .0) (counts .1) _ _ (sym (k .same) ∙ the-room .given .1) (k .ended _ (the-room .given .1))
+    let p = refused-second (args .qubits) (args .cbits) (args .owner) (args .cap) (args .gates .now) (args .nodes .now) (args .operations .now)
+    (args .frame .now) (args .planes .now) passed _ _ (counts .0) (counts .1) _ _ (sym (k .same) ∙ the-room .given .1) (k .ended _ (the-room .given .1)) in
+    (p, routed-of _ _ p)
 
 enum-told-2 : tie.Need-enum-told-2
 enum-told-2 c = search needs
@@ -168,13 +171,14 @@ returns-4 c =
     (args .qubits) (args .cap) (args .gates .now))) in
     let e = write-records .ensures in
     let len = e .1 .1 .1 .1 .1 in
-    rw (c .header-of .ensures)
-    (made (args .qubits) (args .cbits) (args .owner) (args .cap) (args .gates .now) (args .nodes .now) (args .operations .now) (args .frame .now)
+    rw (c .header-of .ensures) (
+    let p = made (args .qubits) (args .cbits) (args .owner) (args .cap) (args .gates .now) (args .nodes .now) (args .operations .now) (args .frame .now)
     (args .planes .now) passed _ _ (counts .0) (counts .1) ok _ _ _ _ _ _ _ (e .0 .0) (e .0 .1) (e .0 .2)
     (over-start (args .qubits) (args .cap) (args .gates .now) (args .nodes .now) _ _ (new .ensures .1 .0 ∙ n1 .1) (e .1 .0) (len .0))
     (e .1 .1 .0)
     (over-frame (args .qubits) (args .cap) (args .gates .now) (args .frame .now) _ _ (new .ensures .1 .1 ∙ n1 .2) (e .1 .1 .1 .0) (len .1))
-    (e .1 .1 .1 .1 .0 ∙ k .planes _))
+    (e .1 .1 .1 .1 .0 ∙ k .planes _) in
+    (p, routed-of _ _ p))
 
 pub to-pbc-spec : {M : Type 1} → statement M
 to-pbc-spec =

@@ -39,7 +39,7 @@ returns c =
     let args = back24 .before .before .before .before .before .before .before .before .args in
     let x = inputOf (args .qubits) (args .cbits) (args .owner) (args .cap) (args .gates .now) (args .nodes .now) (args .operations .now)
     (args .frame .now) (args .planes .now) in
-    let p = run-made x (args .calls .now) _ _ _ _ _ _ _ _ _ _ (converted .given .1) (to-pbc .ensures) (run-calls .ensures) in
+    let p = run-made x (args .calls .now) _ _ _ _ _ _ _ _ _ _ (converted .given .1) (to-pbc .ensures .0) (run-calls .ensures) in
     (p, demand3-of x (args .calls .now) _ p)
 
 same-length-5 : tie.Need-same-length-5
@@ -62,7 +62,7 @@ returns-2 c =
     let args = back12 .before .before .before .before .before .before .before .before .before .before .args in
     let x = inputOf (args .qubits) (args .cbits) (args .owner) (args .cap) (args .gates .now) (args .nodes .now) (args .operations .now)
     (args .frame .now) (args .planes .now) in
-    let p = run-refused x (args .calls .now) _ _ _ _ _ _ (converted2 .given .1) (to-pbc .ensures) in
+    let p = run-refused x (args .calls .now) _ _ _ _ _ _ (converted2 .given .1) (to-pbc .ensures .0) in
     (p, demand3-of x (args .calls .now) _ p)
 
 pub convert-and-run-spec : {M : Type 1} → statement M

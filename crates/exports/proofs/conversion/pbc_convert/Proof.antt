@@ -66,8 +66,8 @@ returns-2 c =
     let back24 = back12 .before .before .before .before .before .before .before .before .before .before .before .before in
     let args = back24 .before .before .before .before .before .before .before .before .args in
     rw (sym (too-short .ensures) ∙ if1 .left, ← cap-of .ensures)
-    (exported-is (args .header .now) (args .answer .now) (converted .ensures ∙ ap (λ s. convertedReply (s .answer)) (to-pbc .ensures)) (write-answer .ensures .0)
-    (write-header .ensures) (write-answer .ensures .1) (ap (λ s. convertWords (s .nodes) (s .operations) (s .frame) (s .planes)) (to-pbc .ensures)))
+    (exported-is (args .header .now) (args .answer .now) (converted .ensures ∙ ap (λ s. convertedReply (s .answer)) (to-pbc .ensures .0)) (write-answer .ensures .0)
+    (write-header .ensures) (write-answer .ensures .1) (ap (λ s. convertWords (s .nodes) (s .operations) (s .frame) (s .planes)) (to-pbc .ensures .0)))
 
 pub pbc-convert-spec : {M : Type 1} → statement M
 pbc-convert-spec =
