@@ -16,11 +16,12 @@ use Rattle.convert.specs.Records.{records}
 use Rattle.convert.specs.Conversion.{Input, limits, convertCheck}
 use Rattle.convert.specs.Later.{converted, LaterCall, laters, AllCarried}
 use Rattle.convert.specs.Statement.{frameImages, endGates}
+use Rattle.convert.specs.Sources.{All}
 use Rattle.operators.specs.Types.{One, PlusI, MinusI, Z, Fine}
 use Rattle.operators.specs.Operators.{Operators, rootTo, turn}
 use Rattle.operators.specs.Textbook.{seen, xOf, yOf, zOf, ifOne, hadamardOf, sxOf, swapOf, gatesOperator}
 use Rattle.operators.specs.Whole.{sourcedOf, operationsOf, Whole}
-use Rattle.operators.specs.After.{pushed, byHand, After, AfterWords}
+use Rattle.operators.specs.After.{pushed, byHand, RoutedUnlessByHand, After, AfterWords}
 use Rattle.operators.specs.Bits.{recordBits, operationBits}
 use Rattle.operators.specs.Model.{Scalars, BitString, Amplitudes, Linear, phased, flipAll, entryAll, bitAt, flipAt, signOf, overRootTwo, ket}
 use Rattle.operators.specs.Dyadic.{Halved, plusHalved, rootHalved, halfHalved}
@@ -60,6 +61,11 @@ read-after = Words.read-after
 pub sources-after : (x : Input) → convertCheck limits x ≡ Fine → (cs : List LaterCall) → AllCarried cs (converted x)
     → sourcedOf (laters cs (converted x)) ≡ sourcedOf (converted x) ++ byHand (pushed cs (converted x))
 sources-after = Words.sources-after
+
+-- whatever is called later, each operation that names a gate record is as the conversion's cap guarantees; only those by hand may be heavier (document 02, E6)
+pub routed-after : (x : Input) → convertCheck limits x ≡ Fine → (cs : List LaterCall) → AllCarried cs (converted x)
+    → All (RoutedUnlessByHand (x .cap)) (sourcedOf (laters cs (converted x)))
+routed-after = Words.routed-after
 
 pub after-words : (x : Input) → convertCheck limits x ≡ Fine → (cs : List LaterCall) → AllCarried cs (converted x) → (O : Operators (x .qubits)) (outcome : ℕ → Bool) → AfterWords x cs O outcome
 after-words = Words.after-words

@@ -1,4 +1,5 @@
 -- Later calls on a converted circuit, as operators: a frame gate acts at the circuit's end, and so does an operation that is pushed, along what its axis is there.
+use mathlib.Core.Logic.{_≢_}
 use mathlib.Core.Bool.{Bool}
 use mathlib.Core.List.{List, [], _∷_, _++_, map}
 use Prim.Native.Nat.{ℕ}
@@ -12,9 +13,10 @@ use Rattle.convert.specs.Records.{records, bare, From, from}
 use Rattle.convert.specs.Plain.{Operation, rotateBy, measureOf, conditionalBy, malformed}
 use Rattle.convert.specs.Frame.{cliffordStep}
 use Rattle.convert.specs.Conversion.{Input, paperEnd}
+use Rattle.convert.specs.Routing.{Routed}
 use Rattle.convert.specs.Later.{Circuit, converted, LaterCall, callFrame, callSingle, callProduct, callRotate, callMeasure, callConditional, callExpand, callHermitian, callWeights}
 use Rattle.convert.specs.Later.{lendOperations, later, laters, gatesOf}
-use Rattle.operators.specs.Types.{FramePushedMade, FramePushedRefused, PushedMade, PushedRefused, MeasuredMade, MeasuredRefused}
+use Rattle.operators.specs.Types.{Cap, FramePushedMade, FramePushedRefused, PushedMade, PushedRefused, MeasuredMade, MeasuredRefused}
 use Rattle.operators.specs.Operators.{Operators}
 use Rattle.operators.specs.Textbook.{recordOperator, circuitOperator}
 use Rattle.operators.specs.Whole.{operationsOf, operationsOperator, Performs}
@@ -46,6 +48,10 @@ pushed (c ∷ cs) s = pushedBy c s ++ pushed cs (later c s)
 -- operations that name no gate record, since they are added by hand (document 02, E2)
 abbrev pub byHand : List Operation → List (From Operation)
 byHand os = map (from handMark) os
+
+-- an operation that was not added by hand is routed under the cap (document 02, E6)
+abbrev pub RoutedUnlessByHand : Cap → From Operation → Type 0
+RoutedUnlessByHand cap o = o .index ≢ handMark → Routed cap (o .what)
 
 -- an operation at the circuit's end, after the frame gates gs = U: along U P U†. Of the image of a frame place that is the place's own X or Z.
 abbrev pub atEnd : List Gate → Operation → Operation
