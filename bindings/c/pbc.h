@@ -260,7 +260,8 @@ uint32_t pbc_push_output_clifford(uint64_t *header, size_t header_len, uint32_t 
                                   uint32_t kind, uint32_t a, uint32_t b, uint64_t *answer, size_t answer_len);
 
 /* The circuit of a gate list. A cap over 4294967295 is none. Under a cap no axis of an odd angle or of a measurement has more letters other than
- * I: pending Clifford gates are written as rotations before one would, and those have at most two letters, whatever the cap. The planes then need
+ * I: pending Clifford gates are written as rotations before one would, and those have sign + and at most two letters, whatever the cap. Every axis
+ * has sign + or -, and without a cap no angle is even. So routing has nothing to test but operations added by hand. Under a cap the planes need
  * PBC_PLANE_WORDS(qubits) words, and hold the frame's letters afterwards; without a cap they need none. Under a cap of 1 or 2 a ccz is written first as
  * thirteen gates of at most two qubits, and a ccx as the same between two h.
  * The fifth word of each operation is the index of the gate that it came from; a rotation that stands for a pending gate names that gate.

@@ -347,7 +347,8 @@ def to_pbc(num_qubits: int, num_cbits: int, gates: Iterable, max_weight: Optiona
     """The circuit of a gate list, each gate a name and its operands.
 
     Under max_weight no axis of an odd angle or of a measurement has more letters other than I: pending Clifford gates are written
-    as rotations before one would. Those have at most two letters, whatever the cap.
+    as rotations before one would. Those have sign + and at most two letters, whatever the cap. Every axis has sign + or -, and without
+    a cap no angle is even. So routing has nothing to test but operations added by hand, whose gate is None.
 
     >>> circuit = to_pbc(2, 0, [("cnot", 0, 1), ("t", 1)])
     >>> [str(axis) for axis in circuit.axes(100)]
