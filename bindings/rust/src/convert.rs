@@ -132,7 +132,8 @@ fn needs(gates: &[Gate], max_weight: Option<NonZeroU32>) -> (usize, usize) {
 ///
 /// Under `max_weight` no axis of an odd angle or of a measurement has more letters other than I: pending Clifford gates are written as
 /// rotations before one would. Those have sign + and at most two letters, whatever the cap. Every axis has sign + or -, and without a cap no
-/// angle is even. So routing has nothing to test but operations added by hand, which name no gate ([`PbcOp::gate`](crate::PbcOp::gate)).
+/// angle is even. Each operation names its gate ([`PbcOp::gate`](crate::PbcOp::gate)); routing has nothing to test but operations added by
+/// hand, which name none.
 /// Under a `max_weight` of 1 or 2 a ccz is written first as thirteen gates of at most two qubits, and a ccx as the same between two h.
 /// Time and space are O(gates + qubits); under a cap O(qubits / 64) more a gate, and O(qubits² / 64) more a flush.
 ///
