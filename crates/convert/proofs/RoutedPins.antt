@@ -6,10 +6,11 @@ use Prim.Native.Nat.{ℕ, _≤_}
 use native.Mathlib.Omega.{arith}
 use Rattle.pauli.specs.Letters.{phaseNumber}
 use Rattle.pauli.specs.Rows.{Row}
+use Rattle.arena.specs.Readers.{Weights}
 use Rattle.convert.specs.Types.{Pauli, I, Z, Phase, One, PlusI, MinusOne, Bit}
 use Rattle.convert.specs.Records.{Cap, NoCap, AtMost}
 use Rattle.convert.specs.Plain.{rotateBy, measureOf, conditionalBy, malformed}
-use Rattle.convert.specs.Routing.{Routed}
+use Rattle.convert.specs.Routing.{Routed, RoutedWeights}
 
 abbrev row : List Pauli → Phase → Row
 row letters phase = record { letters = letters; phase = phase }
@@ -66,3 +67,23 @@ conditional-none cap r = r
 
 malformed-none : (cap : Cap) → Routed cap malformed → ⊥
 malformed-none cap r = r
+
+-- ---- the two numbers of a report
+
+abbrev weights : ℕ → ℕ → Weights
+weights other clifford = record { nonClifford = other; clifford = clifford }
+
+report-at-cap : RoutedWeights (AtMost 3) (weights 3 2)
+report-at-cap = (omega arith, omega arith)
+
+report-free : RoutedWeights NoCap (weights 9 0)
+report-free = refl
+
+report-too-heavy : RoutedWeights (AtMost 3) (weights 4 2) → ⊥
+report-too-heavy r = let le : 4 ≤ 3 = r .0 in omega arith
+
+report-clifford-too-heavy : RoutedWeights (AtMost 3) (weights 3 3) → ⊥
+report-clifford-too-heavy r = let le : 3 ≤ 2 = r .1 in omega arith
+
+report-free-clifford : RoutedWeights NoCap (weights 9 1) → ⊥
+report-free-clifford r = let e : _≡_ {A = ℕ} 1 0 = r in omega arith
