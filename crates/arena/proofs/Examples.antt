@@ -7,7 +7,7 @@ use lib.ListN.{replicate}
 use Rattle.pauli.specs.Letters.{power}
 use Rattle.arena.specs.Types.{I, X, Y, Z, One, MinusOne, MinusI}
 use Rattle.arena.specs.Errors.{BadStore, NoScratch, ExpansionLimit, NoPool, NonHermitianAxis, _⟫_⇒_}
-use Rattle.arena.specs.Nodes.{decode, nodeAt, values, image}
+use Rattle.arena.specs.Nodes.{decode, nodeAt, values, image, factorsCommute}
 use Rattle.arena.specs.Sparse.{factor, dense}
 use Rattle.arena.specs.Walk.{Out, fine, refused, bind, Answer, walk}
 use Rattle.arena.specs.Operations.{Pi8, sourceOf, decodeOp, axisKind}
@@ -34,8 +34,8 @@ c-stops : walk 5 9 1 4 c-words (15 ∷ []) ≡ refused ExpansionLimit
 unfolding walk nodeAt decode power c-words
 c-stops = refl
 
-c-expands : expandWalk 7 9 1 4 c-words 15 ≡ fine (record { row = record { letters = Y ∷ []; phase = MinusOne }; work = 6 })
-unfolding expandWalk walk nodeAt decode power dense c-words
+c-expands : expandWalk 7 9 1 4 c-words 15 ≡ fine (record { row = record { letters = Y ∷ []; phase = MinusOne }; work = 6; commute = false })
+unfolding expandWalk walk nodeAt decode power dense factorsCommute image values c-words
 c-expands = refl
 
 c-lacks-cells : expandWalk 6 9 1 4 c-words 15 ≡ refused ExpansionLimit
@@ -115,8 +115,8 @@ i-stops : walk 1 0 2 7 d-words (0 ∷ []) ≡ refused ExpansionLimit
 unfolding walk nodeAt decode power d-words
 i-stops = refl
 
-i-expands : expandWalk 4 0 2 7 d-words 0 ≡ fine (record { row = record { letters = I ∷ I ∷ []; phase = One }; work = 2 })
-unfolding expandWalk walk nodeAt decode power dense d-words
+i-expands : expandWalk 4 0 2 7 d-words 0 ≡ fine (record { row = record { letters = I ∷ I ∷ []; phase = One }; work = 2; commute = true })
+unfolding expandWalk walk nodeAt decode power dense factorsCommute d-words
 i-expands = refl
 
 i-lacks-cells : expandWalk 3 0 2 7 d-words 0 ≡ refused ExpansionLimit

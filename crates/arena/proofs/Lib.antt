@@ -17,6 +17,7 @@ pub mod StoredWords
 pub mod FormedNodes
 pub mod SoundOperations
 pub mod WeightReports
+pub mod Commuting
 pub mod Examples
 pub mod Pins
 pub mod Theorems

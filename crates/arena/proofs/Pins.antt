@@ -1,6 +1,6 @@
 -- Corners of document 01, computed: each falls if a definition departs from it, whatever the code does.
 use mathlib.Core.Path.{_≡_, refl}
-use mathlib.Core.Bool.{true, false}
+use mathlib.Core.Bool.{Bool, true, false}
 use mathlib.Core.List.{List, [], _∷_, map}
 use Prim.Native.Nat.{ℕ}
 use lib.ListN.{replicate}
@@ -8,13 +8,14 @@ use Rattle.pauli.specs.Letters.{power}
 use Rattle.arena.specs.Limits.{capOf}
 use Rattle.arena.specs.Errors.{TooManyQubits, BadStore, ForeignPauli, ClassicalBitOutOfRange, UnknownMeasurement, NoFrame, NoNodes, NoScratch, ExpansionLimit, NoPool, Checked, Fine, Wrong, _⟫_⇒_}
 use Rattle.arena.specs.References.{PauliRef, axisOf}
-use Rattle.arena.specs.Nodes.{decode, nodeAt, values, image}
+use Rattle.arena.specs.Nodes.{decode, nodeAt, values, image, factorsCommute}
 use Rattle.arena.specs.Operations.{decodeOp, Measure, ConditionalRotate, Malformed, OfGate, ByHand, NoSource, sourceOf, Bit, measId, angleKind, axisKind, NoKind, Pi8, Clifford}
 use Rattle.arena.specs.Store.{Header, breaksLimit, exceedsNodes, exceedsOperations, foreign, unknown, noNodeRoom, noOperationRoom}
 use Rattle.arena.specs.Builder.{Step, NodesAndFrame, Created, CreatedMade, CreatedRefused, stepOf, newCheck, newStep, productCheck, measureCheck, measureStep, conditionalCheck, conditionalStep}
-use Rattle.arena.specs.Walk.{fine, refused, bind, walk}
+use Rattle.arena.specs.Sparse.{dense}
+use Rattle.arena.specs.Walk.{Out, fine, refused, bind, walk}
 use Rattle.arena.specs.Charges.{visits, charges, weightAt, workOf}
-use Rattle.arena.specs.Readers.{reportWalk}
+use Rattle.arena.specs.Readers.{expandWalk, reportWalk}
 use Rattle.arena.specs.Expansion.{opAt, expandCheck, reportCheck, reportStep, kindReportStep}
 
 -- ---- a new circuit: 1, 13, 14, and what is written
@@ -268,3 +269,51 @@ conditional-foreign-first = refl
 conditional-outcome-before-room : conditionalCheck header 5 (axisOf (on 8)) (measId 6 0) ≡ Wrong UnknownMeasurement
 unfolding conditionalCheck breaksLimit exceedsOperations foreign unknown noOperationRoom _⟫_⇒_ header on
 conditional-outcome-before-room = refl
+
+-- ---- E7: whether the two factors of a root commute
+
+-- two qubits; nodes 5 to 12: X0 X0, X0 Z0, X0 X1, Z0 Z1, (X0 X1) (Z0 Z1), X0 (i X0), (X0 X1) Z0, (X0 Z0) (X0 Z0)
+factor-words : List ℕ
+factor-words = 0 ∷ 0 ∷ 5 ∷ 0 ∷ 13 ∷ 0 ∷ 5 ∷ 1 ∷ 13 ∷ 1 ∷ 18 ∷ 4 ∷ 18 ∷ 8 ∷ 18 ∷ 12 ∷ 34 ∷ 16 ∷ 114 ∷ 32 ∷ 18 ∷ 5 ∷ 114 ∷ 8 ∷ 98 ∷ 24 ∷ []
+
+commutes : ℕ → Out Bool
+unfolding expandWalk walk nodeAt decode image values power dense factorsCommute factor-words
+commutes w = bind (expandWalk 30 30 2 13 factor-words w) (λ x. fine (x .commute))
+
+commute-equal : commutes 20 ≡ fine true
+unfolding commutes
+commute-equal = refl
+
+commute-not : commutes 24 ≡ fine false
+unfolding commutes
+commute-not = refl
+
+-- two clashes
+commute-twice : commutes 36 ≡ fine true
+unfolding commutes
+commute-twice = refl
+
+-- one clash on two qubits
+commute-once : commutes 44 ≡ fine false
+unfolding commutes
+commute-once = refl
+
+-- a factor's phase plays no part: the product's own phase is i
+commute-phased : commutes 40 ≡ fine true
+unfolding commutes
+commute-phased = refl
+
+-- nor does a clash inside a factor
+commute-inside : commutes 48 ≡ fine true
+unfolding commutes
+commute-inside = refl
+
+-- nor the phase of the reference
+commute-turned : map commutes (25 ∷ 26 ∷ 27 ∷ 37 ∷ 38 ∷ 39 ∷ []) ≡ fine false ∷ fine false ∷ fine false ∷ fine true ∷ fine true ∷ fine true ∷ []
+unfolding commutes
+commute-turned = refl
+
+-- no product
+commute-single : map commutes (0 ∷ 4 ∷ 5 ∷ 8 ∷ []) ≡ fine true ∷ fine true ∷ fine true ∷ fine true ∷ []
+unfolding commutes
+commute-single = refl

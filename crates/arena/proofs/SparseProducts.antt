@@ -161,6 +161,11 @@ merge-means (suc k) at hi fs gs h rf rg = go (front at hi fs rf) (front at hi gs
 pub product-proper : (n : ℕ) (u v : Sparse) → Ordered n u → Ordered n v → Ordered n (multiply u v)
 product-proper n u v ru rv = merge-rising 0 n (u .factors) (v .factors) ru rv
 
+-- the phase that merging adds is the one that the letters of the rows add
+pub merge-phase : (n : ℕ) (u v : Sparse) → Ordered n u → Ordered n v → merge (u .factors) (v .factors) .phase ≡ phases (dense n u .letters) (dense n v .letters)
+unfolding dense
+merge-phase n u v ru rv = merge-means n 0 n (u .factors) (v .factors) (omega arith) ru rv .phase-is
+
 -- dense of the sparse product is the row product of the denses
 pub dense-product : (n : ℕ) (u v : Sparse) → Ordered n u → Ordered n v → dense n (multiply u v) ≡ dense n u ★ dense n v
 unfolding dense

@@ -1,23 +1,23 @@
 -- What is proved of the arena, in the words of specs/ alone.
 use mathlib.Core.Path.{_≡_, sym}
-use mathlib.Core.Logic.{_≢_, _⊎_}
+use mathlib.Core.Logic.{_≢_, _⊎_, _↔_}
 use mathlib.Core.Bool.{Bool, true, false, cond, _||_}
 use mathlib.Core.List.{List, [], _∷_, _++_, map}
-use Prim.Native.Nat.{ℕ, _+_, _-_, _*_, _≤_, _<_}
+use Prim.Native.Nat.{ℕ, _+_, _-_, _*_, _%_, _≤_, _<_}
 use lib.ListN.{length, take, drop}
 use Rattle.pauli.specs.Letters.{pauliNumber, real}
 use Rattle.pauli.specs.Angle.{angleOf, eighthsOf}
-use Rattle.pauli.specs.Rows.{_★_, scaled, single, present, weight}
+use Rattle.pauli.specs.Rows.{_★_, scaled, single, present, weight, antiPlaces}
 use Rattle.pauli.specs.Table.{start}
 use Rattle.arena.specs.Types.{Pauli, Phase, PauliAngle}
 use Rattle.arena.specs.Limits.{capOf, handMark}
 use Rattle.arena.specs.Errors.{PbcError, BadStore, NonHermitianAxis, Fine, Wrong, ExpansionLimit, NoPool}
 use Rattle.arena.specs.References.{PauliRef, PauliAxis, axisOf, nodeIn, scaledWord}
-use Rattle.arena.specs.Nodes.{nodeAt, image, Identity}
+use Rattle.arena.specs.Nodes.{nodeAt, image, Identity, Product}
 use Rattle.arena.specs.Operations.{MeasId, measId, Target, Rotate, Measure, ConditionalRotate, NoKind, axisKind}
 use Rattle.arena.specs.Store.{Header}
 use Rattle.arena.specs.Builder.{CreatedMade, SingledMade, MultipliedMade, PushedMade, MeasuredMade, newStep, singleStep, productStep, rotateStep, measureStep, conditionalStep}
-use Rattle.arena.specs.Sparse.{size, dense, Sparse}
+use Rattle.arena.specs.Sparse.{size, dense, merge, Sparse}
 use Rattle.arena.specs.Walk.{Named, fine, refused, bind, State, Walked, charge, walkNodes, Answer, walk, Taken, rootUses, scan, takeUse}
 use Rattle.arena.specs.Charges.{workOf}
 use Rattle.arena.specs.Reachability.{Reachable}
@@ -27,9 +27,10 @@ use Rattle.arena.specs.Reports.{Largest}
 use Rattle.arena.specs.Stats.{Within, Refused, workAfter, chargeAnswer}
 use Rattle.arena.specs.Calls.{Call, Slices, checked, after, KeptSlices}
 use Rattle.arena.specs.Pool.{Lendable, Who}
+use Rattle.arena.specs.PoolSteps.{Operands, Merged}
 use Rattle.arena.specs.PoolRuns.{Held, World, factorsHeld, Without, Run, lentIn, backIn, Once, InChain, InFree}
 use Rattle.arena.specs.Code.Results.{Ledger, Value}
-use Rattle.arena.specs.Code.WalkWords.{sum, edges, owed, usesAt, valueAt, headIn, countIn, Rep, Stands, ValueIs, Multiplying, Walking, Combining}
+use Rattle.arena.specs.Code.WalkWords.{Ordered, sum, edges, owed, usesAt, valueAt, headIn, countIn, Rep, Stands, ValueIs, Multiplying, Walking, Combining}
 use Rattle.arena.specs.Code.Records.{OfNode, OfValue, Spare, factorsAt}
 use Rattle.arena.proofs.NodeRows
 use Rattle.arena.proofs.Answers
@@ -44,6 +45,7 @@ use Rattle.arena.proofs.walk.Axes as AxesLaws
 use Rattle.arena.proofs.walk.Charges
 use Rattle.arena.proofs.chains.Safe
 use Rattle.arena.proofs.WeightReports
+use Rattle.arena.proofs.Commuting
 use Rattle.arena.proofs.DecodedNodes
 use Rattle.arena.proofs.walk.Uses
 use Rattle.arena.proofs.walk.Reached
@@ -302,11 +304,51 @@ pub axes-work : (h : Header) (nodes ops rows scratch pool : List ℕ) (limit : �
 axes-work = AxesLaws.axes-work
 
 -- what a caller gets of these: the phase of the image, the reference itself as an axis, and the two largest weights
-pub expand-answers : (h : Header) (nodes letters scratch pool : List ℕ) (r : PauliRef) (cells : ℕ) (phase : Phase) (work : ℕ)
-    → expansionOf (expandStep h nodes letters scratch pool r cells .answer) ≡ ExpansionMade phase work
+pub expand-answers : (h : Header) (nodes letters scratch pool : List ℕ) (r : PauliRef) (cells : ℕ) (phase : Phase) (work : ℕ) (commute : Bool)
+    → expansionOf (expandStep h nodes letters scratch pool r cells .answer) ≡ ExpansionMade phase work commute
     → (phase ≡ image (h .qubits) (h .nodes) nodes (r .word) .phase)
     × (expandStep h nodes letters scratch pool r cells .letters ≡ map pauliNumber (image (h .qubits) (h .nodes) nodes (r .word) .letters) ++ drop (h .qubits) letters)
 expand-answers = Readers.expand-answers
+
+-- E7: of a reference whose node is a product, `expand` says yes exactly if what the two child words stand for commutes, whatever phases stand in front
+pub expand-commutes : (h : Header) (nodes letters scratch pool : List ℕ) (r : PauliRef) (cells : ℕ) (phase : Phase) (work : ℕ) (commute : Bool)
+    → expansionOf (expandStep h nodes letters scratch pool r cells .answer) ≡ ExpansionMade phase work commute
+    → (a b : ℕ) → nodeAt (h .qubits) nodes (nodeIn (r .word)) ≡ Product a b
+    → let P = image (h .qubits) (h .nodes) nodes a in
+    let Q = image (h .qubits) (h .nodes) nodes b in
+    (commute ≡ true) ↔ (P ★ Q ≡ Q ★ P)
+expand-commutes = Commuting.expand-commutes
+
+-- and so exactly if an even number of qubits hold two different letters other than I
+pub expand-even : (h : Header) (nodes letters scratch pool : List ℕ) (r : PauliRef) (cells : ℕ) (phase : Phase) (work : ℕ) (commute : Bool)
+    → expansionOf (expandStep h nodes letters scratch pool r cells .answer) ≡ ExpansionMade phase work commute
+    → (a b : ℕ) → nodeAt (h .qubits) nodes (nodeIn (r .word)) ≡ Product a b
+    → let P = image (h .qubits) (h .nodes) nodes a in
+    let Q = image (h .qubits) (h .nodes) nodes b in
+    (commute ≡ true) ↔ (antiPlaces (P .letters) (Q .letters) % 2 ≡ 0)
+expand-even = Commuting.expand-even
+
+-- of any other reference it says yes
+pub expand-no-product : (h : Header) (nodes letters scratch pool : List ℕ) (r : PauliRef) (cells : ℕ) (phase : Phase) (work : ℕ) (commute : Bool)
+    → expansionOf (expandStep h nodes letters scratch pool r cells .answer) ≡ ExpansionMade phase work commute
+    → ((a b : ℕ) → nodeAt (h .qubits) nodes (nodeIn (r .word)) ≢ Product a b) → commute ≡ true
+expand-no-product = Commuting.expand-no-product
+
+-- the multiplication of two sparse products tells it: the phase that merging them adds is 1 or -1 exactly if they commute
+pub merge-commutes : (n : ℕ) (u v : Sparse) → Ordered n u → Ordered n v
+    → (real (merge (u .factors) (v .factors) .phase) ≡ true) ↔ (dense n u ★ dense n v ≡ dense n v ★ dense n u)
+merge-commutes = Commuting.merge-commutes
+
+-- which is so exactly if an even number of qubits hold two different letters other than I
+pub merge-even : (n : ℕ) (u v : Sparse) → Ordered n u → Ordered n v
+    → (real (merge (u .factors) (v .factors) .phase) ≡ true) ↔ (antiPlaces (dense n u .letters) (dense n v .letters) % 2 ≡ 0)
+merge-even = Commuting.merge-even
+
+-- and the phase that `multiply` of src/pool.rt answers, whose promise is Merged, is then even
+pub multiply-commutes : (n : ℕ) (u v : Sparse) {p p′ : List ℕ} {free a na b nb head count phase free′ : ℕ} (g : Operands p free a na b nb)
+    → Ordered n u → Ordered n v → g .fa ≡ u .factors → g .fb ≡ v .factors → Merged g p′ head count phase free′
+    → (phase % 2 ≡ 0) ↔ (dense n u ★ dense n v ≡ dense n v ★ dense n u)
+multiply-commutes = Commuting.merged-commutes
 
 pub hermitian-answers : (h : Header) (nodes scratch pool : List ℕ) (r : PauliRef) (limit : ℕ) (x : PauliAxis) (work : ℕ)
     → hermitianOf r (hermitianStep h nodes scratch pool r limit .answer) ≡ HermitianMade x work

@@ -9,6 +9,7 @@ pub mod Path
 pub mod Runs
 pub mod Roots
 pub mod Readers
+pub mod Commuting
 pub mod Weights
 pub mod Axes
 pub mod Shown

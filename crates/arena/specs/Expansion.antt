@@ -26,7 +26,7 @@ cleared p = replicate (3 * capOf (length p)) 0 ++ drop (3 * capOf (length p)) p
 -- ---- the answers of the calls
 
 abbrev pub expansionOf : Out Expanded → Expansion
-expansionOf (fine x) = ExpansionMade (x .row .phase) (x .work)
+expansionOf (fine x) = ExpansionMade (x .row .phase) (x .work) (x .commute)
 expansionOf (refused e) = ExpansionRefused e
 
 -- the axis is the reference itself

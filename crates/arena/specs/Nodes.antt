@@ -1,11 +1,11 @@
 -- Nodes (document 01): what two words stand for, and the row of each node, read from the front.
-use mathlib.Core.Bool.{cond, _&&_}
+use mathlib.Core.Bool.{Bool, true, cond, not, _&&_}
 use mathlib.Core.List.{List, [], _∷_, _++_}
 use Prim.Native.Nat.{ℕ, zero, suc, _+_, _*_, _/_, _%_}
 use lib.Dec.{leb, ltb, eqb}
 use lib.ListN.{getD}
 use Rattle.pauli.specs.Letters.{pauliOf, pauliNumber}
-use Rattle.pauli.specs.Rows.{Row, _★_, scaled, identity, single}
+use Rattle.pauli.specs.Rows.{Row, _★_, scaled, identity, single, anticommute}
 use Rattle.arena.specs.Types.{Pauli}
 use Rattle.arena.specs.References.{nodeIn, phaseIn}
 pub use Rattle.arena.specs.declared.node.PauliNode.the-variants.{the-data as PauliNode, Identity, Single, Product, Malformed}
@@ -55,3 +55,10 @@ values n k words = rowsTo n (nodeAt n words) k
 -- what a reference word stands for, of n qubits and k used nodes in the words
 unfoldable pub image : ℕ → ℕ → List ℕ → ℕ → Row
 image n k words w = imageIn n (values n k words) w
+
+-- whether the two factors of a product commute, with all their letters (E7 of document 02); yes of a node that is no product
+unfoldable pub factorsCommute : ℕ → ℕ → List ℕ → PauliNode → Bool
+factorsCommute n k words Identity = true
+factorsCommute n k words (Single q a) = true
+factorsCommute n k words (Product l r) = not (anticommute (image n k words l) (image n k words r))
+factorsCommute n k words Malformed = true

@@ -6,24 +6,31 @@ use lib.Dec.{leb}
 use Rattle.pauli.specs.Letters.{real}
 use Rattle.pauli.specs.Rows.{Row}
 use Rattle.arena.specs.Errors.{ExpansionLimit, NonHermitianAxis}
+use Rattle.arena.specs.References.{nodeIn}
+use Rattle.arena.specs.Nodes.{nodeAt, factorsCommute}
 use Rattle.arena.specs.Operations.{AxisKind, NoKind, Pi8, Clifford, Measurement}
 use Rattle.arena.specs.Sparse.{Sparse, empty, size, dense}
-use Rattle.arena.specs.Walk.{Out, fine, refused, bind, walk}
+use Rattle.arena.specs.Walk.{Out, fine, refused, bind, Answer, walk}
 
 abbrev pub firstOf : List Sparse → Sparse
 firstOf [] = empty
 firstOf (v ∷ vs) = v
 
--- ---- expand: one root, as a row
+-- ---- expand: one root, as a row, and whether the two factors of its node commute
 
 pub record Expanded : Type 0 where
   pub row : Row
   pub work : ℕ
+  pub commute : Bool
+
+abbrev pub expandedOf : (n count : ℕ) → (words : List ℕ) → (w : ℕ) → Answer → Expanded
+expandedOf n count words w a =
+    record { row = dense n (firstOf (a .shown)); work = a .work; commute = factorsCommute n count words (nodeAt n words (nodeIn w)) }
 
 -- the n cells of the row are set aside from the limit, and are no work
 unfoldable pub expandWalk : (cells room n count : ℕ) → (words : List ℕ) → (w : ℕ) → Out Expanded
 expandWalk cells room n count words w = cond (leb n cells)
-    (bind (walk (cells - n) room n count words (w ∷ [])) (λ a. fine (record { row = dense n (firstOf (a .shown)); work = a .work })))
+    (bind (walk (cells - n) room n count words (w ∷ [])) (λ a. fine (expandedOf n count words w a)))
     (refused ExpansionLimit)
 
 -- ---- hermitian_axis: one root, whose phase is 1 or -1; the work

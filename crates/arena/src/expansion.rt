@@ -4,9 +4,10 @@ use crate::error::PbcError;
 use crate::pauli_ref::PauliAxis;
 use pauli::Phase;
 
-/// What `expand` answers: the phase and the work. The letters stand in the lent bytes.
+/// What `expand` answers: the phase, the work, and whether the two factors of the reference's node commute, which is so if it is no product.
+/// The letters stand in the lent bytes.
 pub enum Expansion {
-    Made(Phase, usize),
+    Made(Phase, usize, bool),
     Refused(PbcError),
 }
 

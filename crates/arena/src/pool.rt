@@ -319,7 +319,8 @@ fn merge_turn(pool: &mut [u32], free: usize, tail: usize, a: usize, b: usize) ->
     meet(pool, free, tail, a, b)
 }
 
-// The ordered product of two chains, made of their own records; what cancels is given back.
+// The ordered product of two chains, made of their own records; what cancels is given back. Its phase is what the letters add: even exactly if
+// the two commute (`multiply-commutes`).
 pub(crate) fn multiply(
     pool: &mut [u32],
     free0: usize,

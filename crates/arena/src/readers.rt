@@ -10,19 +10,43 @@ use crate::header::Header;
 use crate::pauli_ref::PauliAxis;
 use crate::pauli_ref::PauliRef;
 use crate::pool::cap_of;
+use crate::pool::wide;
 use crate::roots::Shown;
 use crate::roots::show;
 use crate::roots::walk_root;
 use crate::roots::wipe;
+use crate::scratch::first_word;
+use crate::scratch::named_value;
+use crate::scratch::second_word;
 use pauli::Phase;
 ghost use mathlib.Core.Path.{_≡_};
-ghost use Prim.Native.Nat.{_-_, _≤_, _<_};
+ghost use Prim.Native.Nat.{ℕ, _+_, _-_, _≤_, _<_};
 ghost use lib.ListN.{length};
 ghost use Rattle.arena.specs.References.{nodeIn};
+ghost use Rattle.arena.specs.Nodes.{nodeAt, factorsCommute};
 ghost use Rattle.arena.specs.Readers.{expandWalk, hermitianWalk};
 ghost use Rattle.arena.specs.Expansion.{expansionOf, hermitianOf, lettersLeft, expandStep, hermitianStep};
+ghost use Rattle.arena.specs.Code.WalkWords.{RootReady, Settled};
 ghost use Rattle.arena.specs.Code.Roots.{Fit};
 ghost use Rattle.arena.specs.Limits.{capOf};
+
+// Whether the two factors of the root w, which is done, commute: the phase that their letters add is 1 or -1. Yes if the root is no product.
+fn factors_commute(nodes: &[u32], s: &[u32], w: usize) -> bool
+    requires { ⌜ RootReady (now nodes) (now s) (nodeIn w + 1) w ⌝ }
+    ensures { λ r. ⌜ ((g : RootReady (now (nodes .entry)) (now (s .entry)) (nodeIn w + 1) w) (count : ℕ) → nodeIn w < count
+        → Settled (g .n) count (now (nodes .entry)) (now (s .entry)) (nodeIn w)
+        → r ≡ factorsCommute (g .n) count (now (nodes .entry)) (nodeAt (g .n) (now (nodes .entry)) (nodeIn w))) ⌝ }
+{
+    let i = w / 4;
+    let a = first_word(nodes, i);
+    if a % 4 != 2 {
+        return true;
+    }
+    let left = named_value(s, wide(a / 4));
+    let right = named_value(s, wide(second_word(nodes, i)));
+    let own = named_value(s, 4 * i);
+    (left.phase + right.phase + own.phase) % 2 == 0
+}
 
 // The walk of `expand`, with the scratch and the pool left as they are then.
 fn expand_walk(
@@ -47,7 +71,8 @@ fn expand_walk(
         Shown::Refused(e) => Expansion::Refused(e),
         Shown::Root(v, left) => {
             show(letters, pool, n, v.head, v.count);
-            Expansion::Made(Phase::power((v.phase % 4) as u32), left.work)
+            let commute = factors_commute(nodes, s, word as usize);
+            Expansion::Made(Phase::power((v.phase % 4) as u32), left.work, commute)
         }
     }
 }
@@ -77,7 +102,7 @@ fn hermitian_walk(
 }
 
 impl Header {
-    /// The letters of a reference, one byte a qubit, and its phase; `max_cells` bounds the qubits and the work together. Refuses with 3, 4, 16, 17, 18.
+    /// The letters of a reference, one byte a qubit, its phase, and whether the two factors of its node commute; `max_cells` bounds the qubits and the work together. Refuses with 3, 4, 16, 17, 18.
     /// Scratch has four words a node; the words and records that a walk uses are zero afterwards, whatever it answers. O(nodes × qubits). Promise: `expandStep`.
     pub fn expand(
         self,

@@ -144,7 +144,7 @@ fn walk_among(
     requires { ⌜ RootReady (now nodes) (now s) count w ⌝ }
     ensures { λ r. ⌜ ((g : RootReady (now (nodes .entry)) (now (s .entry)) count w)
         → Says (walkNodes limit (capOf (length (now (pool .entry))) - 1) (nodeAt (g .n) (now (nodes .entry))) count (w ∷ [])) (shownOut r)
-        (Showing (now (pool .exit)))) ⌝ }
+        (Showing (g .n) count (now (nodes .entry)) w (now (s .exit)) (now (pool .exit)))) ⌝ }
 {
     zero_all(s);
     add_use(s, w / 4);
@@ -165,7 +165,7 @@ pub(crate) fn walk_root(
     requires { ⌜ RootReady (now nodes) (now s) (nodeIn w + 1) w ⌝ }
     ensures { λ r. ⌜ ((g : RootReady (now (nodes .entry)) (now (s .entry)) (nodeIn w + 1) w) (count : ℕ) → nodeIn w < count
         → Says (walkNodes limit (capOf (length (now (pool .entry))) - 1) (nodeAt (g .n) (now (nodes .entry))) count (w ∷ [])) (shownOut r)
-        (Showing (now (pool .exit)))) ⌝ }
+        (Showing (g .n) count (now (nodes .entry)) w (now (s .exit)) (now (pool .exit)))) ⌝ }
 {
     let count = w / 4 + 1;
     let part = 4 * count;

@@ -3,7 +3,7 @@ use mathlib.Core.Path.{refl}
 use Rattle.pauli.specs.Letters.{power}
 use Rattle.pauli.specs.Table.{start, step}
 use Rattle.arena.specs.Errors.{_⟫_⇒_}
-use Rattle.arena.specs.Nodes.{decode, nodeAt, values, image}
+use Rattle.arena.specs.Nodes.{decode, nodeAt, values, image, factorsCommute}
 use Rattle.arena.specs.Sparse.{dense}
 use Rattle.arena.specs.Walk.{walk}
 use Rattle.arena.specs.Operations.{decodeOp, sourceOf, axisKind}
@@ -19,7 +19,7 @@ use Rattle.convert.specs.Conversion.{gatesIn, plainEnd, wordEnd, recordC
 use Rattle.convert.specs.Circuits.{HandCircuits}
 
 pub hand-circuits : HandCircuits
-unfolding power flushFrom start step _⟫_⇒_ decode nodeAt values image dense walk decodeOp sourceOf axisKind breaksLimit exceedsNodes exceedsOperations foreign unknown noNodeRoom newCheck newStep
+unfolding power flushFrom start step _⟫_⇒_ decode nodeAt values image factorsCommute dense walk decodeOp sourceOf axisKind breaksLimit exceedsNodes exceedsOperations foreign unknown noNodeRoom newCheck newStep
     productCheck productStep expandWalk hermitianWalk reportWalk opAt expandCheck expandStep hermitianCheck hermitianStep reportCheck reportStep records kindOf lowerAs lower
     lowerFrom partsOf lowerIn lowerAll plainBegin tested exceeds flushed performAs plainStep plainRun startArena pushed multiplied frameStep qubitsOf operandsChecked startWords flushGate
     flushGates flushWords writeSeven write wordStep wordRun meaning operationsIn gatesIn plainEnd wordEnd recordChecked recordsChecked gatesCheck gatesChecked convertCheck

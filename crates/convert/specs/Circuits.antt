@@ -1,5 +1,6 @@
 -- The circuits of document 01 that are followed by hand (all but B, G, J and K), on the definitions that the contracts cite.
 use mathlib.Core.Path.{_≡_}
+use mathlib.Core.Bool.{true, false}
 use mathlib.Core.List.{List, [], _∷_, _++_}
 use Prim.Native.Nat.{ℕ, _+_, _*_}
 use lib.IntN.{pos, negsuc}
@@ -76,7 +77,7 @@ pub record HandCircuits : Type 0 where
   pub c : Makes circuitC 4 (aboutNode 3 3 1 2 ∷ [])
   pub c-axis : operationsIn (smallHeader 1 4 1) (convertStep circuitC .nodes) (convertStep circuitC .operations) ≡ from 2 (rotateBy 1 (record { letters = Y ∷ []; phase = MinusOne })) ∷ []
   -- `expand` passes at 7, gives 17 at 6
-  pub c-expands : expands circuitC (smallHeader 1 4 1) 15 7 ≡ fine (record { row = record { letters = Y ∷ []; phase = MinusOne }; work = 6 })
+  pub c-expands : expands circuitC (smallHeader 1 4 1) 15 7 ≡ fine (record { row = record { letters = Y ∷ []; phase = MinusOne }; work = 6; commute = false })
   pub c-stops : expands circuitC (smallHeader 1 4 1) 15 6 ≡ refused ExpansionLimit
   -- D: n = 2; cnot 0 1, t 1, no cap: 7 nodes, node 6 by 1, letters ZZ; at cap 2 the same
   pub d : Makes (circuitD NoCap) 7 (aboutNode 6 0 1 1 ∷ [])
@@ -95,7 +96,7 @@ pub record HandCircuits : Type 0 where
   pub h : (remainder8 (negsuc 0) ≡ 7) × (remainder8 (pos 8) ≡ 0) × (remainder8 (negsuc 9223372036854775807) ≡ 0)
   -- I: identity at n = 2 expands at 4; 3 gives 17
   pub i : expandStep (newHeader 2 0 7) (freshNodes 2) (replicate 4 9) (replicate 20 9) (replicate 3 9) (reference 0) 4 .answer
-      ≡ fine (record { row = record { letters = I ∷ I ∷ []; phase = One }; work = 2 })
+      ≡ fine (record { row = record { letters = I ∷ I ∷ []; phase = One }; work = 2; commute = true })
   pub i-stops : expandStep (newHeader 2 0 7) (freshNodes 2) (replicate 4 9) (replicate 20 9) (replicate 3 9) (reference 0) 3 .answer ≡ refused ExpansionLimit
   -- L: product of X and Z on one qubit, `hermitian_axis`: limit 6 gives 19, 5 gives 17
   pub l : productStep (newHeader 1 0 7) (freshNodes 1) (reference 4) (reference 8) .answer ≡ MultipliedMade (smallHeader 1 4 0) (reference 12)

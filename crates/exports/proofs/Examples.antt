@@ -8,7 +8,7 @@ use Rattle.pauli.specs.Angle.{remainder8}
 use Rattle.pauli.specs.Letters.{power}
 use Rattle.pauli.specs.Table.{start, step}
 use Rattle.arena.specs.Errors.{_⟫_⇒_}
-use Rattle.arena.specs.Nodes.{decode, nodeAt}
+use Rattle.arena.specs.Nodes.{decode, nodeAt, values, image, factorsCommute}
 use Rattle.arena.specs.Sparse.{dense}
 use Rattle.arena.specs.Operations.{sourceOf, decodeOp, axisKind}
 use Rattle.arena.specs.Store.{breaksLimit, exceedsNodes, exceedsOperations, foreign, unknown, noNodeRoom, noOperationRoom}
@@ -35,7 +35,7 @@ use Rattle.exports.specs.Texts.{programReply, readQasmCall, positionRepl
 
 -- a header of two qubits, three classical bits, owner 7, six nodes, two operations and one measurement, and a word more; five words for the answer
 header : List ℕ
-unfolding power flushFrom start step _⟫_⇒_ decode nodeAt dense sourceOf decodeOp axisKind breaksLimit exceedsNodes exceedsOperations foreign unknown noNodeRoom noOperationRoom newCheck newStep singleCheck
+unfolding power flushFrom start step _⟫_⇒_ decode nodeAt values image factorsCommute dense sourceOf decodeOp axisKind breaksLimit exceedsNodes exceedsOperations foreign unknown noNodeRoom noOperationRoom newCheck newStep singleCheck
     singleStep productCheck productStep rotateCheck rotateStep measureCheck measureStep conditionalCheck conditionalStep walk expandWalk hermitianWalk reportWalk opAt expandCheck
     expandStep hermitianCheck hermitianStep reportCheck reportStep records kindOf lowerAs lower lowerFrom partsOf lowerIn lowerAll plainBegin tested exceeds flushed performAs plainStep plainRun
     rowsAfter tableRun startArena pushed multiplied frameStep qubitsOf operandsChecked frameGates frameRun cliffordCheck cliffordStep startWords flushGate flushGates flushWords
@@ -136,15 +136,24 @@ conditional-refused : conditionalCall header operations 7 20 (pos 13) 7 1 answer
 unfolding header
 conditional-refused = refl
 
--- ---- pbc_expand: -X₀ Z₁, with the least cells that do, and three records; the values are phase and work
+-- ---- pbc_expand: -X₀ Z₁, with the least cells that do, and three records; the values are phase, work, and 1, since X₀ and Z₁ commute
 
 expand-accepted : expandCall header nodes (replicate 3 9) (replicate 25 9) (replicate 10 9) 7 22 9 answer
-    ≡ returned 0 (2 ∷ 7 ∷ 0 ∷ 0 ∷ 9 ∷ [])
+    ≡ returned 0 (2 ∷ 7 ∷ 1 ∷ 0 ∷ 9 ∷ [])
     (expandWords (1 ∷ 3 ∷ 9 ∷ [])
     (0 ∷ 0 ∷ 0 ∷ 0 ∷ 0 ∷ 0 ∷ 0 ∷ 0 ∷ 0 ∷ 0 ∷ 0 ∷ 0 ∷ 0 ∷ 0 ∷ 0 ∷ 0 ∷ 0 ∷ 0 ∷ 0 ∷ 0 ∷ 0 ∷ 0 ∷ 0 ∷ 0 ∷ 9 ∷ [])
     (0 ∷ 0 ∷ 0 ∷ 0 ∷ 0 ∷ 0 ∷ 0 ∷ 0 ∷ 0 ∷ 9 ∷ []))
 unfolding header
 expand-accepted = refl
+
+-- X₀ Z₀ do not: the last value is 0
+expand-clash : expandCall header (0 ∷ 0 ∷ 5 ∷ 0 ∷ 13 ∷ 0 ∷ 5 ∷ 1 ∷ 13 ∷ 1 ∷ 18 ∷ 8 ∷ []) (replicate 3 9) (replicate 25 9) (replicate 10 9) 7 20 8 answer
+    ≡ returned 0 (3 ∷ 6 ∷ 0 ∷ 0 ∷ 9 ∷ [])
+    (expandWords (2 ∷ 0 ∷ 9 ∷ [])
+    (0 ∷ 0 ∷ 0 ∷ 0 ∷ 0 ∷ 0 ∷ 0 ∷ 0 ∷ 0 ∷ 0 ∷ 0 ∷ 0 ∷ 0 ∷ 0 ∷ 0 ∷ 0 ∷ 0 ∷ 0 ∷ 0 ∷ 0 ∷ 0 ∷ 0 ∷ 0 ∷ 0 ∷ 9 ∷ [])
+    (0 ∷ 0 ∷ 0 ∷ 0 ∷ 0 ∷ 0 ∷ 0 ∷ 0 ∷ 0 ∷ 9 ∷ []))
+unfolding header
+expand-clash = refl
 
 -- one cell less: 17; scratch and pool are zero all the same
 expand-refused : expandCall header nodes (replicate 3 9) (replicate 25 9) (replicate 10 9) 7 22 8 answer

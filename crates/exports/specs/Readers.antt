@@ -1,5 +1,5 @@
 -- What each function that reads a circuit returns, and what it leaves in the slices lent. The header and the nodes are only read.
-use mathlib.Core.Bool.{Bool}
+use mathlib.Core.Bool.{Bool, cond}
 use mathlib.Core.List.{List}
 use Prim.Native.Nat.{ℕ}
 use lib.ListN.{length}
@@ -9,10 +9,10 @@ use Rattle.arena.specs.Expansion.{ExpandStep, WalkStep, AxesStep, expansionOf, 
 use Rattle.exports.specs.Types.{Expansion, ExpansionMade, ExpansionRefused, HermitianAxis, HermitianMade, HermitianRefused, MaxAxisWeights, WeightsMade, WeightsRefused, ExpandedAxes, AxesMade, AxesRefused}
 use Rattle.exports.specs.Words.{headerIn, handleIn, tooShort, Reply, Values, Refused, Returned, replied}
 
--- ---- replies: phase and work, word and work, two weights and work, the work
+-- ---- replies: phase, work and 1 if the two factors commute; word and work; two weights and work; the work
 
 unfoldable pub expandedReply : Expansion → Reply
-expandedReply (ExpansionMade phase work) = Values (phaseNumber phase) work 0
+expandedReply (ExpansionMade phase work commute) = Values (phaseNumber phase) work (cond commute 1 0)
 expandedReply (ExpansionRefused e) = Refused e
 
 unfoldable pub hermitianReply : HermitianAxis → Reply

@@ -18,7 +18,9 @@ fn expanded(answer: Expansion) -> Reply
     ensures { λ r. ⌜ r ≡ expandedReply answer ⌝ }
 {
     match answer {
-        Expansion::Made(phase, work) => { Reply::Values(phase.number() as u64, work as u64, 0) }
+        Expansion::Made(phase, work, commute) => {
+            Reply::Values(phase.number() as u64, work as u64, commute as u64)
+        }
         Expansion::Refused(error) => Reply::Refused(error),
     }
 }
@@ -54,7 +56,8 @@ fn axes(answer: ExpandedAxes) -> Reply
     }
 }
 
-/// The letters of a handle, one byte a qubit; the values are its phase and the work. Promise: `expandCall`.
+/// The letters of a handle, one byte a qubit; the values are its phase, the work, and 1 if the two factors of its node commute, which is so if it is no product.
+/// Promise: `expandCall`.
 #[no_mangle]
 pub extern "C" fn pbc_expand(
     header: &[u64],

@@ -4,13 +4,14 @@ use mathlib.Core.Path.{_≡_, refl, ap, ap₂, sym, _∙_}
 use mathlib.Core.Logic.{_⊎_, inl, inr}
 use mathlib.Core.Bool.{Bool, true, false, not, cond}
 use mathlib.Core.List.{List, [], _∷_}
-use Prim.Native.Nat.{ℕ, zero, suc}
+use Prim.Native.Nat.{ℕ, zero, suc, _+_, _%_}
+use lib.Dec.{eqb}
 use lib.ListN.{replicate}
-use Rattle.pauli.specs.Letters.{Pauli, I, Phase, PlusI, MinusOne, MinusI, _⊕_, phaseOf, real}
+use Rattle.pauli.specs.Letters.{Pauli, I, Phase, PlusI, MinusOne, MinusI, _⊕_, phaseOf, real, phaseNumber}
 use Rattle.pauli.specs.Rows.{Row, Width, phases, _★_, scaled, anti, antiPlaces, odd, anticommute, minusIf}
 use Rattle.pauli.specs.Bits.{_xor_}
 use Rattle.pauli.specs.Rotations.{quarter, quarters, rotate, quarterLast, quarterFirst, SameSum}
-use Rattle.pauli.proofs.Finite.{letters, turns, truths, phase, truth, law₁, law₂, ⊕-assoc, minus-minus}
+use Rattle.pauli.proofs.Finite.{letters, turns, truths, phase, truth, law₁, law₂, law₃, ⊕-assoc, minus-minus}
 use Rattle.pauli.proofs.Rows.{row-eq, assoc, exchange, identity-left, identity-right, width-★, scaled-left, scaled-right, odd-tally, no-minus, anticommute-★, anticommute-self, square}
 use Rattle.pauli.proofs.Local.{Hom, hom-id, hom-after}
 
@@ -32,12 +33,20 @@ real-phaseOf = law₂ letters truth _ _ tt
 not-xor : (a b : Bool) → not (not a xor not b) ≡ not (a xor b)
 not-xor = law₂ truths truth _ _ tt
 
-real-phases : (u v : List Pauli) → real (phases u v) ≡ not (odd (antiPlaces u v))
+pub real-phases : (u v : List Pauli) → real (phases u v) ≡ not (odd (antiPlaces u v))
 real-phases [] v = refl
 real-phases (a ∷ u) [] = refl
 real-phases (a ∷ u) (b ∷ v) =
     real-both (phaseOf a b) (phases u v) ∙ ap₂ (λ x y. not (x xor y)) (real-phaseOf a b) (real-phases u v)
     ∙ not-xor (anti a b) (odd (antiPlaces u v)) ∙ ap not (sym (odd-tally (anti a b) (antiPlaces u v)))
+
+-- what is added to two phases is real exactly if the three numbers have an even sum
+even-added : (p q r : Phase) → eqb ((phaseNumber p + phaseNumber q + phaseNumber (p ⊕ q ⊕ r)) % 2) 0 ≡ real r
+even-added = law₃ turns truth _ _ tt
+
+-- two rows commute exactly if the numbers of their phases and of their product's phase have an even sum
+pub even-commute : (P Q : Row) → eqb ((phaseNumber (P .phase) + phaseNumber (Q .phase) + phaseNumber ((P ★ Q) .phase)) % 2) 0 ≡ not (anticommute P Q)
+even-commute P Q = even-added (P .phase) (Q .phase) (phases (P .letters) (Q .letters)) ∙ real-phases (P .letters) (Q .letters)
 
 -- ---- a quarter turn
 

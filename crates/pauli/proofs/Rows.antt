@@ -149,6 +149,9 @@ even-iff n = (odd-mod n false, λ e. go (odd n) refl e)
 pub commute-iff-even : (P Q : Row) → (P ★ Q ≡ Q ★ P) ↔ (antiPlaces (P .letters) (Q .letters) % 2 ≡ 0)
 commute-iff-even P Q = Iff·trans (commute-if-not-anti P Q) (even-iff _)
 
+pub commute-iff-yes : (P Q : Row) → (not (anticommute P Q) ≡ true) ↔ (P ★ Q ≡ Q ★ P)
+commute-iff-yes P Q = (λ e. commute-if-not-anti P Q .1 (not-is (anticommute P Q) true e), λ e. ap not (commute-if-not-anti P Q .0 e))
+
 -- ---- anticommuting with a product: one factor and not the other
 
 anti-· : (a b c : Pauli) → anti a (b · c) ≡ (anti a b xor anti a c)

@@ -115,6 +115,10 @@ pub expand-number : numberOf (101 ∷ 120 ∷ 112 ∷ 97 ∷ 110 ∷ 100 ∷ [])
 unfolding extendedBy extendedName
 expand-number = refl
 
+pub commutes-number : numberOf (99 ∷ 111 ∷ 109 ∷ 109 ∷ 117 ∷ 116 ∷ 101 ∷ 115 ∷ []) ≡ 324208454365
+unfolding extendedBy extendedName
+commutes-number = refl
+
 pub herm-number : numberOf (104 ∷ 101 ∷ 114 ∷ 109 ∷ []) ≡ 412748
 unfolding extendedBy extendedName
 herm-number = refl

@@ -32,7 +32,7 @@ fn commands(out: &mut [u8; CHUNK], at: usize, between: &[u8]) -> usize {
         between,
         b"new N CBITS|convert N CBITS CAP WORD ..|planes N CBITS CAP WORD ..|fgate KIND A B C|qasm ROOM HEX|\
         single QUBIT LETTER|product F W F W|rotate F W ANGLE|measure F W BIT+1|cond F W ANGLE F NUMBER|\
-        expand F W MAX_CELLS|herm F W LIMIT|report LIMIT|report2 LIMIT|rows LIMIT|angle K|times A B|dump|kinds|\
+        expand F W MAX_CELLS|commutes F W MAX_CELLS|herm F W LIMIT|report LIMIT|report2 LIMIT|rows LIMIT|angle K|times A B|dump|kinds|\
         store N CBITS MEASUREMENTS COUNT NODEWORD .. COUNT OPERATIONWORD .. COUNT FRAMEWORD ..|\
         header N CBITS NODES OPERATIONS MEASUREMENTS|peek BUFFER FROM COUNT|fill VALUE|\
         lend|lend NODES OPERATIONS FRAME PLANES SCRATCH POOL LETTERS|help",

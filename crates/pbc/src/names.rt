@@ -42,6 +42,8 @@ pub const COND: u64 = 173016;
 
 pub const EXPAND: u64 = 392511988;
 
+pub const COMMUTES: u64 = 324208454365;
+
 pub const HERM: u64 = 412748;
 
 pub const REPORT: u64 = 1258393700;

@@ -15,7 +15,7 @@ use arena::HermitianAxis;
 use arena::MaxAxisWeights;
 
 pub enum ReadingCommand {
-    Expand,
+    Expand(bool),
     Hermitian,
     Report(bool),
     Rows,
@@ -25,8 +25,17 @@ pub enum ReadingCommand {
 
 fn expanded(state: CommandState, answer: Expansion) -> LineReply {
     match answer {
-        Expansion::Made(phase, work) => {
+        Expansion::Made(phase, work, _) => {
             state.says(LineAnswer::Letters(phase.number() as u64, work as u64))
+        }
+        Expansion::Refused(error) => state.refused(error),
+    }
+}
+
+fn judged(state: CommandState, answer: Expansion) -> LineReply {
+    match answer {
+        Expansion::Made(_, work, commute) => {
+            state.says(LineAnswer::Two(commute as u64, work as u64))
         }
         Expansion::Refused(error) => state.refused(error),
     }
@@ -61,8 +70,9 @@ fn written(state: CommandState, answer: ExpandedAxes) -> LineReply {
 
 // ---- the commands, on what is lent of each buffer
 
-// `expand F W MAX_CELLS`
+// `expand F W MAX_CELLS`, and `commutes F W MAX_CELLS`: the same call, whether the two factors commute
 fn expand(
+    commutes: bool,
     state: CommandState,
     line: Line,
     words: &[u32],
@@ -78,6 +88,9 @@ fn expand(
     let reference = handle(header, words, 0, 1);
     let max_cells = count_at(words, 2);
     let answer = header.expand(nodes, letters, scratch, pool, reference, max_cells);
+    if commutes {
+        return judged(state, answer);
+    }
     expanded(state, answer)
 }
 
@@ -156,7 +169,9 @@ fn read(
     letters: &mut [u8],
 ) -> LineReply {
     match command {
-        ReadingCommand::Expand => expand(state, line, words, nodes, scratch, pool, letters),
+        ReadingCommand::Expand(commutes) => {
+            expand(commutes, state, line, words, nodes, scratch, pool, letters)
+        }
         ReadingCommand::Hermitian => hermitian(state, line, words, nodes, scratch, pool),
         ReadingCommand::Report(by_kind) => {
             report(

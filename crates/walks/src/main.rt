@@ -91,10 +91,11 @@ fn expand(label: &[u8], h: Header, nodes: &[u32], word: u32, cells: usize, pool:
         reference(word),
         cells,
     ) {
-        Expansion::Made(phase, work) => {
+        Expansion::Made(phase, work, commute) => {
             text(b" ok");
             number(phase.number() as u64);
             number(work as u64);
+            number(commute as u64);
         }
         Expansion::Refused(e) => refused(e),
     }

@@ -3,30 +3,33 @@ use mathlib.Core.Path.{_≡_, refl, ap, ap₂, sym, _∙_, subst}
 use mathlib.Core.Logic.{_≢_}
 use mathlib.Core.Bool.{Bool, true, false, cond, _||_}
 use mathlib.Core.List.{List, [], _∷_, _++_}
-use Prim.Native.Nat.{ℕ, zero, suc, _+_, _*_, _-_, _%_, _≤_, _<_}
+use Prim.Native.Nat.{ℕ, zero, suc, _+_, _*_, _-_, _/_, _%_, _≤_, _<_}
 use native.Mathlib.Nat.{not-suc-le-zero}
 use native.Mathlib.Omega.{arith}
 use borrow.Author.Tests.{le-leb, lt-leb, ltb-true, ltb-false}
 use lib.Dec.{leb, ltb}
-use lib.ListN.{length, take, drop, replicate, length-take, length-drop, length-append}
+use lib.ListN.{length, take, drop, replicate, length-take, length-drop, length-append, List·getD-append}
 use Rattle.pauli.specs.Letters.{power, phaseNumber, real}
+use Rattle.pauli.specs.Rows.{Row}
 use Rattle.pauli.proofs.Numbers.{phaseNumber-small}
 use Rattle.arena.specs.Types.{Phase, One, PlusI, MinusOne, MinusI}
 use Rattle.arena.specs.Errors.{PbcError, ExpansionLimit, NonHermitianAxis, Fine}
 use Rattle.arena.specs.References.{PauliRef, nodeIn}
-use Rattle.arena.specs.Nodes.{PauliNode, Malformed, nodeAt}
+use Rattle.arena.specs.Nodes.{PauliNode, Malformed, nodeAt, factorsCommute}
 use Rattle.arena.specs.Store.{Header, breaksLimit, exceedsNodes}
 use Rattle.arena.specs.Sparse.{Sparse, spread, dense}
 use Rattle.arena.specs.Walk.{Out, fine, refused, bind, Walked, walkNodes, answerOf, walk}
-use Rattle.arena.specs.Readers.{firstOf, Expanded, expandWalk, hermitianWalk}
+use Rattle.arena.specs.Readers.{firstOf, Expanded, expandedOf, expandWalk, hermitianWalk}
 use Rattle.arena.specs.Code.Results.{Ledger, Value, Says}
-use Rattle.arena.specs.Code.WalkWords.{RootReady, Showing, ShowReady, bytes, lettersWritten}
+use Rattle.arena.specs.Code.WalkWords.{turnIn, RootReady, TurnIs, Settled, Showing, ShowReady, bytes, lettersWritten}
 use Rattle.arena.specs.Expansion.{expansionOf, ExpansionMade, isMalformed, anyMalformed, badNodes, lettersLeft, scratchLeft, expandCheck, hermitianCheck, cleared}
 use Rattle.arena.specs.Code.Roots.{Fit}
 use Rattle.arena.proofs.Accepted.{passed-before, test-passed, left-false, right-false, Sound, sound, own}
+use Rattle.arena.proofs.NodeRows.{Older, older, image-older}
+use Rattle.arena.proofs.walk.Outcomes.{bind-fine}
 use Rattle.arena.proofs.walk.UpToRoot.{walk-upto}
 use Rattle.arena.proofs.walk.Readers.{spread-length}
-use Rattle.arena.proofs.steps.Saying.{said-fine, said-refused}
+use Rattle.arena.proofs.steps.Saying.{said-fine, said-refused, says-as, says-on}
 use Rattle.arena.specs.Limits.{capOf}
 
 -- ---- what passed the checks
@@ -141,13 +144,50 @@ ready-part {l = l} {k = k} g e = record {
   nodes-few = g .nodes-few;
 }
 
--- and the walk up to the root says what the whole one does
-pub whole-walk : (limit room n : ℕ) (words : List ℕ) (w count : ℕ) {p : List ℕ} {y : Out (Value × Ledger)} → nodeIn w < count
-    → Says (walkNodes limit room (nodeAt n words) (nodeIn w + 1) (w ∷ [])) y (Showing p) → Says (walkNodes limit room (nodeAt n words) count (w ∷ [])) y (Showing p)
-whole-walk limit room n words w count {p} {y} named = subst (λ (o : Out Walked). Says o y (Showing p)) (walk-upto limit room n words w count named)
+-- and a scratch as long
+abbrev pub ready-long : {words l l′ : List ℕ} {count w : ℕ} → RootReady words l count w → length l′ ≡ length l → RootReady words l′ count w
+ready-long g e = record {
+  n = g .n;
+  named = g .named;
+  long = omega (arith, g .long);
+  well = g .well;
+  qubits-few = g .qubits-few;
+  nodes-long = g .nodes-long;
+  nodes-few = g .nodes-few;
+}
 
-abbrev expandOf : ℕ → Bool → Out Walked → Out Expanded
-expandOf n b x = cond b (bind (bind x (λ r. fine (answerOf r))) (λ a. fine (record { row = dense n (firstOf (a .shown)); work = a .work }))) (refused ExpansionLimit)
+-- what stands in the scratch up to the root stands in the whole scratch, among however many nodes
+module _ (n : ℕ) (words : List ℕ) (i count : ℕ) (low : i < count) (l rest : List ℕ) (long : 4 * (i + 1) ≤ length l) where
+  turn-whole : (v : ℕ) → nodeIn v < i + 1 → TurnIs n (i + 1) words l v → TurnIs n count words (l ++ rest) v
+  turn-whole v lt e =
+      ap (λ (m : ℕ). (v % 4 + turnIn m) % 4) (List·getD-append l rest 0 (4 * (v / 4) + 2) (omega arith)) ∙ e
+      ∙ ap (λ (P : Row). phaseNumber (P .phase)) (sym (image-older n (i + 1) count words words v lt (omega arith) refl))
+
+  settled-whole : Settled n (i + 1) words l i → Settled n count words (l ++ rest) i
+  settled-whole s = record {
+    own = turn-whole (4 * i) (omega arith) (s .own);
+    factors = λ a b e.
+        let old : (nodeIn a < i) × (nodeIn b < i) = subst (Older i) e (older n words i) in
+        (turn-whole a (omega arith) (s .factors a b e .0), turn-whole b (omega arith) (s .factors a b e .1));
+  }
+
+-- and the walk up to the root says what the whole one does
+pub whole-walk : (limit room n : ℕ) (words : List ℕ) (w count : ℕ) {l p : List ℕ} (rest : List ℕ) {y : Out (Value × Ledger)} → nodeIn w < count → 4 * (nodeIn w + 1) ≤ length l
+    → Says (walkNodes limit room (nodeAt n words) (nodeIn w + 1) (w ∷ [])) y (Showing n (nodeIn w + 1) words w l p)
+    → Says (walkNodes limit room (nodeAt n words) count (w ∷ [])) y (Showing n count words w (l ++ rest) p)
+whole-walk limit room n words w count {l} {p} rest {y} named long h =
+    says-as (says-on h (λ r. r) (Showing n count words w (l ++ rest) p) (λ r b s. record {
+      x = s .x;
+      who = s .who;
+      tag = s .tag;
+      shown-is = s .shown-is;
+      value = s .value;
+      work-is = s .work-is;
+      settled = settled-whole n words (nodeIn w) count named l rest long (s .settled);
+    })) (sym (walk-upto limit room n words w count named) ∙ sym (bind-fine (walkNodes limit room (nodeAt n words) (nodeIn w + 1) (w ∷ []))))
+
+abbrev expandOf : (n count : ℕ) → (words : List ℕ) → (w : ℕ) → Bool → Out Walked → Out Expanded
+expandOf n count words w b x = cond b (bind (bind x (λ r. fine (answerOf r))) (λ a. fine (expandedOf n count words w a))) (refused ExpansionLimit)
 
 abbrev axisIn : Out Walked → Out ℕ
 axisIn x = bind (bind x (λ r. fine (answerOf r))) (λ a. cond (real (firstOf (a .shown) .phase)) (fine (a .work)) (refused NonHermitianAxis))
@@ -175,7 +215,7 @@ module _ (n count : ℕ) (words : List ℕ) (w room : ℕ) where
   abbrev pub walked : ℕ → Out Walked
   walked limit = walkNodes limit room (nodeAt n words) count (w ∷ [])
 
-  expand-by : (cells : ℕ) → expandWalk cells room n count words w ≡ expandOf n (leb n cells) (walked (cells - n))
+  expand-by : (cells : ℕ) → expandWalk cells room n count words w ≡ expandOf n count words w (leb n cells) (walked (cells - n))
   unfolding expandWalk walk
   expand-by cells = refl
 
@@ -184,17 +224,17 @@ module _ (n count : ℕ) (words : List ℕ) (w room : ℕ) where
   axis-by limit = refl
 
   pub expand-low : (cells : ℕ) → cells < n → expandWalk cells room n count words w ≡ refused ExpansionLimit
-  expand-low cells lt = expand-by cells ∙ ap (λ b. expandOf n b (walked (cells - n))) (lt-leb n cells lt)
+  expand-low cells lt = expand-by cells ∙ ap (λ b. expandOf n count words w b (walked (cells - n))) (lt-leb n cells lt)
 
-  module _ (limit : ℕ) {p : List ℕ} {y : Out (Value × Ledger)} (s : Says (walkNodes limit room (nodeAt n words) count (w ∷ [])) y (Showing p)) where
+  module _ (limit : ℕ) {l p : List ℕ} {y : Out (Value × Ledger)} (s : Says (walkNodes limit room (nodeAt n words) count (w ∷ [])) y (Showing n count words w l p)) where
     pub axis-refused : {e : PbcError} → y ≡ refused e → hermitianWalk limit room n count words w ≡ refused e
     axis-refused q = axis-by limit ∙ ap axisIn (said-refused s q)
 
     pub expand-refused : {e : PbcError} (cells : ℕ) → n ≤ cells → limit ≡ cells - n → y ≡ refused e → expandWalk cells room n count words w ≡ refused e
-    expand-refused cells le e q = expand-by cells ∙ ap₂ (expandOf n) (le-leb n cells le) (ap walked (sym e) ∙ said-refused s q)
+    expand-refused cells le e q = expand-by cells ∙ ap₂ (expandOf n count words w) (le-leb n cells le) (ap walked (sym e) ∙ said-refused s q)
 
     module _ {v : Value} {left : Ledger} (z : y ≡ fine (v, left)) where
-      abbrev pub seen : (r : Walked) × (walkNodes limit room (nodeAt n words) count (w ∷ []) ≡ fine r) × Showing p r (v, left)
+      abbrev pub seen : (r : Walked) × (walkNodes limit room (nodeAt n words) count (w ∷ []) ≡ fine r) × Showing n count words w l p r (v, left)
       seen = said-fine s z
 
       abbrev pub x : Sparse
@@ -207,17 +247,18 @@ module _ (n count : ℕ) (words : List ℕ) (w room : ℕ) where
       first-is = ap firstOf (seen .2 .shown-is)
 
       abbrev made : Expanded
-      made = record { row = dense n x; work = left .work }
+      made = record { row = dense n x; work = left .work; commute = factorsCommute n count words (nodeAt n words (nodeIn w)) }
 
       expand-made : (cells : ℕ) → n ≤ cells → limit ≡ cells - n → expandWalk cells room n count words w ≡ fine made
-      expand-made cells le e = expand-by cells ∙ ap₂ (expandOf n) (le-leb n cells le) (ap walked (sym e) ∙ seen .1)
-          ∙ ap₂ (λ (u : Sparse) (k : ℕ). fine (record { row = dense n u; work = k })) first-is (sym (seen .2 .work-is))
+      expand-made cells le e = expand-by cells ∙ ap₂ (expandOf n count words w) (le-leb n cells le) (ap walked (sym e) ∙ seen .1)
+          ∙ ap₂ (λ (u : Sparse) (k : ℕ). fine (record { row = dense n u; work = k; commute = factorsCommute n count words (nodeAt n words (nodeIn w)) })) first-is (sym (seen .2 .work-is))
 
-      pub expand-answer : (cells : ℕ) → n ≤ cells → limit ≡ cells - n → {q : Phase} → q ≡ power (v .phase % 4) → ExpansionMade q (left .work) ≡ expansionOf (expandWalk cells room n count words w)
+      pub expand-answer : (cells : ℕ) → n ≤ cells → limit ≡ cells - n → {q : Phase} {b : Bool} → q ≡ power (v .phase % 4) → b ≡ factorsCommute n count words (nodeAt n words (nodeIn w))
+          → ExpansionMade q (left .work) b ≡ expansionOf (expandWalk cells room n count words w)
       unfolding dense
-      expand-answer cells le e {q} q-is =
+      expand-answer cells le e {q} {b} q-is b-is =
           let small : v .phase % 4 ≡ v .phase = omega (arith, seen .2 .value .phase-is, phaseNumber-small (x .phase)) in
-          ap (λ (p : Phase). ExpansionMade p (left .work)) (q-is ∙ ap power (small ∙ seen .2 .value .phase-is) ∙ power-number (x .phase)) ∙ sym (ap expansionOf (expand-made cells le e))
+          ap₂ (λ (p : Phase) (b : Bool). ExpansionMade p (left .work) b) (q-is ∙ ap power (small ∙ seen .2 .value .phase-is) ∙ power-number (x .phase)) b-is ∙ sym (ap expansionOf (expand-made cells le e))
 
       pub expand-letters : (cells : ℕ) (was letters : List ℕ) → n ≤ cells → limit ≡ cells - n → letters ≡ lettersWritten n (x .factors) was → letters ≡ lettersLeft (expandWalk cells room n count words w) was
       unfolding dense

@@ -7,28 +7,29 @@ use native.Mathlib.Omega.{arith}
 use borrow.Author.Tests.{le-leb, lt-leb, eq-eqb, ne-eqb}
 use lib.Dec.{eqb}
 use lib.ListN.{length, getD, replicate, length-replicate}
-use Rattle.pauli.specs.Letters.{power}
+use Rattle.pauli.specs.Letters.{power, phaseNumber, _⊕_}
+use Rattle.pauli.specs.Rows.{Row}
 use Rattle.arena.specs.Errors.{PbcError, ExpansionLimit}
 use Rattle.arena.specs.References.{nodeIn, phaseIn}
-use Rattle.arena.specs.Nodes.{PauliNode, nodeAt}
-use Rattle.arena.specs.Sparse.{Sparse, turned, size}
+use Rattle.arena.specs.Nodes.{PauliNode, Product, nodeAt, values, image}
+use Rattle.arena.specs.Sparse.{Sparse, turned, size, dense}
 use Rattle.arena.specs.Walk.{Out, fine, refused, bind, update, State, Walked, rootUses, worked, charge, less, giveBack, release, eval, showRoots, walkBegin, walkNodes}
-use Rattle.arena.specs.Pool.{spare, Chain, Free}
+use Rattle.arena.specs.Pool.{Who, spare, Chain, Free}
 use Rattle.arena.specs.PoolSteps.{AllFree, Holding, GivenBack}
 use Rattle.arena.specs.Code.Results.{Ledger, Value, Says}
-use Rattle.arena.specs.Code.WalkWords.{Inv, none, kept, usesAt, withUse, valueAt, valueNamed, Marks, ValuesKept, Counting, CountedUp, Stands, Walking, Rooted, RootReady, Showing}
+use Rattle.arena.specs.Code.WalkWords.{Inv, none, kept, usesAt, withUse, valueAt, valueNamed, Marks, ValuesKept, Counting, CountedUp, Rep, Stands, Walking, Rooted, RootReady, TurnIs, Settled, Showing}
 use Rattle.arena.specs.Code.Roots.{Rootable, tallyOf, startOf, Begun, showRoot, RootShown, Releasable, Released}
-use Rattle.arena.proofs.walk.Outcomes.{post-fine, bind-assoc, update-same}
-use Rattle.arena.proofs.DecodedNodes.{node-fits}
+use Rattle.arena.proofs.walk.Outcomes.{Post, post-bind, post-each, post-fine, charge-post, bind-assoc, update-same}
+use Rattle.arena.proofs.DecodedNodes.{Fits, node-fits}
 use Rattle.arena.proofs.walk.Bounds.{roots-few}
 use Rattle.arena.proofs.walk.Sums.{sum-at}
-use Rattle.arena.proofs.walk.Evaluates.{Good, eval-post}
+use Rattle.arena.proofs.walk.Evaluates.{Good, eval-post, eval-children}
 use Rattle.arena.proofs.walk.Invariant.{inv-worked}
 use Rattle.arena.proofs.walk.Means.{root-used, begin-inv}
 use Rattle.arena.proofs.chains.Letters.{number-power}
 use Rattle.arena.proofs.steps.Scratch.{length-use, use-value}
 use Rattle.arena.proofs.steps.Counting.{uses-plus}
-use Rattle.arena.proofs.steps.Saying.{said-fine, says-as, says-on, refuses-on, says-fine, says-refused}
+use Rattle.arena.proofs.steps.Saying.{said-fine, says-as, says-on, says-post, refuses-on, says-fine, says-refused}
 use Rattle.arena.proofs.steps.Moves.{word-sum, less-rep}
 use Rattle.arena.specs.Limits.{capOf}
 
@@ -259,6 +260,19 @@ show-first limit room node count w ws s = sym (bind-assoc (eval limit room node 
     bind (showRoots limit room node count ws (release (nodeIn w) t)) (λ r.
     fine (record { shown = turned (phaseIn w) (t .value (nodeIn w)) ∷ r .shown; state = r .state }))))
 
+-- the scratch gives the word of a done node the phase of what it stands for
+turn-is : (limit room n count : ℕ) (words : List ℕ) (total rest : ℕ → ℕ) {l p : List ℕ} {left : Ledger} {who : Who} {t : State} → Rep count room l p left who t
+    → Inv limit room n count (nodeAt n words) total rest none 0 t → (v : ℕ) → nodeIn v < count → t .done (nodeIn v) ≡ true → TurnIs n count words l v
+unfolding image values dense
+turn-is limit room n count words total rest {l} {t = t} rep inv v low d =
+    let mark = subst (λ b. Marks b (t .value (nodeIn v)) (valueAt l (nodeIn v))) d (rep .scratch .marks-are (nodeIn v) low) in
+    word-sum (v % 4) _ (power (v % 4)) (t .value (nodeIn v) .phase) (sym (number-power (v % 4) (omega arith))) (mark .2)
+    ∙ ap (λ (P : Row). phaseNumber (power (v % 4) ⊕ P .phase)) (inv .right (nodeIn v) low d .means)
+
+-- two words of which the node i is the product
+abbrev FactorsOf : ℕ → List ℕ → ℕ → Type 0
+FactorsOf n words i = (a : ℕ) × (b : ℕ) × (nodeAt n words i ≡ Product a b)
+
 module _ {words l : List ℕ} {count w : ℕ} (g : RootReady words l count w) {l₁ : List ℕ} (e₁ : l₁ ≡ replicate (length l) 0) where
   pub long₁ : 4 * count ≤ length l₁
   long₁ = rw (e₁, length-replicate) (g .long)
@@ -309,15 +323,42 @@ module _ {words l : List ℕ} {count w : ℕ} (g : RootReady words l count w) {l
         abbrev shownOf : State → Walked
         shownOf t = record { shown = turned (phaseIn w) (t .value (nodeIn w)) ∷ []; state = release (nodeIn w) t }
 
+        -- nothing is done before the root is
+        fresh : (j : ℕ) → begun-at .0 .done j ≡ false
+        fresh j = post-fine (λ t. t .done j ≡ false) (begun-at .1)
+            (charge-post limit (length (w ∷ []) + tallyOf (nodeAt (g .n) words) count (w ∷ []) .reached) (walkBegin (tallyOf (nodeAt (g .n) words) count (w ∷ []))) (λ t. t .done j ≡ false) refl)
+
+        abbrev FactorDone : FactorsOf (g .n) words (nodeIn w) → State → Type 0
+        FactorDone k t = (t .done (nodeIn (k .0)) ≡ true) × (t .done (nodeIn (k .1)) ≡ true)
+
+        factors-done : (k : FactorsOf (g .n) words (nodeIn w)) → Post (showRoot limit (capOf (length p) - 1) (nodeAt (g .n) words) count (nodeIn w) (begun-at .0)) (FactorDone k)
+        factors-done k = post-bind (eval limit (capOf (length p) - 1) (nodeAt (g .n) words) count (nodeIn w) (begun-at .0)) _ (FactorDone k) (FactorDone k)
+            (eval-children limit (capOf (length p) - 1) (g .n) count (nodeAt (g .n) words) (node-fits (g .n) words) (tallyOf (nodeAt (g .n) words) count (w ∷ []) .uses) (rootUses (w ∷ []))
+            count (nodeIn w) (k .0) (k .1) (begun-at .0) (g .named) (g .named) (rooted .used) (fresh (nodeIn w)) (k .2) (begun-at .2 .inv))
+            (λ t d. charge-post limit (size (t .value (nodeIn w))) t (FactorDone k) d)
+
+        settled-at : {l₄ p₂ : List ℕ} {t : State} {q : Value × Ledger} → RootShown w rooted l₄ p₂ t q → ((k : FactorsOf (g .n) words (nodeIn w)) → FactorDone k t)
+            → Settled (g .n) count words l₄ (nodeIn w)
+        settled-at {l₄} {t = t} s d = record {
+          own = let at : nodeIn w ≡ nodeIn (4 * nodeIn w) = omega arith in turn (4 * nodeIn w) (omega (arith, g .named)) (subst (λ (j : ℕ). t .done j ≡ true) at (s .done-is));
+          factors = λ a b e.
+              let old : (nodeIn a < nodeIn w) × (nodeIn b < nodeIn w) = subst (Fits (g .n) (nodeIn w)) e (node-fits (g .n) words (nodeIn w)) in
+              (turn a (omega (arith, old .0, g .named)) (d (a, b, e) .0), turn b (omega (arith, old .1, g .named)) (d (a, b, e) .1));
+        }
+          where
+            turn : (v : ℕ) → nodeIn v < count → t .done (nodeIn v) ≡ true → TurnIs (g .n) count words l₄ v
+            turn = turn-is limit (capOf (length p) - 1) (g .n) count words (tallyOf (nodeAt (g .n) words) count (w ∷ []) .uses) (rootUses (w ∷ [])) (s .rep) (s .inv)
+
         pub walk-shown : {l₄ p₂ : List ℕ} {o : Out (Value × Ledger)}
             → Says (showRoot limit (capOf (length p) - 1) (nodeAt (g .n) words) count (nodeIn w) (begun-at .0)) o (RootShown w rooted l₄ p₂)
-            → Says (walkNodes limit (capOf (length p) - 1) (nodeAt (g .n) words) count (w ∷ [])) o (Showing p₂)
+            → Says (walkNodes limit (capOf (length p) - 1) (nodeAt (g .n) words) count (w ∷ [])) o (Showing (g .n) count words w l₄ p₂)
         walk-shown {l₄} {p₂} r =
-            says-as (says-on r shownOf (Showing p₂) (λ t q s. record {
+            says-as (says-on (says-post r (λ t. (k : FactorsOf (g .n) words (nodeIn w)) → FactorDone k t) (post-each (showRoot limit (capOf (length p) - 1) (nodeAt (g .n) words) count (nodeIn w) (begun-at .0)) FactorDone factors-done)) shownOf (Showing (g .n) count words w l₄ p₂) (λ t q s. record {
               x = turned (phaseIn w) (t .value (nodeIn w));
-              who = s .who;
+              who = s .0 .who;
               tag = nodeIn w + 2;
               shown-is = refl;
-              value = s .value;
-              work-is = s .rep .work-is ∙ sym (release-work (nodeIn w) t);
+              value = s .0 .value;
+              work-is = s .0 .rep .work-is ∙ sym (release-work (nodeIn w) t);
+              settled = settled-at (s .0) (s .1);
             })) (ap (λ o. bind o showing) (begun-at .1) ∙ show-first limit (capOf (length p) - 1) (nodeAt (g .n) words) count w [] (begun-at .0))

@@ -3,6 +3,7 @@ use mathlib.Core.Path.{_≡_, refl, ap, sym, subst}
 use Rattle.arena.specs.Errors.{PbcError}
 use Rattle.arena.specs.Walk.{Out, fine, refused, bind}
 use Rattle.arena.specs.Code.Results.{Agrees, Says}
+use Rattle.arena.proofs.walk.Outcomes.{Post}
 
 fine-of : {A B : Type 0} (x : Out A) (b : B) (R : A → B → Type 0) → Agrees x (fine b) R → (a : A) × (x ≡ fine a) × R a b
 fine-of (fine a) b R h = (a, refl, h)
@@ -18,6 +19,12 @@ on-agrees (fine a) k (fine y) R S h f = f a y h
 on-agrees (fine a) k (refused e) R S h f = absurd h
 on-agrees (refused e) k (fine y) R S h f = absurd h
 on-agrees (refused e) k (refused r) R S h f = h
+
+agrees-post : {A B : Type 0} (x : Out A) (y : Out B) (R : A → B → Type 0) (P : A → Type 0) → Agrees x y R → Post x P → Agrees x y (λ a b. R a b × P a)
+agrees-post (fine a) (fine b) R P h p = (h, p)
+agrees-post (fine a) (refused e) R P h p = absurd h
+agrees-post (refused e) (fine b) R P h p = absurd h
+agrees-post (refused e) (refused f) R P h p = h
 
 module _ {A B : Type 0} {x : Out A} {y : Out B} {R : A → B → Type 0} (h : Says x y R) where
   -- the code answers: so does the definition
@@ -35,6 +42,10 @@ module _ {A B : Type 0} {x : Out A} {y : Out B} {R : A → B → Type 0} (h : Sa
   -- an answer is passed on
   pub says-on : {C : Type 0} (k : A → C) (S : C → B → Type 0) → ((a : A) (b : B) → R a b → S (k a) b) → Says (bind x (λ a. fine (k a))) y S
   says-on k S f = record { says = on-agrees x k y R S (h .says) f }
+
+  -- what holds of the definition's answer may be added
+  pub says-post : (P : A → Type 0) → Post x P → Says x y (λ a b. R a b × P a)
+  says-post P p = record { says = agrees-post x y R P (h .says) p }
 
   -- a refusal goes through
   pub refuses-on : {C D : Type 0} (k : A → Out C) {S : C → D → Type 0} {e : PbcError} → y ≡ refused e → Says (bind x k) (refused e) S

@@ -211,3 +211,26 @@ module _ (limit room n count : ℕ) (node : ℕ → PauliNode) (fits : (i : ℕ)
       unless : (b : Bool) → s .done i ≡ b → Ih → Post (evalUnless limit room b (node i) rec i s) (Good rest i s)
       unless true d ih = (inv, record { marked = d; later = λ j l. refl; still = λ j h. h; uses-from = λ j l. refl })
       unless false d ih = by-node d (node i) refl (fits i) ih
+
+  -- both children of a product are done after it is evaluated
+  pub eval-children : (rest : ℕ → ℕ) (f i l r : ℕ) (s : State) → i < f → i < count → 0 < s .uses i → s .done i ≡ false → node i ≡ Product l r
+      → Inv limit room n count node total rest none 0 s
+      → Post (eval limit room node f i s) (λ t. (t .done (nodeIn l) ≡ true) × (t .done (nodeIn r) ≡ true))
+  eval-children rest zero i l r s h hi u d e inv = absurd (not-suc-le-zero h)
+  eval-children rest (suc f) i l r s h hi u d e inv = rw (d, e)
+      (post-bind (eval limit room node f (nodeIn l) s) _ (Good rest (nodeIn l) s) _
+      (eval-post rest f (nodeIn l) s (omega (arith, fit .0)) (omega (arith, fit .0)) (omega (arith, owe s d u inv (nodeIn l), edge-same l)) inv) (λ t g.
+      post-bind (eval limit room node f (nodeIn r) t) _ (Good rest (nodeIn r) t) _
+      (eval-post rest f (nodeIn r) t (omega (arith, fit .1)) (omega (arith, fit .1))
+      (omega (arith, owe t (g .1 .later i (fit .0) ∙ d) (omega (arith, g .1 .uses-from i (omega (arith, fit .0)))) (g .0) (nodeIn r), edge-same r)) (g .0)) (λ t′ g′.
+      post-map (combine limit room l r i t′) (Good rest i t′) _
+      (combine-post rest i l r t′ hi (fit .0) (fit .1) e (g′ .1 .later i (fit .1) ∙ g .1 .later i (fit .0) ∙ d)
+      (omega (arith, g .1 .uses-from i (omega (arith, fit .0)), g′ .1 .uses-from i (omega (arith, fit .1))))
+      (g′ .1 .still (nodeIn l) (g .1 .marked)) (g′ .1 .marked) (g′ .0))
+      (λ t″ g″. (g″ .1 .still (nodeIn l) (g′ .1 .still (nodeIn l) (g .1 .marked)), g″ .1 .still (nodeIn r) (g′ .1 .marked))))))
+    where
+      fit : Fits n i (Product l r)
+      fit = subst (Fits n i) e (fits i)
+
+      owe : (t : State) → t .done i ≡ false → 0 < t .uses i → Inv limit room n count node total rest none 0 t → (j : ℕ) → edge l j + edge r j ≤ t .uses j
+      owe t dt ut invt j = subst (λ nd. edges nd j ≤ t .uses j) e (owes limit room n count node total rest t i hi dt ut invt j)

@@ -64,6 +64,10 @@ pub post-and : {A : Type 0} (x : Out A) (P Q : A → Type 0) → Post x P → Po
 post-and (fine a) P Q p q = (p, q)
 post-and (refused e) P Q p q = tt
 
+pub post-each : {A K : Type 0} (x : Out A) (P : K → A → Type 0) → ((k : K) → Post x (P k)) → Post x (λ a. (k : K) → P k a)
+post-each (fine a) P h = h
+post-each (refused e) P h = tt
+
 pub post-fine : {A : Type 0} {x : Out A} (P : A → Type 0) {a : A} → x ≡ fine a → Post x P → P a
 post-fine P e p = subst (λ o. Post o P) e p
 
@@ -90,6 +94,13 @@ charge-then limit amount s k Q p = go (leb (s .work + amount) limit) refl
     go : (b : Bool) → leb (s .work + amount) limit ≡ b → Post (bind (cond b (fine (worked amount s)) (refused ExpansionLimit)) k) Q
     go true e = p (leb-true (s .work + amount) limit e)
     go false e = tt
+
+pub charge-post : (limit amount : ℕ) (s : State) (P : State → Type 0) → P (worked amount s) → Post (charge limit amount s) P
+charge-post limit amount s P p = go (leb (s .work + amount) limit)
+  where
+    go : (b : Bool) → Post (cond b (fine (worked amount s)) (refused ExpansionLimit)) P
+    go true = p
+    go false = tt
 
 pub lend-then : {B : Type 0} (room amount : ℕ) (s : State) (k : State → Out B) (Q : B → Type 0)
     → (s .held + amount ≤ room → Post (k (lent amount s)) Q) → Post (bind (lend room amount s) k) Q

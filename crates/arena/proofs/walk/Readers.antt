@@ -12,12 +12,12 @@ use Rattle.pauli.specs.Rows.{Row, weight}
 use Rattle.arena.specs.Types.{I, Phase}
 use Rattle.arena.specs.Errors.{PbcError, BadStore, ForeignPauli, NoScratch, ExpansionLimit, NoPool, NonHermitianAxis, Checked, Fine, Wrong, _⟫_⇒_}
 use Rattle.arena.specs.References.{PauliRef, PauliAxis, axisOf, nodeIn}
-use Rattle.arena.specs.Nodes.{image}
+use Rattle.arena.specs.Nodes.{image, nodeAt, factorsCommute}
 use Rattle.arena.specs.Operations.{PbcOp, Rotate, Measure, ConditionalRotate, Malformed as MalformedOp}
 use Rattle.arena.specs.Store.{Header, foreign, exceedsOperations}
 use Rattle.arena.specs.Sparse.{Factor, spread, dense}
 use Rattle.arena.specs.Walk.{Named, Out, fine, refused, bind, Answer, walk}
-use Rattle.arena.specs.Readers.{firstOf, Expanded, expandWalk, hermitianWalk, Weighed, Weights, largest, wordsOf, Report, reportWalk}
+use Rattle.arena.specs.Readers.{firstOf, Expanded, expandedOf, expandWalk, hermitianWalk, Weighed, Weights, largest, wordsOf, Report, reportWalk}
 use Rattle.arena.specs.Expansion.{ExpansionMade, HermitianMade, WeightsMade, expansionOf, hermitianOf, maxWeightsOf, badNodes, badOperations, opAt, isBadOp, anyBadOp, weighedOf, axesTo, roomIn, lettersLeft, expandBy, expandCheck, expandStep, walkBy, hermitianCheck, hermitianStep, reportCheck, reportBy}
 use Rattle.arena.proofs.Readable.{axis-named}
 use Rattle.arena.proofs.Accepted.{passed-before, test-passed, left-false, right-false, own}
@@ -44,11 +44,23 @@ unfolding expandWalk dense
 expand-width cells room n count words w x e = go (leb n cells) (walk (cells - n) room n count words (w ∷ [])) e
   where
     go : (b : Bool) (o : Out Answer)
-        → cond b (bind o (λ a. fine (record { row = dense n (firstOf (a .shown)); work = a .work }))) (refused ExpansionLimit) ≡ fine x
+        → cond b (bind o (λ a. fine (expandedOf n count words w a))) (refused ExpansionLimit) ≡ fine x
         → length (x .row .letters) ≡ n
     go true (fine a) e =
-        let r : record { row = dense n (firstOf (a .shown)); work = a .work } ≡ x = cc in
+        let r : expandedOf n count words w a ≡ x = cc in
         ap (λ (y : Expanded). length (y .row .letters)) (sym r) ∙ spread-length n 0 (firstOf (a .shown) .factors)
+    go true (refused k) e = let z : _≡_ {A = ℕ} 0 1 = cc in absurd (zero-is-one z)
+    go false o e = let z : _≡_ {A = ℕ} 0 1 = cc in absurd (zero-is-one z)
+
+expand-commute : (cells room n count : ℕ) (words : List ℕ) (w : ℕ) (x : Expanded) → expandWalk cells room n count words w ≡ fine x
+    → x .commute ≡ factorsCommute n count words (nodeAt n words (nodeIn w))
+unfolding expandWalk
+expand-commute cells room n count words w x e = go (leb n cells) (walk (cells - n) room n count words (w ∷ [])) e
+  where
+    go : (b : Bool) (o : Out Answer)
+        → cond b (bind o (λ a. fine (expandedOf n count words w a))) (refused ExpansionLimit) ≡ fine x
+        → x .commute ≡ factorsCommute n count words (nodeAt n words (nodeIn w))
+    go true (fine a) e = let r : expandedOf n count words w a ≡ x = cc in ap (λ (y : Expanded). y .commute) (sym r)
     go true (refused k) e = let z : _≡_ {A = ℕ} 0 1 = cc in absurd (zero-is-one z)
     go false o e = let z : _≡_ {A = ℕ} 0 1 = cc in absurd (zero-is-one z)
 
@@ -80,6 +92,19 @@ module _ (h : Header) (nodes letters scratch pool : List ℕ) (r : PauliRef) (ce
           )
       go (Wrong w) p e = let z : _≡_ {A = ℕ} 0 1 = cc in absurd (zero-is-one z)
 
+  -- whether the two factors of the reference's node commute
+  pub expand-judges : (x : Expanded) → expandStep h nodes letters scratch pool r cells .answer ≡ fine x
+      → x .commute ≡ factorsCommute (h .qubits) (h .nodes) nodes (nodeAt (h .qubits) nodes (nodeIn (r .word)))
+  unfolding expandStep
+  expand-judges x = go (expandCheck h nodes r (length letters) (length scratch))
+    where
+      o : Out Expanded
+      o = expandWalk cells (roomIn pool) (h .qubits) (h .nodes) nodes (r .word)
+
+      go : (c : Checked) → expandBy c o h letters scratch pool .answer ≡ fine x → x .commute ≡ factorsCommute (h .qubits) (h .nodes) nodes (nodeAt (h .qubits) nodes (nodeIn (r .word)))
+      go Fine e = expand-commute cells (roomIn pool) (h .qubits) (h .nodes) nodes (r .word) x e
+      go (Wrong w) e = let z : _≡_ {A = ℕ} 0 1 = cc in absurd (zero-is-one z)
+
   limited-expand : Limited (expandWalk cells (roomIn pool) (h .qubits) (h .nodes) nodes (r .word))
   unfolding expandWalk
   limited-expand = go (leb (h .qubits) cells)
@@ -88,7 +113,7 @@ module _ (h : Header) (nodes letters scratch pool : List ℕ) (r : PauliRef) (ce
       o = walk (cells - h .qubits) (roomIn pool) (h .qubits) (h .nodes) nodes (r .word ∷ [])
 
       shown : Answer → Out Expanded
-      shown a = fine (record { row = dense (h .qubits) (firstOf (a .shown)); work = a .work })
+      shown a = fine (expandedOf (h .qubits) (h .nodes) nodes (r .word) a)
 
       go : (b : Bool) → Limited (cond b (bind o shown) (refused ExpansionLimit))
       go true = limited-bind o shown (limited-walk (cells - h .qubits) (roomIn pool) (h .qubits) (h .nodes) nodes (r .word ∷ [])) (λ a. tt)
@@ -261,12 +286,12 @@ module _ (zeros : Bool) (h : Header) (nodes ops scratch pool : List ℕ) (limit 
 -- ---- the same of the answers that a caller gets
 
 module _ (h : Header) (nodes letters scratch pool : List ℕ) (r : PauliRef) (cells : ℕ) where
-  pub expand-answers : (phase : Phase) (work : ℕ) → expansionOf (expandStep h nodes letters scratch pool r cells .answer) ≡ ExpansionMade phase work
+  pub expand-answers : (phase : Phase) (work : ℕ) (commute : Bool) → expansionOf (expandStep h nodes letters scratch pool r cells .answer) ≡ ExpansionMade phase work commute
       → (phase ≡ image (h .qubits) (h .nodes) nodes (r .word) .phase)
       × (expandStep h nodes letters scratch pool r cells .letters ≡ map pauliNumber (image (h .qubits) (h .nodes) nodes (r .word) .letters) ++ drop (h .qubits) letters)
-  expand-answers phase work = go (expandStep h nodes letters scratch pool r cells .answer) refl
+  expand-answers phase work commute = go (expandStep h nodes letters scratch pool r cells .answer) refl
     where
-      go : (y : Out Expanded) → expandStep h nodes letters scratch pool r cells .answer ≡ y → expansionOf y ≡ ExpansionMade phase work
+      go : (y : Out Expanded) → expandStep h nodes letters scratch pool r cells .answer ≡ y → expansionOf y ≡ ExpansionMade phase work commute
           → (phase ≡ image (h .qubits) (h .nodes) nodes (r .word) .phase)
           × (expandStep h nodes letters scratch pool r cells .letters ≡ map pauliNumber (image (h .qubits) (h .nodes) nodes (r .word) .letters) ++ drop (h .qubits) letters)
       go (fine x) q e =

@@ -11,7 +11,7 @@ use Rattle.arena.specs.References.{nodeIn}
 use Rattle.arena.specs.Nodes.{image}
 use Rattle.arena.specs.Sparse.{Sparse, dense}
 use Rattle.arena.specs.Walk.{Named, Out, fine, refused, bind, Answer, walk}
-use Rattle.arena.specs.Readers.{firstOf, Expanded, expandWalk, hermitianWalk, Weighed, largest, wordsOf, reportWalk}
+use Rattle.arena.specs.Readers.{firstOf, Expanded, expandedOf, expandWalk, hermitianWalk, Weighed, largest, wordsOf, reportWalk}
 use Rattle.arena.proofs.walk.Means.{walk-means, walk-weights}
 
 first-dense : (n : ℕ) (vs : List Sparse) (P : Row) → map (dense n) vs ≡ P ∷ [] → dense n (firstOf vs) ≡ P
@@ -28,7 +28,7 @@ module _ (room n count : ℕ) (words : List ℕ) (w : ℕ) (named : nodeIn w < c
   expand-means cells x e = go (leb n cells) (walk (cells - n) room n count words (w ∷ [])) refl e
     where
       go : (b : Bool) (o : Out Answer) → walk (cells - n) room n count words (w ∷ []) ≡ o
-          → cond b (bind o (λ a. fine (record { row = dense n (firstOf (a .shown)); work = a .work }))) (refused ExpansionLimit) ≡ fine x
+          → cond b (bind o (λ a. fine (expandedOf n count words w a))) (refused ExpansionLimit) ≡ fine x
           → x .row ≡ image n count words w
       go true (fine a) q e = let d = shown-first (cells - n) a q in cc
       go true (refused k) q e = cc

@@ -10,9 +10,9 @@ use Rattle.arena.specs.References.{nodeIn}
 use Rattle.pauli.specs.Letters.{real}
 use Rattle.arena.specs.Errors.{ExpansionLimit, NonHermitianAxis}
 use Rattle.arena.specs.Nodes.{PauliNode, Identity, Single, Product, Malformed, nodeAt, values, image}
-use Rattle.arena.specs.Sparse.{size, dense}
+use Rattle.arena.specs.Sparse.{size}
 use Rattle.arena.specs.Walk.{Out, fine, refused, bind, update, State, rootUses, scan, worked, less, giveBack, release, walkBegin, Walked, eval, showRoots, walkNodes, Answer, walk, Named}
-use Rattle.arena.specs.Readers.{firstOf, Expanded, expandWalk, hermitianWalk, Weighed, largest, wordsOf, Report, reportWalk}
+use Rattle.arena.specs.Readers.{firstOf, Expanded, expandedOf, expandWalk, hermitianWalk, Weighed, largest, wordsOf, Report, reportWalk}
 use Rattle.arena.specs.Charges.{Visit, evaluates, shows, evaluatedIn, childrenFirst, evaluate, visits, charges, sumOf, workOf}
 use Rattle.arena.specs.Code.WalkWords.{edge, none, Inv}
 use Rattle.arena.proofs.walk.Outcomes.{Post, post-bind, post-map, post-and, post-fine, charge-then}
@@ -194,7 +194,7 @@ unfolding expandWalk
 expand-work cells room n count words w x h e = go (leb n cells) (walk (cells - n) room n count words (w ∷ [])) refl e
   where
     go : (b : Bool) (o : Out Answer) → walk (cells - n) room n count words (w ∷ []) ≡ o
-        → cond b (bind o (λ a. fine (record { row = dense n (firstOf (a .shown)); work = a .work }))) (refused ExpansionLimit) ≡ fine x
+        → cond b (bind o (λ a. fine (expandedOf n count words w a))) (refused ExpansionLimit) ≡ fine x
         → x .work ≡ workOf n count words (w ∷ [])
     go true (fine a) q e = let d = walk-work (cells - n) room n count words (w ∷ []) a (h, tt) q in cc
     go true (refused k) q e = cc

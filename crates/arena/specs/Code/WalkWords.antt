@@ -11,7 +11,7 @@ use Rattle.pauli.specs.Letters.{pauliNumber, phaseNumber}
 use Rattle.pauli.specs.Rows.{identity}
 use Rattle.arena.specs.Types.{Pauli, I}
 use Rattle.arena.specs.References.{nodeIn}
-use Rattle.arena.specs.Nodes.{PauliNode, Identity, Single, Product, Malformed, nodeAt, rowsTo}
+use Rattle.arena.specs.Nodes.{PauliNode, Identity, Single, Product, Malformed, nodeAt, rowsTo, image}
 use Rattle.arena.specs.Sparse.{Factor, Sparse, size, dense, spread, one, multiply}
 use Rattle.arena.specs.Walk.{Out, fine, bind, State, Taken, childUses, scan, Walked, charge, lend, finish}
 use Rattle.arena.specs.Code.Machine.{Spot}
@@ -351,14 +351,24 @@ pub record RootReady (words l : List ℕ) (count w : ℕ) : Type 0 where
   pub nodes-long : 2 * count ≤ length words
   pub nodes-few : count ≤ 65536
 
--- what was shown is a chain
-pub record Showing (p : List ℕ) (r : Walked) (b : Value × Ledger) : Type 0 where
+-- the scratch gives the word v the phase of what v stands for
+abbrev pub TurnIs : (n count : ℕ) → (words l : List ℕ) → ℕ → Type 0
+TurnIs n count words l v = valueNamed l v .phase ≡ phaseNumber (image n count words v .phase)
+
+-- the phases of the node i and, if it is a product, of its two factors stand in the scratch
+pub record Settled (n count : ℕ) (words l : List ℕ) (i : ℕ) : Type 0 where
+  pub own : TurnIs n count words l (4 * i)
+  pub factors : (a b : ℕ) → nodeAt n words i ≡ Product a b → TurnIs n count words l a × TurnIs n count words l b
+
+-- what was shown is a chain, and the root's phases stand in the scratch
+pub record Showing (n count : ℕ) (words : List ℕ) (w : ℕ) (l p : List ℕ) (r : Walked) (b : Value × Ledger) : Type 0 where
   pub x : Sparse
   pub who : Who
   pub tag : ℕ
   pub shown-is : r .shown ≡ x ∷ []
   pub value : ValueIs p who tag (b .0) x
   pub work-is : b .1 .work ≡ r .state .work
+  pub settled : Settled n count words l (nodeIn w)
 
 -- ---- letters
 

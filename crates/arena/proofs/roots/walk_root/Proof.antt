@@ -38,7 +38,7 @@ returns c =
     let walk-among = c .before .before .before .before .walk-among in
     let the-args = c .before .before .before .before .before .before .before .before .before .before .args in
     let args = the-args in
-    λ g count named. whole-walk (args .limit) (capOf (length (args .pool .now)) - 1) (g .n) (args .nodes .now) (args .w) count named
+    λ g count named. whole-walk (args .limit) (capOf (length (args .pool .now)) - 1) (g .n) (args .nodes .now) (args .w) count _ named (omega (arith, walk-among .kept .1 .0, ready-part g refl .long))
     (walk-among .ensures (ready-part g refl))
 
 pub walk-root-spec : {M : Type 1} → statement M
