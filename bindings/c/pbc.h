@@ -212,7 +212,8 @@ uint32_t pbc_conditional_rotate(uint64_t *header, size_t header_len, uint32_t *o
  * scratch: PBC_SCRATCH_WORDS of the used nodes. pool: PBC_POOL_WORDS of PBC_RECORDS_FOR records; fewer mostly do, and 18 says where they do not.
  * A reader past refusal 16 leaves both zero, as far as they count. */
 
-/* The letters of a handle, one byte a qubit. Values: phase, work. The limit of the work is max_cells less the qubits.
+/* The letters of a handle, one byte a qubit. Values: phase, work, and 1 if the two factors of the handle's node commute, else 0; 1 also where
+ * that is no product, and the handle's own phase plays no part. The limit of the work is max_cells less the qubits.
  * Refuses with 3, 4, 16, 17, 18. */
 uint32_t pbc_expand(const uint64_t *header, size_t header_len, const uint32_t *nodes, size_t nodes_len, uint8_t *letters, size_t letters_len,
                     uint32_t *scratch, size_t scratch_len, uint32_t *pool, size_t pool_len, uint64_t owner, uint32_t word, uint64_t max_cells,

@@ -229,6 +229,38 @@ static void targets_are_taken_once(void)
     expect("weights", weights(), PBC_ACCEPTED);
 }
 
+/* Whether the two factors of this handle commute. */
+static void expect_commute(const char *what, uint32_t word, uint64_t commute)
+{
+    uint8_t letters[QUBITS];
+    expect(what,
+           pbc_expand(header, LENGTH(header), nodes, LENGTH(nodes), LENT(letters), LENT(scratch), LENT(pool), OWNER, word, UINT64_MAX, LENT(answer)),
+           PBC_ACCEPTED);
+    expect(what, answer[2], commute);
+}
+
+static uint32_t product(uint32_t left, uint32_t right)
+{
+    expect("product", pbc_product(LENT(header), LENT(nodes), OWNER, left, OWNER, right, LENT(answer)), PBC_ACCEPTED);
+    return (uint32_t)answer[0];
+}
+
+/* X0 is the word 4, Z0 8, X1 12, Z1 16. */
+static void factors_commute_or_not(void)
+{
+    new_circuit(2, 0);
+    expect_commute("a single letter", 4, 1);
+    expect_commute("X0 Z1", product(4, 16), 1);
+    uint32_t clash = product(4, 8);
+    expect_commute("X0 Z0", clash, 0);
+    expect_commute("i X0 Z0", clash + 1, 0);
+    expect_commute("X0 (i X0)", product(4, 5), 1);
+    uint32_t x = product(4, 12), z = product(8, 16);
+    expect_commute("(X0 X1) (Z0 Z1)", product(x, z), 1);
+    expect_commute("(X0 X1) Z0", product(x, 8), 0);
+    expect_commute("(X0 Z0) (X0 Z0)", product(clash, clash), 1);
+}
+
 /* The first bytes of the rows have this value; then all are 9. */
 static void expect_rows(const char *what, size_t count, uint64_t value)
 {
@@ -508,6 +540,7 @@ int main(int count, char **arguments)
     operations_name_their_gates();
     hand_is_marked();
     zero_turns_weigh_nothing();
+    factors_commute_or_not();
     targets_are_taken_once();
     rows_are_the_axes();
     texts_are_gates();

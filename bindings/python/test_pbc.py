@@ -89,7 +89,18 @@ class Axes(unittest.TestCase):
             axes = circuit.axes(10**6)
             each = [circuit.expand(operation.axis, 10**6) for operation in circuit.operations]
             self.assertEqual([axis[:2] for axis in axes], [axis[:2] for axis in each])
-            self.assertEqual((str(axes[-1]), axes[-1].work), ("-IIYII", None))
+            self.assertEqual((str(axes[-1]), axes[-1].work, axes[-1].commute), ("-IIYII", None, None))
+
+    def test_the_factors_of_a_product_commute_or_not(self):
+        circuit = pbc.PbcCircuit(2, 0)
+        x, z, far = circuit.single(0, pbc.X), circuit.single(0, pbc.Z), circuit.single(1, pbc.Z)
+        clash, both = circuit.product(x, z), circuit.product(x, circuit.single(1, pbc.X))
+        for reference, commute in [
+            (x, True), (circuit.product(x, far), True), (clash, False), (clash.scaled(pbc.PLUS_I), False),
+            (circuit.product(x, x.scaled(pbc.PLUS_I)), True), (circuit.product(both, circuit.product(z, far)), True),
+            (circuit.product(both, z), False), (circuit.product(clash, clash), True),
+        ]:
+            self.assertIs(circuit.expand(reference, 100).commute, commute)
 
     def test_the_limit_is_that_of_the_weights(self):
         circuit = pbc.to_pbc(3, 0, [("h", 0), ("ccx", 0, 1, 2)])
@@ -106,7 +117,7 @@ class Axes(unittest.TestCase):
         circuit = pbc.PbcCircuit(0, 0)
         circuit.rotate(circuit.identity.scaled(pbc.MINUS_ONE), 1)
         circuit.rotate(circuit.identity, 1)
-        self.assertEqual(circuit.axes(100), [(pbc.MINUS_ONE, [], None), (pbc.ONE, [], None)])
+        self.assertEqual(circuit.axes(100), [(pbc.MINUS_ONE, [], None, None), (pbc.ONE, [], None, None)])
 
     def test_threads_add_meanwhile(self):
         circuit = pbc.PbcCircuit(3, 0)

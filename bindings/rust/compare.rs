@@ -236,8 +236,9 @@ impl Comparison {
     }
 
     fn expand(&mut self, both: &Both, (a, b): Reference, max_cells: usize) {
-        if let Some((a, b)) = self.agree(both.rust.expand(a, max_cells), both.ours.expand(b, max_cells), &[]) {
-            assert!(same_expansion(&a, &b), "the expansions differ");
+        if let Some((expanded, (ours, commute))) = self.agree(both.rust.expand(a, max_cells), both.ours.expand_with_commute(b, max_cells), &[]) {
+            assert!(same_expansion(&expanded, &ours), "the expansions differ");
+            assert_eq!(both.rust.factors_commute(a), commute, "commuting differs");
         }
     }
 

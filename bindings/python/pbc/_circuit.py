@@ -258,17 +258,21 @@ class PbcCircuit:
         self._add(lambda answer: call("pbc_conditional_rotate", self._header, self._operations, *axis, eighths, *measurement, answer))
 
     def expand(self, reference: PauliRef, max_cells: int) -> ExpandedPauli:
-        """The phase and letters of a reference. The budget charges one cell a qubit plus the work.
+        """The phase and letters of a reference, and whether the two factors of its product commute: an even number of qubits hold two
+        different letters other than I. Yes if it is no product. The budget charges one cell a qubit plus the work.
 
         >>> circuit = to_pbc(2, 0, [("cnot", 0, 1), ("t", 1)])
         >>> print(circuit.expand(circuit.operations[0].axis, 100))
         +ZZ
+        >>> product = circuit.product(circuit.single(0, 1), circuit.single(0, 3))
+        >>> circuit.expand(product, 100).commute
+        False
         """
         reference, max_cells = _handle("reference", reference, PauliRef), number("max_cells", max_cells, U64)
         letters = words(self.num_qubits, ctypes.c_uint8)
         values = self._walk(lambda header, nodes, operations, scratch, pool, answer: call(
             "pbc_expand", header, nodes, letters, scratch, pool, *reference, max_cells, answer))
-        return ExpandedPauli(values[0], list(letters), values[1])
+        return ExpandedPauli(values[0], list(letters), values[1], values[2] == 1)
 
     def hermitian_axis(self, reference: PauliRef, limit: int) -> PauliRef:
         """The reference itself, if its sign is +1 or -1.

@@ -141,8 +141,8 @@ class PbcOp(NamedTuple):
 
 
 class ExpandedPauli(NamedTuple):
-    """The phase and the letters of a reference, and the work of reading them, None where all axes were read at once. As text, the letters
-    by qubit.
+    """The phase and the letters of a reference, the work of reading them, and whether the two factors of its product commute (yes if it is
+    no product); the last two are None where all axes were read at once. As text, the letters by qubit.
 
     >>> import pbc
     >>> print(pbc.ExpandedPauli(pbc.ONE, [pbc.Z, pbc.I, pbc.Z], 0))
@@ -152,6 +152,7 @@ class ExpandedPauli(NamedTuple):
     phase: int
     factors: list
     work: Optional[int]
+    commute: Optional[bool] = None
 
     def __str__(self) -> str:
         return ["+", "+i", "-", "-i"][self.phase] + "".join("IXYZ"[letter] for letter in self.factors)

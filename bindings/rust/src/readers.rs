@@ -74,12 +74,32 @@ impl PbcCircuit {
     ///
     /// `ForeignPauli`, `ExpansionLimit`, `NoPool`.
     pub fn expand(&self, reference: PauliRef, max_cells: usize) -> Result<ExpandedPauli, PbcError> {
+        Ok(self.expand_with_commute(reference, max_cells)?.0)
+    }
+
+    /// The same, and whether the two factors of the expression's product commute: an even number of qubits hold two different letters
+    /// other than I. Yes if the expression is no product; a phase in front of it plays no part.
+    ///
+    /// ```
+    /// use pbc::{Pauli, PbcCircuit};
+    /// let mut circuit = PbcCircuit::new(1, 0)?;
+    /// let (x, z) = (circuit.single(0, Pauli::X)?, circuit.single(0, Pauli::Z)?);
+    /// let product = circuit.product(x.as_ref(), z.as_ref())?;
+    /// let (expanded, commute) = circuit.expand_with_commute(product, 100)?;
+    /// assert_eq!((expanded.to_string().as_str(), commute), ("-iY", false));
+    /// # Ok::<(), pbc::PbcError>(())
+    /// ```
+    ///
+    /// # Errors
+    ///
+    /// `ForeignPauli`, `ExpansionLimit`, `NoPool`.
+    pub fn expand_with_commute(&self, reference: PauliRef, max_cells: usize) -> Result<(ExpandedPauli, bool), PbcError> {
         let PauliRef { owner, word } = reference;
         let mut letters = vec![0; self.num_qubits()];
         let answer = self.walk(0, |scratch, pool| {
             ffi::pbc_expand(&self.header, &self.nodes, &mut letters, scratch, pool, owner, word, max_cells as u64)
         })?;
-        Ok(ExpandedPauli::of(answer[0] as u32, &letters))
+        Ok((ExpandedPauli::of(answer[0] as u32, &letters), answer[2] == 1))
     }
 
     /// The expression as an axis, if its sign is +1 or -1.

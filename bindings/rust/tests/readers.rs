@@ -106,6 +106,18 @@ fn axes_of_no_qubit_are_phases() {
 }
 
 #[test]
+fn what_is_no_product_commutes() {
+    let mut circuit = PbcCircuit::new(1, 0).unwrap();
+    let x = circuit.single(0, Pauli::X).unwrap().as_ref();
+    assert!(circuit.expand_with_commute(x, 100).unwrap().1);
+    assert!(circuit.expand_with_commute(circuit.identity().as_ref(), 100).unwrap().1);
+    // The whole phase is i.
+    let product = circuit.product(x, x.scaled(Phase::I)).unwrap();
+    assert!(circuit.expand_with_commute(product, 100).unwrap().1);
+    assert_eq!(circuit.expand_with_commute(product, 5).unwrap_err(), PbcError::ExpansionLimit);
+}
+
+#[test]
 fn references_stay_with_their_circuit() {
     let (circuit, other) = (PbcCircuit::new(1, 0).unwrap(), PbcCircuit::new(1, 0).unwrap());
     assert_eq!(circuit.expand(other.identity().as_ref(), 100).unwrap_err(), PbcError::ForeignPauli);
@@ -132,15 +144,17 @@ fn expansions_are_products_letter_by_letter() {
     for _ in 0..300 {
         let ((left, a), (right, b)) = (known[pick(known.len())].clone(), known[pick(known.len())].clone());
         let scale = [Phase::One, Phase::I, Phase::MinusOne, Phase::MinusI][pick(4)];
-        let (mut phase, mut factors) = (a.phase * b.phase * scale, Vec::new());
+        let (mut phase, mut factors, mut clashes) = (a.phase * b.phase * scale, Vec::new(), 0);
         for (p, q) in a.factors.into_iter().zip(b.factors) {
             let (turn, letter) = p.times(q);
             phase = phase * turn;
+            clashes += usize::from(p != q && p != Pauli::I && q != Pauli::I);
             factors.push(letter);
         }
         let product = circuit.product(left, right).unwrap().scaled(scale);
         let expected = ExpandedPauli { phase, factors };
         assert_eq!(circuit.expand(product, 1 << 20).unwrap(), expected);
+        assert_eq!(circuit.expand_with_commute(product, 1 << 20).unwrap(), (expected.clone(), clashes % 2 == 0));
         known.push((product, expected));
     }
 }
