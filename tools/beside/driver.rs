@@ -348,6 +348,16 @@ impl Driver {
                     }
                 }
             }
+            ("commutes", &[f, w, cells]) => {
+                let r = self.handle(f, w);
+                match self.circuit.expand(r, cells as usize) {
+                    Err(e) => refusal(&e, 0),
+                    Ok(_) => {
+                        let work = self.circuit.work(&[r], usize::MAX).unwrap();
+                        format!("ok {} {work}", u32::from(self.circuit.factors_commute(r)))
+                    }
+                }
+            }
             ("herm", &[f, w, limit]) => {
                 let r = self.handle(f, w);
                 match self.circuit.hermitian_axis(r, limit as usize) {

@@ -140,6 +140,7 @@ impl<W: Write> Writer<W> {
             let w = random.below(4 * nodes);
             let root = [self.driver.circuit.handle(self.driver.circuit.owner(), w)];
             self.walk(&root, n, |cells| format!("expand 0 {w} {cells}"));
+            self.walk(&root, n, |cells| format!("commutes 0 {w} {cells}"));
             self.walk(&root, 0, |limit| format!("herm 0 {w} {limit}"));
         }
     }

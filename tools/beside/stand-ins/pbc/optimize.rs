@@ -25,6 +25,13 @@ impl PbcCircuit {
     pub(crate) fn work(&self, roots: &[PauliRef], limit: usize) -> Result<usize, PbcError> {
         Ok(self.arena.materialize(roots, limit, |_, _, _| Ok(()))?.work)
     }
+    /// Whether the two factors of a reference's node commute, counted qubit by qubit; yes if it is no product.
+    pub(crate) fn factors_commute(&self, reference: PauliRef) -> bool {
+        let PauliNode::Product(left, right) = self.arena.nodes[reference.node] else { return true };
+        let (a, b) = (self.expand(left, usize::MAX).unwrap(), self.expand(right, usize::MAX).unwrap());
+        let clashes = a.factors.iter().zip(&b.factors).filter(|&(&p, &q)| p != Pauli::I && q != Pauli::I && p != q);
+        clashes.count() % 2 == 0
+    }
     pub(crate) fn axes(&self) -> Vec<PauliRef> {
         self.operations.iter().map(|op| op.axis().0).collect()
     }
