@@ -1,5 +1,5 @@
-/* The library as it is beside the library as it was, in one process, on the same inputs: conversions, weight reports and all axes in one walk, of adders
- * and of random lists. Before a report or an expansion is timed, the answers of both are compared.
+/* The library as it is beside the library as it was, in one process, on the same inputs: conversions, weight reports, all axes in one walk, and up to 32
+ * axes one by one, of adders and of random lists. Before a report or an expansion is timed, the answers of both are compared.
  * Times are the least of repeated rounds, both libraries in turn; conversions of a random workload go over several lists, so that none is learnt by heart.
  * usage: before [--once] WORDS_NOW WORDS_BEFORE WORD [FILE.pbc..]
  *   --once: each call once, and nothing printed, for a program that counts instructions
@@ -22,24 +22,33 @@
     uint32_t NAME(const uint64_t *header, size_t header_len, const uint32_t *nodes, size_t nodes_len, const uint32_t *operations,           \
                   size_t operations_len, uint8_t *rows, size_t rows_len, uint32_t *scratch, size_t scratch_len, uint32_t *pool,             \
                   size_t pool_len, uint64_t limit, uint64_t *answer, size_t answer_len)
+#define EXPAND(NAME)                                                                                                                        \
+    uint32_t NAME(const uint64_t *header, size_t header_len, const uint32_t *nodes, size_t nodes_len, uint8_t *letters, size_t letters_len, \
+                  uint32_t *scratch, size_t scratch_len, uint32_t *pool, size_t pool_len, uint64_t owner, uint32_t word, uint64_t max_cells, \
+                  uint64_t *answer, size_t answer_len)
 typedef CONVERT((*Convert));
 typedef WEIGHTS((*Weights));
 typedef AXES((*Axes));
+typedef EXPAND((*Expand));
 CONVERT(pbc_convert);
 CONVERT(before_pbc_convert);
 WEIGHTS(pbc_max_axis_weights);
 WEIGHTS(before_pbc_max_axis_weights);
 AXES(pbc_expand_axes);
 AXES(before_pbc_expand_axes);
+EXPAND(pbc_expand);
+EXPAND(before_pbc_expand);
 
 enum { NODES = 131072, OPERATIONS = 5 * 65536, FRAME = 512, PLANES = 4096, SCRATCH = 262144, POOL = 196608, ROWS = 257 * 65536, LISTS = 8, NO_POOL = 18 };
-enum { CONVERSION, REPORT, AXES_IN_ONE_WALK, CALLS };
+enum { OWNER = 1, QUBITS = 256, ONE_BY_ONE = 32 };
+enum { CONVERSION, REPORT, AXES_IN_ONE_WALK, AXES_ONE_BY_ONE, CALLS };
 enum { MEASURE = 12 };
 
 typedef struct {
     Convert convert;
     Weights weights;
     Axes axes;
+    Expand expand;
     size_t words;
     uint32_t nodes[NODES], operations[OPERATIONS], frame[FRAME], scratch[SCRATCH], pool[POOL];
     uint64_t planes[PLANES], header[6], answer[4];
@@ -52,7 +61,7 @@ typedef struct {
     uint32_t *words;
 } List;
 
-static const char *const prefixes[CALLS] = {"", "report, ", "all axes, "};
+static const char *const prefixes[CALLS] = {"", "report, ", "all axes, ", "expand, "};
 static Library now, before;
 static Library *const both[2] = {&now, &before};
 static double sums[CALLS];
@@ -95,7 +104,7 @@ static List read_list(const char *name) {
 }
 
 static uint32_t convert(Library *l, const List *g, uint64_t cap) {
-    return l->convert(g->qubits, g->cbits, 1, cap, g->words, g->len, l->nodes, NODES, l->operations, 65536 * l->words, l->frame, FRAME, l->planes, PLANES, l->header, 6,
+    return l->convert(g->qubits, g->cbits, OWNER, cap, g->words, g->len, l->nodes, NODES, l->operations, 65536 * l->words, l->frame, FRAME, l->planes, PLANES, l->header, 6,
                       l->answer, 4);
 }
 
@@ -106,6 +115,17 @@ static uint32_t report(Library *l, size_t records) {
 static uint32_t axes(Library *l, size_t records) {
     return l->axes(l->header, 6, l->nodes, NODES, l->operations, 65536 * l->words, l->rows, ROWS, l->scratch, 4 * l->header[3], l->pool, 3 * records, UINT64_MAX >> 1,
                    l->answer, 4);
+}
+
+/* Axes spread over all operations, a row of letters for each. The values are phase and work. */
+static uint32_t expand(Library *l, size_t records) {
+    uint32_t refused = 0;
+    for (uint64_t k = 0; k < ONE_BY_ONE && k < l->header[4]; k++) {
+        const uint32_t *op = l->operations + l->words * (k * l->header[4] / ONE_BY_ONE);
+        refused |= l->expand(l->header, 6, l->nodes, NODES, l->rows + QUBITS * k, QUBITS, l->scratch, 4 * l->header[3], l->pool, 3 * records, OWNER, op[1],
+                             UINT64_MAX >> 1, l->answer, 4);
+    }
+    return refused;
 }
 
 /* The least power of two of records, from 1,024 on, that serves. */
@@ -119,6 +139,7 @@ static uint32_t call(int which, Library *l, const List *lists, int many, uint64_
     uint32_t refused = 0;
     if (which == REPORT) return report(l, records);
     if (which == AXES_IN_ONE_WALK) return axes(l, records);
+    if (which == AXES_ONE_BY_ONE) return expand(l, records);
     for (int k = 0; k < many; k++) refused |= convert(l, lists + k, cap);
     return refused;
 }
@@ -138,8 +159,8 @@ static void timed(int which, const char *name, const List *lists, int many, uint
         if (!once) printf("%s%s: refused\n", prefixes[which], name);
         return;
     }
-    if (memcmp(now.answer, before.answer, sizeof now.answer)) differ(name);
-    if (which == AXES_IN_ONE_WALK && memcmp(now.rows, before.rows, ROWS)) differ(name);
+    if (memcmp(now.answer, before.answer, (which == AXES_ONE_BY_ONE ? 2 : 4) * sizeof *now.answer)) differ(name);
+    if (memcmp(now.rows, before.rows, ROWS)) differ(name);
     if (once) return;
     for (int round = 0; round < 400 && (all < enough || round < 20); round++)
         for (int turn = 0; turn < 2; turn++) {
@@ -166,6 +187,7 @@ static void workload(const char *name, const List *lists, int many, uint64_t cap
     if (records_for(&before) != records) differ(name);
     timed(REPORT, name, lists, many, cap, records);
     timed(AXES_IN_ONE_WALK, name, lists, many, cap, records);
+    timed(AXES_ONE_BY_ONE, name, lists, many, cap, records);
 }
 
 int main(int argc, char **argv) {
@@ -175,8 +197,9 @@ int main(int argc, char **argv) {
     once = argc > 1 && !strcmp(argv[1], "--once");
     argc -= once, argv += once;
     if (argc < 4) return 2;
-    now.convert = pbc_convert, now.weights = pbc_max_axis_weights, now.axes = pbc_expand_axes, now.words = (size_t)atoi(argv[1]);
-    before.convert = before_pbc_convert, before.weights = before_pbc_max_axis_weights, before.axes = before_pbc_expand_axes, before.words = (size_t)atoi(argv[2]);
+    now.convert = pbc_convert, now.weights = pbc_max_axis_weights, now.axes = pbc_expand_axes, now.expand = pbc_expand;
+    before.convert = before_pbc_convert, before.weights = before_pbc_max_axis_weights, before.axes = before_pbc_expand_axes, before.expand = before_pbc_expand;
+    now.words = (size_t)atoi(argv[1]), before.words = (size_t)atoi(argv[2]);
     word = argv[3];
     if (!once) printf("%-58s %13s %13s   now/before\n", "", "now", "before");
     for (int f = 4; f < argc; f++)
@@ -200,7 +223,7 @@ int main(int argc, char **argv) {
                 for (int k = 0; k < LISTS; k++) free(lists[k].words);
             }
     if (!once && count[CONVERSION])
-        printf("mean of the ratios: conversions %.3f, reports %.3f, all axes %.3f\n", sums[CONVERSION] / count[CONVERSION], sums[REPORT] / count[REPORT],
-               sums[AXES_IN_ONE_WALK] / count[AXES_IN_ONE_WALK]);
+        printf("mean of the ratios: conversions %.3f, reports %.3f, all axes %.3f, axes one by one %.3f\n", sums[CONVERSION] / count[CONVERSION],
+               sums[REPORT] / count[REPORT], sums[AXES_IN_ONE_WALK] / count[AXES_IN_ONE_WALK], sums[AXES_ONE_BY_ONE] / count[AXES_ONE_BY_ONE]);
     return 0;
 }

@@ -261,6 +261,18 @@ static void factors_commute_or_not(void)
     expect_commute("(X0 Z0) (X0 Z0)", product(clash, clash), 1);
 }
 
+/* With the header from before a product the next one takes its place. */
+static void pairs_need_one_node(void)
+{
+    new_circuit(2, 0);
+    uint64_t used = header[PBC_NODES];
+    uint32_t first = product(4, 8);
+    expect_commute("X0 Z0", first, 0);
+    header[PBC_NODES] = used;
+    expect("the same node", product(4, 16), first);
+    expect_commute("X0 Z1", first, 1);
+}
+
 /* The first bytes of the rows have this value; then all are 9. */
 static void expect_rows(const char *what, size_t count, uint64_t value)
 {
@@ -541,6 +553,7 @@ int main(int count, char **arguments)
     hand_is_marked();
     zero_turns_weigh_nothing();
     factors_commute_or_not();
+    pairs_need_one_node();
     targets_are_taken_once();
     rows_are_the_axes();
     texts_are_gates();
