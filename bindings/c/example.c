@@ -115,6 +115,8 @@ int main(void)
     uint32_t x = 4 * 1, z = 4 * 2;
     expect("product", pbc_product(header, PBC_HEADER_WORDS, nodes, PBC_NODES_WORDS(NODES), OWNER, x, OWNER, z, answer, PBC_ANSWER_WORDS), 0);
     uint32_t y = (uint32_t)answer[0];
+    expect("expand", expand(y, letters, LIMIT), 0);
+    printf("X and Z of one qubit %s\n", answer[2] ? "commute" : "do not commute");
     for (uint32_t phase = 0; phase < 2; phase++)
         expect("hermitian",
                pbc_hermitian_axis(header, PBC_HEADER_WORDS, nodes, PBC_NODES_WORDS(NODES), scratch, PBC_SCRATCH_WORDS(NODES), pool,
