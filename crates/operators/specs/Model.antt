@@ -45,7 +45,7 @@ phased S PlusI r = S.root (S.root r)
 phased S MinusOne r = S.root (S.root (S.root (S.root r)))
 phased S MinusI r = S.root (S.root (S.root (S.root (S.root (S.root r)))))
 
--- the Pauli matrices: the row of bit b has one entry, in the column flipBy a b, and it is entry_of a b
+-- the Pauli matrices: the row of bit b has one entry, in the column flip_by a b, and it is entry_of a b
 abbrev pub flip_by : Pauli → Bool → Bool
 flip_by I b = b
 flip_by X b = not b

@@ -75,7 +75,7 @@ put_multiplied i l r p s = stored i (4 * s.count + p) (put_product (word s l) (w
 pub record ProductPut (i l r p c : ℕ) (ns fs : List ℕ) (c' : ℕ) (ns' fs' : List ℕ) : Type 0 where
   pub same : arena c' ns' fs' ≡ put_multiplied i l r p (arena c ns fs)
 
--- as frameStep, in the buffers
+-- as frame_step, in the buffers
 unfoldable pub put_step : ℕ → Gate → Arena → Arena
 put_step n (gate_h q) s = stored (n + q) (word s q) (stored q (word s (n + q)) s)
 put_step n (gate_x q) s = stored (n + q) (scaled_word MinusOne (word s (n + q))) s
@@ -267,7 +267,7 @@ put_node l r s = writing (s.count + 1) (set (set s.nodes (node_words * s.count) 
 unfoldable pub put_joint : ℕ → ℕ → ℕ → Writing → Writing
 put_joint i l r s = put_op (rotate_words (4 * s.count) 6 i) (put_op (rotate_words r 2 i) (put_op (rotate_words l 2 i) (put_node l r s)))
 
--- as flushGate, in the buffers
+-- as flush_gate, in the buffers
 unfoldable pub put_flush : ℕ → Gate → Writing → Writing
 put_flush i (gate_h q) s = put_op (rotate_words (id_z q) 2 i) (put_op (rotate_words (id_x q) 2 i) (put_op (rotate_words (id_z q) 2 i) s))
 put_flush i (gate_x q) s = put_op (rotate_words (id_x q) 4 i) s
