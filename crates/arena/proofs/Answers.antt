@@ -14,6 +14,7 @@ use Rattle.arena.specs.References.{PauliRef, PauliAxis, axis_of, node_in}
 use Rattle.arena.specs.Nodes.{single_word, product_word, image}
 use Rattle.arena.specs.Store.{Header}
 use Rattle.arena.specs.Builder.{Step, NodesAndFrame, decided, overlay, start_nodes, start_frame, new_header, with_nodes, node_put, ref_to, nodes_for, Created, CreatedMade, CreatedRefused, Singled, SingledMade, SingledRefused, Multiplied, MultipliedMade, MultipliedRefused, new_check, new_step, single_check, single_step, product_check, product_step}
+use Rattle.arena.proofs.Made.{made_same}
 use Rattle.arena.proofs.Images.{put_older, single-image, product-image, new_images}
 use Rattle.arena.proofs.Accepted.{fits_single, fits_product}
 use Rattle.arena.proofs.NodeRows.{image-older}
@@ -48,8 +49,9 @@ single-answer h ws q a h' x some = go (single_check h (length ws) q a) refl
     go Fine p e =
         let m = pushed h ws q a first some in
         let e₂ : SingledMade (with_nodes (h.nodes + 1) h) (axis_of (ref_to h h.nodes)) ≡ SingledMade h' x = sym (ap (λ (s : Step Singled (List ℕ)). s.answer) m) ∙ e in
-        let eh : with_nodes (h.nodes + 1) h ≡ h' = cc in
-        let ex : axis_of (ref_to h h.nodes) ≡ x = cc in
+        let same : (with_nodes (h.nodes + 1) h, axis_of (ref_to h h.nodes)) ≡ (h', x) = made_same e₂ in
+        let eh : with_nodes (h.nodes + 1) h ≡ h' = ap (λ (p : Header × PauliAxis). p.0) same in
+        let ex : axis_of (ref_to h h.nodes) ≡ x = ap (λ (p : Header × PauliAxis). p.1) same in
         rw (m, ← eh, ← ex) (single-image h ws q a p some)
     go (Wrong w) p e = let z : ◌≡◌ {A = ℕ} 0 1 = cc in absurd (zero-is-one z)
 
@@ -66,8 +68,9 @@ product-answer h ws l r h' x = go (product_check h (length ws) l r) refl
     go : (k : Checked) → product_check h (length ws) l r ≡ k → (decided k MultipliedRefused ws made).answer ≡ MultipliedMade h' x
         → image h'.qubits h'.nodes (decided k MultipliedRefused ws made).words x.word ≡ image h.qubits h.nodes ws l.word ★ image h.qubits h.nodes ws r.word
     go Fine p e =
-        let eh : with_nodes (h.nodes + 1) h ≡ h' = cc in
-        let ex : ref_to h h.nodes ≡ x = cc in
+        let same : (with_nodes (h.nodes + 1) h, ref_to h h.nodes) ≡ (h', x) = made_same e in
+        let eh : with_nodes (h.nodes + 1) h ≡ h' = ap (λ (p : Header × PauliRef). p.0) same in
+        let ex : ref_to h h.nodes ≡ x = ap (λ (p : Header × PauliRef). p.1) same in
         rw (← eh, ← ex) (product-image h ws l r p)
     go (Wrong w) p e = let z : ◌≡◌ {A = ℕ} 0 1 = cc in absurd (zero-is-one z)
 
@@ -108,7 +111,7 @@ product-older h ws l r h' x e w u = go (product_check h (length ws) l r) refl e
     go : (k : Checked) → product_check h (length ws) l r ≡ k → (decided k MultipliedRefused ws made).answer ≡ MultipliedMade h' x
         → image h'.qubits h'.nodes (decided k MultipliedRefused ws made).words w ≡ image h.qubits h.nodes ws w
     go Fine p e =
-        let eh : with_nodes (h.nodes + 1) h ≡ h' = cc in
+        let eh : with_nodes (h.nodes + 1) h ≡ h' = ap (λ (p : Header × PauliRef). p.0) (made_same e) in
         rw (← eh) (put_keeps h ws (product_word l.word) r.word w (fits_product h (length ws) l r p).room.lent u)
     go (Wrong k) p e = let z : ◌≡◌ {A = ℕ} 0 1 = cc in absurd (zero-is-one z)
 
@@ -123,12 +126,12 @@ single-older h ws q a h' x e w u = go a (single_check h (length ws) q a) refl e
     node : (a : Pauli) → (single_made h ws q a).answer ≡ SingledMade h' x → h.nodes + 1 ≤ length ws / 2
         → image h'.qubits h'.nodes (single_made h ws q a).words w ≡ image h.qubits h.nodes ws w
     node a e room =
-        let eh : with_nodes (h.nodes + 1) h ≡ h' = cc in
+        let eh : with_nodes (h.nodes + 1) h ≡ h' = ap (λ (p : Header × PauliAxis). p.0) (made_same e) in
         rw (← eh) (put_keeps h ws (single_word a) q w room u)
 
     go : (a : Pauli) (k : Checked) → single_check h (length ws) q a ≡ k → (decided k SingledRefused ws (made a)).answer ≡ SingledMade h' x
         → image h'.qubits h'.nodes (decided k SingledRefused ws (made a)).words w ≡ image h.qubits h.nodes ws w
-    go I Fine p e = let eh : h ≡ h' = cc in rw (← eh)
+    go I Fine p e = let eh : h ≡ h' = ap (λ (p : Header × PauliAxis). p.0) (made_same e) in rw (← eh)
     go X Fine p e = node X e (fits_single h (length ws) q X p).room.lent
     go Y Fine p e = node Y e (fits_single h (length ws) q Y p).room.lent
     go Z Fine p e = node Z e (fits_single h (length ws) q Z p).room.lent

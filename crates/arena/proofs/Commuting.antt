@@ -17,7 +17,8 @@ use Rattle.arena.specs.Store.{Header}
 use Rattle.arena.specs.Sparse.{Sparse, merge, dense}
 use Rattle.arena.specs.Walk.{Out, fine, refused}
 use Rattle.arena.specs.Readers.{Expanded}
-use Rattle.arena.specs.Expansion.{ExpansionMade, expansion_of, expand_step}
+use Rattle.arena.proofs.Made.{made_same}
+use Rattle.arena.specs.Expansion.{ExpansionParts, ExpansionMade, expansion_of, expand_step}
 use Rattle.arena.specs.PoolSteps.{Operands, Merged}
 use Rattle.arena.specs.Code.WalkWords.{Ordered}
 use Rattle.arena.proofs.SparseProducts.{merge-phase}
@@ -47,7 +48,7 @@ module _ (h : Header) (nodes letters scratch pool : List ℕ) (r : PauliRef) (ce
     where
       go : (y : Out Expanded) → (expand_step h nodes letters scratch pool r cells).answer ≡ y → expansion_of y ≡ ExpansionMade phase work commute
           → commute ≡ factors_commute h.qubits h.nodes nodes root
-      go (fine x) q e = let same : x.commute ≡ commute = cc in sym same ∙ expand_judges h nodes letters scratch pool r cells x q
+      go (fine x) q e = let same : x.commute ≡ commute = ap (λ (p : ExpansionParts). p.commute) (made_same e) in sym same ∙ expand_judges h nodes letters scratch pool r cells x q
       go (refused k) q e = let z : ◌≡◌ {A = ℕ} 0 1 = cc in absurd (zero-is_one z)
 
   pub expand_commutes : (a b : ℕ) → node_at h.qubits nodes (node_in r.word) ≡ Product a b

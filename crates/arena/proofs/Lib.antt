@@ -1,5 +1,6 @@
 -- Laws by subject, from the bottom up.
 pub mod Words
+pub mod Made
 pub mod Overlay
 pub mod Accepted
 pub mod NodeRows

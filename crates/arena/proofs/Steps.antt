@@ -12,6 +12,9 @@ pub mod Readers
 pub mod Commuting
 pub mod Weights
 pub mod Axes
+pub mod Visits
+pub mod Rows
+pub mod Largest
 pub mod Shown
 pub mod Records
 pub mod Holding

@@ -20,6 +20,7 @@ use Rattle.arena.specs.Store.{Header, unknown, target_outside}
 use Rattle.arena.specs.Builder.{step_of, decided, with_operation, PushedMade, PushedRefused, MeasuredMade, MeasuredRefused, rotate_check, rotate_step, measure_check, measure_step, conditional_check, conditional_step}
 use Rattle.arena.specs.Calls.{call_rotate, call_measure, call_conditional, Slices, checked, after}
 use Rattle.arena.specs.Expansion.{op_at, gate_word}
+use Rattle.arena.proofs.Made.{made_same}
 use Rattle.arena.proofs.Accepted.{passed_before, test_passed, left_false, Own, fits_rotate, fits_measure, fits_conditional}
 use Rattle.arena.proofs.Spans.{accepted_used_only}
 
@@ -97,7 +98,7 @@ pushed_made (Wrong w) ops ws g h' e = let z : ◌≡◌ {A = ℕ} 0 1 = cc in ab
 
 measured_made : (c : Checked) (ops ws : List ℕ) (g h' : Header) (i m : MeasId) → (decided c MeasuredRefused ops (step_of (MeasuredMade g i) ws)).answer ≡ MeasuredMade h' m
     → (c ≡ Fine) × (g ≡ h') × (i ≡ m)
-measured_made Fine ops ws g h' i m e = (refl, cc, cc)
+measured_made Fine ops ws g h' i m e = (refl, ap (λ (p : Header × MeasId). p.0) (made_same e), ap (λ (p : Header × MeasId). p.1) (made_same e))
 measured_made (Wrong w) ops ws g h' i m e = let z : ◌≡◌ {A = ℕ} 0 1 = cc in absurd (zero_is_one z)
 
 module _ (h : Header) (ops : List ℕ) (x : PauliAxis) where

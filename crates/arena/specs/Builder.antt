@@ -1,5 +1,5 @@
 -- What the calls that make a circuit and add to it answer, and what they leave in the slices lent: for acceptance and every refusal.
-use Rattle.std.specs.Prelude.{cond, ◌||◌, List, [], ◌∷◌, ◌++◌, ℕ, zero, suc, ◌+◌, ◌*◌, ◌/◌, leb, ltb, eqb, length, drop}
+use Rattle.std.specs.Prelude.{cond, ◌||◌, List, [], ◌∷◌, ◌++◌, ℕ, zero, suc, ◌+◌, ◌*◌, ◌/◌, leb, ltb, eqb, length, drop, Result, Ok}
 use Rattle.std.proofs.lemmas.List.Edits.{sets}
 use Rattle.pauli.specs.Angle.{eighths_of}
 use Rattle.arena.specs.Types.{Pauli, I, X, Y, Z, PauliAngle}
@@ -10,11 +10,32 @@ use Rattle.arena.specs.References.{PauliRef, PauliAxis, axis_of}
 use Rattle.arena.specs.Nodes.{single_word, product_word}
 use Rattle.arena.specs.Operations.{MeasId, meas_id, Target, rotate_words, measure_words, conditional_words}
 use Rattle.arena.specs.Store.{Header, breaks_limit, exceeds_nodes, exceeds_operations, foreign, unknown, target_bit, target_outside, no_node_room, no_operation_room}
-pub use Rattle.arena.specs.declared.builder.Created.TheVariants.{the_data as Created, Made as CreatedMade, Refused as CreatedRefused}
-pub use Rattle.arena.specs.declared.builder.Singled.TheVariants.{the_data as Singled, Made as SingledMade, Refused as SingledRefused}
-pub use Rattle.arena.specs.declared.builder.Multiplied.TheVariants.{the_data as Multiplied, Made as MultipliedMade, Refused as MultipliedRefused}
-pub use Rattle.arena.specs.declared.builder.Pushed.TheVariants.{the_data as Pushed, Made as PushedMade, Refused as PushedRefused}
-pub use Rattle.arena.specs.declared.builder.Measured.TheVariants.{the_data as Measured, Made as MeasuredMade, Refused as MeasuredRefused}
+pub use Rattle.std.specs.Prelude.{Ok as CreatedMade, Err as CreatedRefused, Err as SingledRefused, Err as MultipliedRefused, Ok as PushedMade, Err as PushedRefused, Err as MeasuredRefused}
+
+-- what the calls answer: what was made, or a refusal
+abbrev pub Created : Type 0
+Created = Result Header PbcError
+
+abbrev pub Pushed : Type 0
+Pushed = Result Header PbcError
+
+abbrev pub Singled : Type 0
+Singled = Result (Header × PauliAxis) PbcError
+
+abbrev pub Multiplied : Type 0
+Multiplied = Result (Header × PauliRef) PbcError
+
+abbrev pub Measured : Type 0
+Measured = Result (Header × MeasId) PbcError
+
+pattern abbrev pub SingledMade : Header → PauliAxis → Singled
+SingledMade h axis = Ok (h, axis)
+
+pattern abbrev pub MultipliedMade : Header → PauliRef → Multiplied
+MultipliedMade h r = Ok (h, r)
+
+pattern abbrev pub MeasuredMade : Header → MeasId → Measured
+MeasuredMade h m = Ok (h, m)
 
 -- a call's answer, and the lent words that it may write as it leaves them
 pub record Step (A B : Type 0) : Type 0 where
@@ -26,7 +47,7 @@ step_of a ws = record { answer = a; words = ws }
 
 -- what the checks decide: the step, or a refusal that leaves the words
 abbrev pub decided : {A B : Type 0} → Checked → (PbcError → A) → B → Step A B → Step A B
-decided Fine refused ws step = step
+decided (Ok u) refused ws step = step
 decided (Wrong e) refused ws step = step_of (refused e) ws
 
 -- ---- a new circuit: node 0 is the identity, then X and Z of qubit 0, of qubit 1, and so on

@@ -1,10 +1,10 @@
 -- The refusals of document 01 ("Turning back") and of document 02: the number, gate index and operand of each, and the order of a call's checks.
-use Rattle.std.specs.Prelude.{Bool, true, false, ℕ}
+use Rattle.std.specs.Prelude.{Bool, true, false, ℕ, Result, Ok, Err}
+pub use Rattle.std.specs.Prelude.{Err as Wrong}
 pub use Rattle.arena.specs.declared.error.PbcError.TheVariants.{the_data as PbcError, TooManyQubits, BrokenGateList, BadStore, ForeignPauli, UnsupportedGate, NonCliffordFrameGate}
 pub use Rattle.arena.specs.declared.error.PbcError.TheVariants.{QubitOutOfRange, RepeatedOperand, ClassicalBitOutOfRange, UnknownMeasurement, CapTooSmall, NoPlanes, NoFrame, NoNodes}
 pub use Rattle.arena.specs.declared.error.PbcError.TheVariants.{NoOperations, NoScratch, ExpansionLimit, NoPool, NonHermitianAxis, BadText, NoGateRoom, TargetTaken}
 pub use Rattle.arena.specs.declared.error.Refusal.{Refusal}
-pub use Rattle.arena.specs.declared.error.Checked.TheVariants.{the_data as Checked, Fine, Wrong}
 
 infixl 10 ◌⟫◌⇒◌
 abbrev pub refusal_of : ℕ → ℕ → ℕ → Refusal
@@ -35,8 +35,15 @@ refusal_in (BadText place) = refusal_of 20 0 place
 refusal_in NoGateRoom = refusal_of 21 0 0
 refusal_in (TargetTaken index bit) = refusal_of 24 index bit
 
+-- what the checks so far say: all passed, or the first that did not
+abbrev pub Checked : Type 0
+Checked = Result (Unit {0}) PbcError
+
+pattern abbrev pub Fine : Checked
+Fine = Ok tt
+
 -- the checks so far, then one more: the first test that holds decides
 unfoldable pub ◌⟫◌⇒◌ : Checked → Bool → PbcError → Checked
-Fine ⟫ true ⇒ e = Wrong e
-Fine ⟫ false ⇒ e = Fine
+Ok u ⟫ true ⇒ e = Wrong e
+Ok u ⟫ false ⇒ e = Fine
 Wrong first ⟫ b ⇒ e = Wrong first

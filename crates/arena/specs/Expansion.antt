@@ -1,19 +1,41 @@
 -- What the readers answer, and what they leave in the letters or rows, the scratch words and the pool: for acceptance and every refusal.
-use Rattle.std.specs.Prelude.{Bool, true, false, ◌||◌, List, [], ◌∷◌, ◌++◌, map, ℕ, zero, suc, ◌+◌, ◌-◌, ◌*◌, ltb, length, get_or, replicate, drop}
+use Rattle.std.specs.Prelude.{Bool, true, false, ◌||◌, List, [], ◌∷◌, ◌++◌, map, ℕ, zero, suc, ◌+◌, ◌-◌, ◌*◌, ltb, length, get_or, replicate, drop, Result, Ok}
 use Rattle.pauli.specs.Letters.{pauli_number, phase_number}
 use Rattle.pauli.specs.Rows.{Row}
 use Rattle.arena.specs.Limits.{operation_words, cap_of}
-use Rattle.arena.specs.Errors.{BadStore, ForeignPauli, NoScratch, Checked, Fine, Wrong, ◌⟫◌⇒◌}
-use Rattle.arena.specs.References.{PauliRef, axis_of}
+use Rattle.arena.specs.Types.{Phase}
+use Rattle.arena.specs.Errors.{PbcError, BadStore, ForeignPauli, NoScratch, Checked, Fine, Wrong, ◌⟫◌⇒◌}
+use Rattle.arena.specs.References.{PauliRef, PauliAxis, axis_of}
 use Rattle.arena.specs.Nodes.{PauliNode, Identity, Single, Product, Malformed, node_at}
 use Rattle.arena.specs.Operations.{PbcOp, Rotate, Measure, ConditionalRotate, decode_op, axis_kind, Malformed as MalformedOp, Source, OfGate, ByHand, NoSource, source_of}
 use Rattle.arena.specs.Store.{Header, breaks_limit, exceeds_nodes, exceeds_operations, foreign, unknown}
 use Rattle.arena.specs.Walk.{Out, fine, refused}
 use Rattle.arena.specs.Readers.{Expanded, expand_walk, hermitian_walk, Weighed, words_of, Report, report_walk, Axes, axes_walk}
-pub use Rattle.arena.specs.declared.expansion.Expansion.TheVariants.{the_data as Expansion, Made as ExpansionMade, Refused as ExpansionRefused}
-pub use Rattle.arena.specs.declared.expansion.HermitianAxis.TheVariants.{the_data as HermitianAxis, Made as HermitianMade, Refused as HermitianRefused}
-pub use Rattle.arena.specs.declared.expansion.MaxAxisWeights.TheVariants.{the_data as MaxAxisWeights, Made as WeightsMade, Refused as WeightsRefused}
-pub use Rattle.arena.specs.declared.expansion.ExpandedAxes.TheVariants.{the_data as ExpandedAxes, Made as AxesMade, Refused as AxesRefused}
+pub use Rattle.arena.specs.declared.expansion.Expansion.{Expansion as ExpansionParts}
+pub use Rattle.arena.specs.declared.expansion.HermitianAxis.{HermitianAxis as HermitianParts}
+pub use Rattle.arena.specs.declared.expansion.MaxAxisWeights.{MaxAxisWeights as WeightParts}
+pub use Rattle.std.specs.Prelude.{Err as ExpansionRefused, Err as HermitianRefused, Err as WeightsRefused, Ok as AxesMade, Err as AxesRefused}
+
+abbrev pub Expansion : Type 0
+Expansion = Result ExpansionParts PbcError
+
+abbrev pub HermitianAxis : Type 0
+HermitianAxis = Result HermitianParts PbcError
+
+abbrev pub MaxAxisWeights : Type 0
+MaxAxisWeights = Result WeightParts PbcError
+
+abbrev pub ExpandedAxes : Type 0
+ExpandedAxes = Result ℕ PbcError
+
+abbrev pub ExpansionMade : Phase → ℕ → Bool → Expansion
+ExpansionMade phase work commute = Ok (record { phase = phase; work = work; commute = commute })
+
+abbrev pub HermitianMade : PauliAxis → ℕ → HermitianAxis
+HermitianMade axis work = Ok (record { axis = axis; work = work })
+
+abbrev pub WeightsMade : ℕ → ℕ → ℕ → MaxAxisWeights
+WeightsMade non_clifford clifford work = Ok (record { non_clifford = non_clifford; clifford = clifford; work = work })
 
 -- every counted record is zero, and the words after those are as they were
 abbrev pub cleared : List ℕ → List ℕ
@@ -120,7 +142,7 @@ letters_left (fine x) letters = map pauli_number x.row.letters ++ drop (length x
 letters_left (refused e) letters = letters
 
 abbrev pub expand_by : Checked → Out Expanded → Header → (letters scratch pool : List ℕ) → ExpandStep
-expand_by Fine o h letters scratch pool = record { answer = o; letters = letters_left o letters; scratch = scratch_left h scratch; pool = cleared pool }
+expand_by (Ok u) o h letters scratch pool = record { answer = o; letters = letters_left o letters; scratch = scratch_left h scratch; pool = cleared pool }
 expand_by (Wrong e) o h letters scratch pool = record { answer = refused e; letters = letters; scratch = scratch; pool = pool }
 
 unfoldable pub expand_step : Header → (nodes letters scratch pool : List ℕ) → PauliRef → (cells : ℕ) → ExpandStep
@@ -135,7 +157,7 @@ pub record WalkStep (A : Type 0) : Type 0 where
   pub pool : List ℕ
 
 abbrev pub walk_by : {A : Type 0} → Checked → Out A → Header → (scratch pool : List ℕ) → WalkStep A
-walk_by Fine o h scratch pool = record { answer = o; scratch = scratch_left h scratch; pool = cleared pool }
+walk_by (Ok u) o h scratch pool = record { answer = o; scratch = scratch_left h scratch; pool = cleared pool }
 walk_by (Wrong e) o h scratch pool = record { answer = refused e; scratch = scratch; pool = pool }
 
 unfoldable pub hermitian_check : Header → List ℕ → PauliRef → (scratch : ℕ) → Checked
@@ -214,7 +236,7 @@ rows_made (fine x) k = axes_bytes x.rows
 rows_made (refused e) k = replicate k 0
 
 abbrev pub axes_by : Checked → Out Axes → Header → (rows scratch pool : List ℕ) → AxesStep
-axes_by Fine o h rows scratch pool =
+axes_by (Ok u) o h rows scratch pool =
     record { answer = o; rows = rows_made o (axes_size h) ++ drop (axes_size h) rows; scratch = scratch_left h scratch; pool = cleared pool }
 axes_by (Wrong e) o h rows scratch pool = record { answer = refused e; rows = rows; scratch = scratch; pool = pool }
 

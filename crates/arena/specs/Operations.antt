@@ -1,13 +1,17 @@
 -- Operations (document 01; E2 of document 02): what the words of one stand for, the gate that it came from, and the kind of its axis.
-use Rattle.std.specs.Prelude.{cond, ◌&&◌, List, [], ◌∷◌, ℕ, zero, suc, ◌+◌, ◌*◌, ◌/◌, ◌%◌, leb, ltb, eqb}
+use Rattle.std.specs.Prelude.{cond, ◌&&◌, List, [], ◌∷◌, ℕ, zero, suc, ◌+◌, ◌*◌, ◌/◌, ◌%◌, leb, ltb, eqb, Option}
 use Rattle.pauli.specs.Angle.{angle_of, eighths_of}
 use Rattle.arena.specs.Limits.{max_gates, hand_mark}
 use Rattle.arena.specs.References.{axis_of}
 pub use Rattle.arena.specs.declared.op.MeasId.{MeasId}
-pub use Rattle.arena.specs.declared.op.Target.TheVariants.{the_data as Target, Bit, None as NoTarget}
+pub use Rattle.std.specs.Prelude.{Some as Bit, None as NoTarget}
 pub use Rattle.arena.specs.declared.op.AxisKind.TheVariants.{the_data as AxisKind, None as NoKind, Pi8, Clifford, Measurement}
 pub use Rattle.arena.specs.declared.op.Source.TheVariants.{the_data as Source, Gate as OfGate, Hand as ByHand, Malformed as NoSource}
 pub use Rattle.arena.specs.declared.op.PbcOp.TheVariants.{the_data as PbcOp, Rotate, Measure, ConditionalRotate, Malformed}
+
+-- the classical bit that a measurement writes, or none
+abbrev pub Target : Type 0
+Target = Option ℕ
 
 abbrev pub meas_id : ℕ → ℕ → MeasId
 meas_id owner number = record { 0 = owner; 1 = number }

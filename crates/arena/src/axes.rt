@@ -7,21 +7,17 @@ ghost use Rattle.arena.specs.Builder.{overlay};
 ghost use Rattle.arena.specs.Walk.{show_roots, walk_nodes};
 ghost use Rattle.arena.specs.Readers.{words_of, axes_walk};
 ghost use Rattle.arena.specs.Expansion.{axes_size, expanded_axes_of, rows_made, axes_step};
-ghost use Rattle.arena.specs.Code.Results.{Says, evaluated_out, expanded_out};
+ghost use Rattle.arena.specs.Code.Results.{Says, out_of};
 ghost use Rattle.arena.specs.Code.WalkWords.{Rooted, ShowReady};
 ghost use Rattle.arena.specs.Code.Roots.{Fit, axes_of, OpsSound, show_root, Weighing, cells, laid_at, RootWritten, RowsShown};
 ghost use Rattle.arena.specs.Limits.{cap_of};
 
 use crate::checks::{axes_size, check_axes};
-use crate::error::Checked;
-use crate::expansion::ExpandedAxes;
+use crate::error::PbcError;
 use crate::header::Header;
-use crate::materialize::Evaluated;
-use crate::pool::{Ledger, Value, cap_of};
-use crate::roots::{Shown, begin, release, show, show_root, wipe, zero_bytes};
-use crate::scratch::zero_all;
-use crate::stored::axis_word;
-use crate::weights::count_axes;
+use crate::pool::{Value, cap_of};
+use crate::roots::{show, wipe, zero_bytes};
+use crate::visit::{Visit, visit_axes};
 
 // ---- a row
 
@@ -44,66 +40,27 @@ fn put_row(rows: &mut [u8], at: usize, pool: &[u32], n: usize, v: Value)
 
 // ---- the walk
 
-// The axis w is shown, written and released.
-fn write_root(
-    header: Header,
-    nodes: &[u32],
-    rows: &mut [u8],
-    s: &mut [u32],
-    pool: &mut [u32],
-    limit: usize,
-    at: usize,
-    w: usize,
-    left: Ledger,
-) -> Evaluated
-    requires { Rooted nodes.now s.old pool.old header.nodes limit (node_in w) left × (at + header.qubits < length rows.old) }
-    ensures { (g : Rooted nodes.now s.old pool.old header.nodes limit (node_in w) left)
-        → Says (show_root limit g.at.room (node_at g.at.n nodes.now) header.nodes (node_in w) g.at.s) (evaluated_out result)
-        (RootWritten header.qubits at w g rows.old rows.new s.new pool.new) }
-{
-    let count = header.nodes as usize;
-    match show_root(nodes, s, pool, count, limit, w, left) {
-        Shown::Refused(e) => Evaluated::Refused(e),
-        Shown::Root(v, rest) => {
-            put_row(rows, at, pool, header.qubits as usize, v);
-            Evaluated::Done(release(s, pool, w / 4, v, rest))
-        }
-    }
+// A row for each axis.
+#[derive(Drop)]
+pub(crate) struct Rows<'a> {
+    pub rows: &'a mut [u8],
+    pub qubits: usize,
 }
 
-// Each axis is shown, written and released, in order.
-fn write_axes(
-    header: Header,
-    nodes: &[u32],
-    operations: &[u32],
-    rows: &mut [u8],
-    s: &mut [u32],
-    pool: &mut [u32],
-    limit: usize,
-    left0: Ledger,
-) -> ExpandedAxes
-    requires { Weighing header nodes.now operations.now s.old pool.old limit left0 × (length rows.old ≡ axes_size header) }
-    ensures { (g : Weighing header nodes.now operations.now s.old pool.old limit left0)
-        → Says (show_roots limit g.room (node_at header.qubits nodes.now) header.nodes (words_of (axes_of header operations.now)) g.s)
-        (expanded_out result) (RowsShown header.qubits rows.new) }
-{
-    let width = header.qubits as usize + 1;
-    let total = header.operations;
-    let mut left = left0;
-    let mut at = 0;
-    let mut i = 0;
-    while i < total {
-        let w = axis_word(operations, i);
-        match write_root(header, nodes, rows, s, pool, limit, at, w, left) {
-            Evaluated::Refused(e) => return ExpandedAxes::Refused(e),
-            Evaluated::Done(rest) => {
-                left = rest;
-                at += width;
-                i += 1;
-            }
-        }
+impl Visit for Rows<'_> {
+    ghost use Rattle.std.specs.Prelude.{◌+◌, ◌*◌, ◌<◌, length};
+    ghost use Rattle.arena.specs.Sparse.{dense};
+    ghost use Rattle.arena.specs.Expansion.{row_bytes};
+    ghost use Rattle.arena.specs.Code.Roots.{laid_at};
+
+    ghost Fits = { λ v i. i * (v.qubits + 1) + v.qubits < length v.rows.now };
+
+    ghost step = { λ v i x. record v { rows = record v.rows { now = laid_at (i * (v.qubits + 1)) (row_bytes (dense v.qubits x)) v.rows.now } } };
+
+    fn visit(&mut self, index: u32, value: Value, pool: &[u32]) {
+        let at = (index as usize) * (self.qubits + 1);
+        put_row(self.rows, at, pool, self.qubits, value);
     }
-    ExpandedAxes::Made(left.work)
 }
 
 // The whole walk. Scratch and pool are left as they are then, and so are the rows of a walk that is refused.
@@ -115,21 +72,16 @@ fn axes_walk(
     s: &mut [u32],
     pool: &mut [u32],
     limit: usize,
-) -> ExpandedAxes
+) -> Result<usize, PbcError>
     requires { Fit header nodes.now s.old × OpsSound header operations.now × (header.operations ≤ 65536) × (length rows.old ≡ axes_size header) }
     ensures { Says (walk_nodes limit (cap_of (length pool.old) - 1) (node_at header.qubits nodes.now) header.nodes
-        (words_of (axes_of header operations.now))) (expanded_out result) (RowsShown header.qubits rows.new) }
+        (words_of (axes_of header operations.now))) (out_of result) (RowsShown header.qubits rows.new) }
 {
-    zero_all(s);
-    count_axes(header, operations, s);
-    let count = header.nodes as usize;
-    let roots = header.operations as usize;
-    match begin(nodes, s, pool, count, limit, roots) {
-        Evaluated::Refused(e) => ExpandedAxes::Refused(e),
-        Evaluated::Done(left) => {
-            write_axes(header, nodes, operations, rows, s, pool, limit, left)
-        }
-    }
+    let mut made = Rows {
+        rows,
+        qubits: header.qubits as usize,
+    };
+    visit_axes(header, nodes, operations, s, pool, limit, &mut made)
 }
 
 // ---- the rows of a refused walk
@@ -143,20 +95,18 @@ fn rows_or_zero(
     s: &mut [u32],
     pool: &mut [u32],
     limit: usize,
-) -> ExpandedAxes
+) -> Result<usize, PbcError>
     requires { Fit header nodes.now s.old × OpsSound header operations.now × (header.operations ≤ 65536) × (length rows.old ≡ axes_size header) }
     ensures value { result ≡ expanded_axes_of (axes_walk limit (cap_of (length pool.old) - 1) header.qubits header.nodes nodes.now
         (words_of (axes_of header operations.now))) }
     ensures rows_after { rows.new ≡ rows_made (axes_walk limit (cap_of (length pool.old) - 1) header.qubits header.nodes nodes.now
         (words_of (axes_of header operations.now))) (axes_size header) }
 {
-    match axes_walk(header, nodes, operations, rows, s, pool, limit) {
-        ExpandedAxes::Made(work) => ExpandedAxes::Made(work),
-        ExpandedAxes::Refused(e) => {
-            zero_bytes(rows);
-            ExpandedAxes::Refused(e)
-        }
+    let answer = axes_walk(header, nodes, operations, rows, s, pool, limit);
+    if answer.is_err() {
+        zero_bytes(rows);
     }
+    answer
 }
 
 impl Header {
@@ -170,16 +120,13 @@ impl Header {
         scratch: &mut [u32],
         pool: &mut [u32],
         limit: usize,
-    ) -> ExpandedAxes
+    ) -> Result<usize, PbcError>
         ensures value { result ≡ expanded_axes_of (axes_step self nodes.now operations.now rows.old scratch.old pool.old limit).answer }
         ensures rows_after { rows.new ≡ (axes_step self nodes.now operations.now rows.old scratch.old pool.old limit).rows }
         ensures scratch_after { scratch.new ≡ (axes_step self nodes.now operations.now rows.old scratch.old pool.old limit).scratch }
         ensures pool_after { pool.new ≡ (axes_step self nodes.now operations.now rows.old scratch.old pool.old limit).pool }
     {
-        let checked = check_axes(self, nodes, operations, rows.len(), scratch.len());
-        if let Checked::Wrong(error) = checked {
-            return ExpandedAxes::Refused(error);
-        }
+        check_axes(self, nodes, operations, rows.len(), scratch.len())?;
         let size = axes_size(self);
         let used = 4 * (self.nodes as usize);
         let counted = 3 * cap_of(pool.len());

@@ -5,10 +5,10 @@ ghost use Rattle.arena.specs.Store.{target_bit, target_outside};
 ghost use Rattle.arena.specs.Builder.{nodes_for, new_check, single_check, product_check, rotate_check, measure_check, conditional_check};
 ghost use Rattle.arena.specs.Expansion.{expand_check, hermitian_check, report_check, axes_size, axes_check};
 
-use crate::error::{Checked, PbcError};
+use crate::error::{PbcError, refuse_if};
 use crate::header::Header;
 use crate::limits::{MAX_CBITS, MAX_QUBITS, NODE_WORDS};
-use crate::op::{MeasId, Target};
+use crate::op::MeasId;
 use crate::pauli_ref::{PauliAxis, PauliRef};
 use crate::stored::{bad_nodes, bad_operations};
 use pauli::Pauli;
@@ -25,55 +25,55 @@ pub(crate) fn nodes_for(pauli: Pauli) -> u32
     }
 }
 
-fn target_outside(header: Header, target: Target) -> bool
+fn target_outside(header: Header, target: Option<u32>) -> bool
     ensures { result ≡ target_outside header target }
 {
-    match target {
-        Target::Bit(bit) => header.cbits <= bit,
-        Target::None => false,
-    }
+    target.is_some_and(|bit| header.cbits <= bit)
 }
 
-fn target_bit(target: Target) -> u32
+fn target_bit(target: Option<u32>) -> u32
     ensures { result ≡ target_bit target }
 {
-    match target {
-        Target::Bit(bit) => bit,
-        Target::None => 0,
-    }
+    target.unwrap_or(0)
 }
 
-pub(crate) fn check_new(qubits: u32, cbits: u32, nodes: usize, frame: usize) -> Checked
+pub(crate) fn check_new(qubits: u32, cbits: u32, nodes: usize, frame: usize) -> Result<(), PbcError>
     ensures { result ≡ new_check qubits cbits nodes frame }
 {
-    Checked::Fine
-        .refuse_if(
-            (MAX_QUBITS < qubits) | (MAX_CBITS < cbits),
-            PbcError::TooManyQubits,
-        )
-        .refuse_if(frame < 2 * (qubits as usize), PbcError::NoFrame)
-        .refuse_if(
-            nodes / NODE_WORDS < 1 + 2 * (qubits as usize),
-            PbcError::NoNodes,
-        )
+    refuse_if(
+        (MAX_QUBITS < qubits) | (MAX_CBITS < cbits),
+        PbcError::TooManyQubits,
+    )?;
+    refuse_if(frame < 2 * (qubits as usize), PbcError::NoFrame)?;
+    refuse_if(
+        nodes / NODE_WORDS < 1 + 2 * (qubits as usize),
+        PbcError::NoNodes,
+    )
 }
 
-pub(crate) fn check_single(header: Header, nodes: usize, qubit: u32, pauli: Pauli) -> Checked
+pub(crate) fn check_single(
+    header: Header,
+    nodes: usize,
+    qubit: u32,
+    pauli: Pauli,
+) -> Result<(), PbcError>
     ensures { result ≡ single_check header nodes qubit pauli }
 {
-    Checked::Fine
-        .refuse_if(
-            header.breaks_limit() | header.exceeds_nodes(nodes),
-            PbcError::BadStore,
-        )
-        .refuse_if(
-            header.qubits <= qubit,
-            PbcError::QubitOutOfRange(0, qubit as u64),
-        )
-        .refuse_if(
-            header.no_node_room(nodes, nodes_for(pauli)),
-            PbcError::NoNodes,
-        )
+    refuse_if(
+        header.breaks_limit() | header.exceeds_nodes(nodes),
+        PbcError::BadStore,
+    )?;
+    refuse_if(
+        header.qubits <= qubit,
+        PbcError::QubitOutOfRange {
+            index: 0,
+            qubit: qubit as u64,
+        },
+    )?;
+    refuse_if(
+        header.no_node_room(nodes, nodes_for(pauli)),
+        PbcError::NoNodes,
+    )
 }
 
 pub(crate) fn check_product(
@@ -81,59 +81,63 @@ pub(crate) fn check_product(
     nodes: usize,
     left: PauliRef,
     right: PauliRef,
-) -> Checked
+) -> Result<(), PbcError>
     ensures { result ≡ product_check header nodes left right }
 {
-    Checked::Fine
-        .refuse_if(
-            header.breaks_limit() | header.exceeds_nodes(nodes),
-            PbcError::BadStore,
-        )
-        .refuse_if(
-            header.is_foreign(left) | header.is_foreign(right),
-            PbcError::ForeignPauli,
-        )
-        .refuse_if(header.no_node_room(nodes, 1), PbcError::NoNodes)
+    refuse_if(
+        header.breaks_limit() | header.exceeds_nodes(nodes),
+        PbcError::BadStore,
+    )?;
+    refuse_if(
+        header.is_foreign(left) | header.is_foreign(right),
+        PbcError::ForeignPauli,
+    )?;
+    refuse_if(header.no_node_room(nodes, 1), PbcError::NoNodes)
 }
 
-pub(crate) fn check_rotate(header: Header, operations: usize, axis: PauliAxis) -> Checked
+pub(crate) fn check_rotate(
+    header: Header,
+    operations: usize,
+    axis: PauliAxis,
+) -> Result<(), PbcError>
     ensures { result ≡ rotate_check header operations axis }
 {
-    Checked::Fine
-        .refuse_if(
-            header.breaks_limit() | header.exceeds_operations(operations),
-            PbcError::BadStore,
-        )
-        .refuse_if(header.is_foreign(axis.as_ref()), PbcError::ForeignPauli)
-        .refuse_if(
-            header.no_operation_room(operations, 1),
-            PbcError::NoOperations,
-        )
+    refuse_if(
+        header.breaks_limit() | header.exceeds_operations(operations),
+        PbcError::BadStore,
+    )?;
+    refuse_if(header.is_foreign(axis.as_ref()), PbcError::ForeignPauli)?;
+    refuse_if(
+        header.no_operation_room(operations, 1),
+        PbcError::NoOperations,
+    )
 }
 
 pub(crate) fn check_measure(
     header: Header,
     operations: usize,
     axis: PauliAxis,
-    target: Target,
-) -> Checked
+    target: Option<u32>,
+) -> Result<(), PbcError>
     ensures { result ≡ measure_check header operations axis target }
 {
     let bit = target_bit(target);
-    Checked::Fine
-        .refuse_if(
-            header.breaks_limit() | header.exceeds_operations(operations),
-            PbcError::BadStore,
-        )
-        .refuse_if(header.is_foreign(axis.as_ref()), PbcError::ForeignPauli)
-        .refuse_if(
-            target_outside(header, target),
-            PbcError::ClassicalBitOutOfRange(0, bit as u64),
-        )
-        .refuse_if(
-            header.no_operation_room(operations, 1),
-            PbcError::NoOperations,
-        )
+    refuse_if(
+        header.breaks_limit() | header.exceeds_operations(operations),
+        PbcError::BadStore,
+    )?;
+    refuse_if(header.is_foreign(axis.as_ref()), PbcError::ForeignPauli)?;
+    refuse_if(
+        target_outside(header, target),
+        PbcError::ClassicalBitOutOfRange {
+            index: 0,
+            bit: bit as u64,
+        },
+    )?;
+    refuse_if(
+        header.no_operation_room(operations, 1),
+        PbcError::NoOperations,
+    )
 }
 
 pub(crate) fn check_conditional(
@@ -141,20 +145,19 @@ pub(crate) fn check_conditional(
     operations: usize,
     axis: PauliAxis,
     outcome: MeasId,
-) -> Checked
+) -> Result<(), PbcError>
     ensures { result ≡ conditional_check header operations axis outcome }
 {
-    Checked::Fine
-        .refuse_if(
-            header.breaks_limit() | header.exceeds_operations(operations),
-            PbcError::BadStore,
-        )
-        .refuse_if(header.is_foreign(axis.as_ref()), PbcError::ForeignPauli)
-        .refuse_if(header.is_unknown(outcome), PbcError::UnknownMeasurement)
-        .refuse_if(
-            header.no_operation_room(operations, 1),
-            PbcError::NoOperations,
-        )
+    refuse_if(
+        header.breaks_limit() | header.exceeds_operations(operations),
+        PbcError::BadStore,
+    )?;
+    refuse_if(header.is_foreign(axis.as_ref()), PbcError::ForeignPauli)?;
+    refuse_if(header.is_unknown(outcome), PbcError::UnknownMeasurement)?;
+    refuse_if(
+        header.no_operation_room(operations, 1),
+        PbcError::NoOperations,
+    )
 }
 
 pub(crate) fn check_expand(
@@ -163,16 +166,15 @@ pub(crate) fn check_expand(
     reference: PauliRef,
     letters: usize,
     scratch: usize,
-) -> Checked
+) -> Result<(), PbcError>
     ensures { result ≡ expand_check header nodes.now reference letters scratch }
 {
-    Checked::Fine
-        .refuse_if(bad_nodes(header, nodes), PbcError::BadStore)
-        .refuse_if(header.is_foreign(reference), PbcError::ForeignPauli)
-        .refuse_if(
-            (scratch < 4 * (header.nodes as usize)) | (letters < (header.qubits as usize)),
-            PbcError::NoScratch,
-        )
+    refuse_if(bad_nodes(header, nodes), PbcError::BadStore)?;
+    refuse_if(header.is_foreign(reference), PbcError::ForeignPauli)?;
+    refuse_if(
+        (scratch < 4 * (header.nodes as usize)) | (letters < (header.qubits as usize)),
+        PbcError::NoScratch,
+    )
 }
 
 pub(crate) fn check_hermitian(
@@ -180,13 +182,12 @@ pub(crate) fn check_hermitian(
     nodes: &[u32],
     reference: PauliRef,
     scratch: usize,
-) -> Checked
+) -> Result<(), PbcError>
     ensures { result ≡ hermitian_check header nodes.now reference scratch }
 {
-    Checked::Fine
-        .refuse_if(bad_nodes(header, nodes), PbcError::BadStore)
-        .refuse_if(header.is_foreign(reference), PbcError::ForeignPauli)
-        .refuse_if(scratch < 4 * (header.nodes as usize), PbcError::NoScratch)
+    refuse_if(bad_nodes(header, nodes), PbcError::BadStore)?;
+    refuse_if(header.is_foreign(reference), PbcError::ForeignPauli)?;
+    refuse_if(scratch < 4 * (header.nodes as usize), PbcError::NoScratch)
 }
 
 pub(crate) fn check_report(
@@ -194,15 +195,14 @@ pub(crate) fn check_report(
     nodes: &[u32],
     operations: &[u32],
     scratch: usize,
-) -> Checked
+) -> Result<(), PbcError>
     ensures { result ≡ report_check header nodes.now operations.now scratch }
 {
-    Checked::Fine
-        .refuse_if(
-            bad_nodes(header, nodes) | bad_operations(header, operations),
-            PbcError::BadStore,
-        )
-        .refuse_if(scratch < 4 * (header.nodes as usize), PbcError::NoScratch)
+    refuse_if(
+        bad_nodes(header, nodes) | bad_operations(header, operations),
+        PbcError::BadStore,
+    )?;
+    refuse_if(scratch < 4 * (header.nodes as usize), PbcError::NoScratch)
 }
 
 // The bytes of the rows of all operations.
@@ -218,16 +218,15 @@ pub(crate) fn check_axes(
     operations: &[u32],
     rows: usize,
     scratch: usize,
-) -> Checked
+) -> Result<(), PbcError>
     ensures { result ≡ axes_check header nodes.now operations.now rows scratch }
 {
-    Checked::Fine
-        .refuse_if(
-            bad_nodes(header, nodes) | bad_operations(header, operations),
-            PbcError::BadStore,
-        )
-        .refuse_if(
-            (scratch < 4 * (header.nodes as usize)) | (rows < axes_size(header)),
-            PbcError::NoScratch,
-        )
+    refuse_if(
+        bad_nodes(header, nodes) | bad_operations(header, operations),
+        PbcError::BadStore,
+    )?;
+    refuse_if(
+        (scratch < 4 * (header.nodes as usize)) | (rows < axes_size(header)),
+        PbcError::NoScratch,
+    )
 }

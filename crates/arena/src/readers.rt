@@ -10,12 +10,12 @@ ghost use Rattle.arena.specs.Code.Roots.{Fit};
 ghost use Rattle.arena.specs.Limits.{cap_of};
 
 use crate::checks::{check_expand, check_hermitian};
-use crate::error::{Checked, PbcError};
+use crate::error::PbcError;
 use crate::expansion::{Expansion, HermitianAxis};
 use crate::header::Header;
 use crate::pauli_ref::{PauliAxis, PauliRef};
 use crate::pool::{cap_of, wide};
-use crate::roots::{Shown, show, walk_root, wipe};
+use crate::roots::{show, walk_root, wipe};
 use crate::scratch::{first_word, named_value, second_word};
 use pauli::Phase;
 
@@ -46,7 +46,7 @@ fn expand_walk(
     pool: &mut [u32],
     word: u32,
     cells: usize,
-) -> Expansion
+) -> Result<Expansion, PbcError>
     requires { Fit header nodes.now s.old × (node_in word < header.nodes) × (header.qubits ≤ length letters.old) }
     ensures value { result ≡ expansion_of (expand_walk cells (cap_of (length pool.old) - 1) header.qubits header.nodes nodes.now word) }
     ensures letters_after { letters.new
@@ -54,16 +54,16 @@ fn expand_walk(
 {
     let n = header.qubits as usize;
     if cells < n {
-        return Expansion::Refused(PbcError::ExpansionLimit);
+        return Err(PbcError::ExpansionLimit);
     }
-    match walk_root(nodes, s, pool, cells - n, word as usize) {
-        Shown::Refused(e) => Expansion::Refused(e),
-        Shown::Root(v, left) => {
-            show(letters, pool, n, v.head, v.count);
-            let commute = factors_commute(nodes, s, word as usize);
-            Expansion::Made(Phase::power((v.phase % 4) as u32), left.work, commute)
-        }
-    }
+    let (v, left) = walk_root(nodes, s, pool, cells - n, word as usize)?;
+    show(letters, pool, n, v.head, v.count);
+    let commute = factors_commute(nodes, s, word as usize);
+    Ok(Expansion {
+        phase: Phase::power((v.phase % 4) as u32),
+        work: left.work,
+        commute,
+    })
 }
 
 // The walk of `hermitian_axis`, in the same way.
@@ -74,20 +74,19 @@ fn hermitian_walk(
     pool: &mut [u32],
     reference: PauliRef,
     limit: usize,
-) -> HermitianAxis
+) -> Result<HermitianAxis, PbcError>
     requires { Fit header nodes.now s.old × (node_in reference.word < header.nodes) }
     ensures { result ≡ hermitian_of reference
         (hermitian_walk limit (cap_of (length pool.old) - 1) header.qubits header.nodes nodes.now reference.word) }
 {
-    match walk_root(nodes, s, pool, limit, reference.word as usize) {
-        Shown::Refused(e) => HermitianAxis::Refused(e),
-        Shown::Root(v, left) => {
-            if v.phase % 2 == 1 {
-                return HermitianAxis::Refused(PbcError::NonHermitianAxis);
-            }
-            HermitianAxis::Made(PauliAxis::assume_hermitian(reference), left.work)
-        }
+    let (v, left) = walk_root(nodes, s, pool, limit, reference.word as usize)?;
+    if v.phase % 2 == 1 {
+        return Err(PbcError::NonHermitianAxis);
     }
+    Ok(HermitianAxis {
+        axis: PauliAxis::assume_hermitian(reference),
+        work: left.work,
+    })
 }
 
 impl Header {
@@ -101,16 +100,13 @@ impl Header {
         pool: &mut [u32],
         reference: PauliRef,
         max_cells: usize,
-    ) -> Expansion
+    ) -> Result<Expansion, PbcError>
         ensures value { result ≡ expansion_of (expand_step self nodes.now letters.old scratch.old pool.old reference max_cells).answer }
         ensures letters_after { letters.new ≡ (expand_step self nodes.now letters.old scratch.old pool.old reference max_cells).letters }
         ensures scratch_after { scratch.new ≡ (expand_step self nodes.now letters.old scratch.old pool.old reference max_cells).scratch }
         ensures pool_after { pool.new ≡ (expand_step self nodes.now letters.old scratch.old pool.old reference max_cells).pool }
     {
-        let checked = check_expand(self, nodes, reference, letters.len(), scratch.len());
-        if let Checked::Wrong(error) = checked {
-            return Expansion::Refused(error);
-        }
+        check_expand(self, nodes, reference, letters.len(), scratch.len())?;
         let used = 4 * (self.nodes as usize);
         let counted = 3 * cap_of(pool.len());
         let answer = expand_walk(
@@ -135,15 +131,12 @@ impl Header {
         pool: &mut [u32],
         reference: PauliRef,
         limit: usize,
-    ) -> HermitianAxis
+    ) -> Result<HermitianAxis, PbcError>
         ensures value { result ≡ hermitian_of reference (hermitian_step self nodes.now scratch.old pool.old reference limit).answer }
         ensures scratch_after { scratch.new ≡ (hermitian_step self nodes.now scratch.old pool.old reference limit).scratch }
         ensures pool_after { pool.new ≡ (hermitian_step self nodes.now scratch.old pool.old reference limit).pool }
     {
-        let checked = check_hermitian(self, nodes, reference, scratch.len());
-        if let Checked::Wrong(error) = checked {
-            return HermitianAxis::Refused(error);
-        }
+        check_hermitian(self, nodes, reference, scratch.len())?;
         let used = 4 * (self.nodes as usize);
         let counted = 3 * cap_of(pool.len());
         let answer = hermitian_walk(

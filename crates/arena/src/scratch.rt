@@ -87,11 +87,7 @@ pub(crate) fn second_word(nodes: &[u32], i: usize) -> u32
 pub(crate) fn zero_all(s: &mut [u32])
     ensures { s.new ≡ replicate (length s.old) 0 }
 {
-    let mut i = 0;
-    while i < s.len() {
-        s[i] = 0;
-        i += 1;
-    }
+    s.fill(0);
 }
 
 // ---- uses

@@ -56,12 +56,9 @@ fn any_malformed(qubits: u32, nodes: &[u32], count: u32) -> bool
     ensures { result ≡ any_malformed (node_at qubits nodes.now) count }
 {
     let mut any = false;
-    let mut at = 0;
-    let mut i = 0;
-    while i < count {
-        any = any | is_malformed(qubits, i, nodes[at], nodes[at + 1]);
-        at += NODE_WORDS;
-        i += 1;
+    for i in 0..count {
+        let at = NODE_WORDS * (i as usize);
+        any |= is_malformed(qubits, i, nodes[at], nodes[at + 1]);
     }
     any
 }
@@ -72,12 +69,9 @@ fn all_products(nodes: &[u32], from: u32, count: u32) -> bool
     ensures { (n : ℕ) → result ≡ true → any_malformed (node_at n nodes.now) from ≡ any_malformed (node_at n nodes.now) count }
 {
     let mut all = true;
-    let mut at = NODE_WORDS * (from as usize);
-    let mut i = from;
-    while i < count {
-        all = all & is_product(i, nodes[at], nodes[at + 1]);
-        at += NODE_WORDS;
-        i += 1;
+    for i in from..count {
+        let at = NODE_WORDS * (i as usize);
+        all &= is_product(i, nodes[at], nodes[at + 1]);
     }
     all
 }
@@ -175,10 +169,8 @@ fn any_bad_op(header: Header, operations: &[u32]) -> bool
     ensures { result ≡ any_bad_op header operations.now header.operations }
 {
     let mut any = false;
-    let mut i = 0;
-    while i < header.operations {
-        any = any | is_bad_at(header, operations, i);
-        i += 1;
+    for i in 0..header.operations {
+        any |= is_bad_at(header, operations, i);
     }
     any
 }

@@ -6,3 +6,4 @@ pub mod Marks
 pub mod Targets
 pub mod Checks
 pub mod Forms
+pub mod Table

@@ -5,3 +5,4 @@ pub mod Since
 pub mod Tests
 pub mod Within
 pub mod Deciding
+pub mod Products

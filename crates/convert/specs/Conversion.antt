@@ -1,18 +1,22 @@
 -- What a conversion answers, and what it leaves in the slices lent: for acceptance and every refusal.
-use Rattle.std.specs.Prelude.{Bool, false, cond, not, ◌&&◌, ◌||◌, List, [], ◌∷◌, ℕ, suc, ◌*◌, ◌/◌, ◌%◌, ltb, leb, eqb, length}
+use Rattle.std.specs.Prelude.{Bool, false, cond, not, ◌&&◌, ◌||◌, List, [], ◌∷◌, ℕ, suc, ◌*◌, ◌/◌, ◌%◌, ltb, leb, eqb, length, Result}
 use Rattle.pauli.specs.Rows.{Row}
 use Rattle.pauli.specs.Table.{start}
 use Rattle.arena.specs.Limits.{max_qubits, max_cbits, max_nodes, max_operations, max_gates, node_words, operation_words}
 use Rattle.arena.specs.Errors.{◌⟫◌⇒◌}
 use Rattle.arena.specs.Builder.{overlay, header_of}
-use Rattle.convert.specs.Types.{Header, TooManyQubits, BrokenGateList, UnsupportedGate, ClassicalBitOutOfRange, TargetTaken, CapTooSmall, NoPlanes, NoFrame, NoNodes, NoOperations, Checked, Fine, Wrong}
+use Rattle.convert.specs.Types.{PbcError, Header, TooManyQubits, BrokenGateList, UnsupportedGate, ClassicalBitOutOfRange, TargetTaken, CapTooSmall, NoPlanes, NoFrame, NoNodes, NoOperations, Checked, Fine, Wrong}
 use Rattle.convert.specs.Records.{GateKind, NoShape, ThreeQubits, Measured, has_shape, Cap, NoCap, AtMost, is_narrow, Record, records, kind_of, Elementary, Placed, lower_all, bare}
 use Rattle.convert.specs.Plain.{Plain, flush_from, plain_begin, plain_run, table_run}
 use Rattle.convert.specs.Paper.{Paper, paper_run, paper_begin}
 use Rattle.convert.specs.Frame.{qubits_of, member, operands_checked}
 use Rattle.convert.specs.Words.{Words, flat, start_words, word_run}
 use Rattle.convert.specs.Planes.{part_words, packed}
-pub use Rattle.convert.specs.declared.convert.Converted.TheVariants.{the_data as Converted, Made as ConvertedMade, Refused as ConvertedRefused}
+pub use Rattle.std.specs.Prelude.{Ok as ConvertedMade, Err as ConvertedRefused}
+
+-- what a conversion answers
+abbrev pub Converted : Type 0
+Converted = Result Header PbcError
 
 -- what is lent to a conversion
 pub record Input : Type 0 where

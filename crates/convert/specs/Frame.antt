@@ -1,5 +1,5 @@
 -- The frame in words (document 01, "Frame"), and what push_output_clifford answers and leaves: for acceptance and every refusal.
-use Rattle.std.specs.Prelude.{Bool, false, ◌||◌, List, [], ◌∷◌, ◌++◌, ℕ, suc, ◌+◌, ◌*◌, leb, ltb, eqb, length, get_or, set, take}
+use Rattle.std.specs.Prelude.{Bool, false, ◌||◌, List, [], ◌∷◌, ◌++◌, ℕ, suc, ◌+◌, ◌*◌, leb, ltb, eqb, length, get_or, set, take, Result}
 use Rattle.pauli.specs.Letters.{phase_number}
 use Rattle.pauli.specs.Gates.{Gate, gate_h, gate_x, gate_z, gate_s, gate_sdg, gate_cnot, gate_cz}
 use Rattle.arena.specs.Limits.{node_words}
@@ -8,9 +8,12 @@ use Rattle.arena.specs.References.{node_in, scaled_word}
 use Rattle.arena.specs.Nodes.{product_word}
 use Rattle.arena.specs.Store.{breaks_limit, exceeds_nodes, no_node_room}
 use Rattle.arena.specs.Builder.{Step, decided, NodesAndFrame, overlay, with_nodes, start_nodes, start_frame}
-use Rattle.convert.specs.Types.{Phase, One, PlusI, MinusOne, MinusI, Header, BadStore, NonCliffordFrameGate, QubitOutOfRange, RepeatedOperand, NoFrame, NoNodes, Checked, Fine}
+use Rattle.convert.specs.Types.{PbcError, Phase, One, PlusI, MinusOne, MinusI, Header, BadStore, NonCliffordFrameGate, QubitOutOfRange, RepeatedOperand, NoFrame, NoNodes, Checked, Fine}
 use Rattle.convert.specs.Records.{GateKind, Shape, NoShape, OneQubit, TwoQubits, ThreeQubits, Measured, shape_of, kind_of, Elementary, clifford, el_t, el_tdg, el_ccx, el_ccz, el_measure, lower_as}
-pub use Rattle.convert.specs.declared.frame.FramePushed.TheVariants.{the_data as FramePushed, Made as FramePushedMade, Refused as FramePushedRefused}
+pub use Rattle.std.specs.Prelude.{Ok as FramePushedMade, Err as FramePushedRefused}
+
+abbrev pub FramePushed : Type 0
+FramePushed = Result Header PbcError
 
 -- ---- a gate's work on used nodes and frame words
 

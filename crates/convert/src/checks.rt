@@ -3,7 +3,7 @@
 ghost use Rattle.std.specs.Prelude.{◌≡◌, true, List, [], ℕ, ◌*◌, ◌<◌, ◌≤◌, min, leb, length, take};
 ghost use Rattle.arena.specs.Limits.{max_cbits};
 ghost use Rattle.arena.specs.Errors.{◌⟫◌⇒◌};
-ghost use Rattle.convert.specs.Types.{QubitOutOfRange, Fine};
+ghost use Rattle.convert.specs.Types.{QubitOutOfRange, Checked, Fine};
 ghost use Rattle.convert.specs.Records.{record_of, records};
 ghost use Rattle.convert.specs.Frame.{qubits_of, operands_checked, names_unused, clifford_check};
 ghost use Rattle.convert.specs.Conversion.{taken_with, record_checked, records_checked, cap_too_small, planes_too_few, gates_checked, room_checked, limits};
@@ -15,8 +15,8 @@ use crate::cap::Cap;
 use crate::gate::{GateKind, Shape, number_at, operand_at};
 use crate::targets::{take_bit, take_target};
 use arena::{
-    Checked, Header, MAX_CBITS, MAX_GATES, MAX_NODES, MAX_OPERATIONS, MAX_QUBITS, NODE_WORDS,
-    OPERATION_WORDS, PbcError,
+    Header, MAX_CBITS, MAX_GATES, MAX_NODES, MAX_OPERATIONS, MAX_QUBITS, NODE_WORDS,
+    OPERATION_WORDS, PbcError, refuse_if, then_refuse_if,
 };
 
 /// The most words of a gate list.
@@ -31,14 +31,29 @@ const FEW_CBITS: u32 = 1024;
 const FEW_TARGET_WORDS: usize = (FEW_CBITS as usize) / 64;
 
 // A qubit of gate i.
-fn check_operand(checked: Checked, n: u32, i: u64, q: u32) -> Checked
+fn check_operand(checked: Result<(), PbcError>, n: u32, i: u64, q: u32) -> Result<(), PbcError>
     ensures { result ≡ (checked ⟫ leb n q ⇒ QubitOutOfRange i q) }
 {
-    checked.refuse_if(n <= q, PbcError::QubitOutOfRange(i, q as u64))
+    then_refuse_if(
+        checked,
+        n <= q,
+        PbcError::QubitOutOfRange {
+            index: i,
+            qubit: q as u64,
+        },
+    )
 }
 
 // The qubits of gate i: 7, then 8, operand by operand.
-fn check_qubits(checked: Checked, n: u32, i: u64, kind: GateKind, a: u32, b: u32, c: u32) -> Checked
+fn check_qubits(
+    checked: Result<(), PbcError>,
+    n: u32,
+    i: u64,
+    kind: GateKind,
+    a: u32,
+    b: u32,
+    c: u32,
+) -> Result<(), PbcError>
     ensures { result ≡ operands_checked checked n i [] (qubits_of kind a b c) }
 {
     if kind.has_shape(Shape::None) {
@@ -48,22 +63,30 @@ fn check_qubits(checked: Checked, n: u32, i: u64, kind: GateKind, a: u32, b: u32
     if kind.has_shape(Shape::One) | kind.has_shape(Shape::Measured) {
         return first;
     }
-    let second = check_operand(first, n, i, b).refuse_if(
+    let second = then_refuse_if(
+        check_operand(first, n, i, b),
         b == a,
-        PbcError::RepeatedOperand(i, b as u64),
+        PbcError::RepeatedOperand {
+            index: i,
+            qubit: b as u64,
+        },
     );
     if kind.has_shape(Shape::Two) {
         return second;
     }
-    check_operand(second, n, i, c).refuse_if(
+    then_refuse_if(
+        check_operand(second, n, i, c),
         (c == b) | (c == a),
-        PbcError::RepeatedOperand(i, c as u64),
+        PbcError::RepeatedOperand {
+            index: i,
+            qubit: c as u64,
+        },
     )
 }
 
 // Gate i: 5, then 7 and 8, then 9, then 24; its target is taken from now on.
 fn check_record(
-    checked: Checked,
+    checked: Result<(), PbcError>,
     n: u32,
     cbits: u32,
     i: u64,
@@ -72,7 +95,7 @@ fn check_record(
     b: u32,
     c: u32,
     taken: &mut [u64],
-) -> Checked
+) -> Result<(), PbcError>
     requires { cbits ≤ 64 * length taken.old }
     ensures by_index { (bits : List ℕ) → Marks bits taken.old → result ≡ record_checked checked n cbits i bits (record_of number a b c) }
     ensures by_index_2 { (bits : List ℕ) → Marks bits taken.old → Marks (taken_with (record_of number a b c) bits) taken.new }
@@ -81,16 +104,30 @@ fn check_record(
     let measured = kind.has_shape(Shape::Measured);
     let held = (b as usize) / 64 < taken.len();
     let again = take_bit(taken, measured & held, b as usize);
-    let known = checked.refuse_if(
+    let known = then_refuse_if(
+        checked,
         kind.has_shape(Shape::None),
-        PbcError::UnsupportedGate(i, number as u64),
+        PbcError::UnsupportedGate {
+            index: i,
+            kind: number as u64,
+        },
     );
-    check_qubits(known, n, i, kind, a, b, c)
-        .refuse_if(
-            measured & (cbits <= b),
-            PbcError::ClassicalBitOutOfRange(i, b as u64),
-        )
-        .refuse_if(again, PbcError::TargetTaken(i, b as u64))
+    let inside = then_refuse_if(
+        check_qubits(known, n, i, kind, a, b, c),
+        measured & (cbits <= b),
+        PbcError::ClassicalBitOutOfRange {
+            index: i,
+            bit: b as u64,
+        },
+    );
+    then_refuse_if(
+        inside,
+        again,
+        PbcError::TargetTaken {
+            index: i,
+            bit: b as u64,
+        },
+    )
 }
 
 // What the second operand of each kind stays below; of a measurement the table says nothing. Tables are lent, so that no read copies one.
@@ -184,16 +221,15 @@ fn all_sound(n: u32, cbits: u32, gates: &[u32]) -> bool
 }
 
 // Every gate of the list, the first faulty one deciding.
-fn check_each(before: Checked, n: u32, cbits: u32, gates: &[u32], taken: &mut [u64]) -> Checked
+fn check_each(n: u32, cbits: u32, gates: &[u32], taken: &mut [u64]) -> Result<(), PbcError>
     requires { (cbits ≤ 64 * length taken.old) × Marks [] taken.old }
-    ensures { result ≡ records_checked before n cbits 0 [] (records gates.now) }
+    ensures { result ≡ records_checked Fine n cbits 0 [] (records gates.now) }
 {
     let count = gates.len() / 4;
-    let mut checked = before;
     let mut i: usize = 0;
     while i < count {
-        checked = check_record(
-            checked,
+        check_record(
+            Ok(()),
             n,
             cbits,
             i as u64,
@@ -202,25 +238,22 @@ fn check_each(before: Checked, n: u32, cbits: u32, gates: &[u32], taken: &mut [u
             gates[4 * i + 2],
             gates[4 * i + 3],
             taken,
-        );
+        )?;
         i += 1;
     }
-    checked
+    Ok(())
 }
 
-// The same, where 1 refuses too many classical bits. Where no gate is faulty, that is seen faster.
-fn check_records(before: Checked, n: u32, cbits: u32, gates: &[u32]) -> Checked
-    requires { before ≡ Fine → cbits ≤ max_cbits }
-    ensures { result ≡ records_checked before n cbits 0 [] (records gates.now) }
+// The same. Where no gate is faulty, that is seen faster.
+fn check_records(n: u32, cbits: u32, gates: &[u32]) -> Result<(), PbcError>
+    requires { cbits ≤ max_cbits }
+    ensures { result ≡ records_checked Fine n cbits 0 [] (records gates.now) }
 {
-    if MAX_CBITS < cbits {
-        return before;
+    if all_sound(n, cbits, gates) {
+        return Ok(());
     }
-    if !all_sound(n, cbits, gates) {
-        let mut taken = [0u64; TARGET_WORDS];
-        return check_each(before, n, cbits, gates, &mut taken);
-    }
-    before
+    let mut taken = [0u64; TARGET_WORDS];
+    check_each(n, cbits, gates, &mut taken)
 }
 
 // Cap 0.
@@ -270,21 +303,20 @@ pub(crate) fn check_gates(
     cap: Cap,
     gates: &[u32],
     planes: usize,
-) -> Checked
+) -> Result<(), PbcError>
     ensures { result ≡ gates_checked limits qubits cbits cap gates.now planes }
 {
-    let sized = Checked::Fine
-        .refuse_if(
-            (MAX_QUBITS < qubits) | (MAX_CBITS < cbits),
-            PbcError::TooManyQubits,
-        )
-        .refuse_if(
-            !(gates.len() % 4 == 0) | (MAX_GATE_WORDS < gates.len()),
-            PbcError::BrokenGateList,
-        );
-    check_records(sized, qubits, cbits, gates)
-        .refuse_if(cap_too_small(cap), PbcError::CapTooSmall)
-        .refuse_if(planes_too_few(cap, qubits, planes), PbcError::NoPlanes)
+    refuse_if(
+        (MAX_QUBITS < qubits) | (MAX_CBITS < cbits),
+        PbcError::TooManyQubits,
+    )?;
+    refuse_if(
+        !(gates.len() % 4 == 0) | (MAX_GATE_WORDS < gates.len()),
+        PbcError::BrokenGateList,
+    )?;
+    check_records(qubits, cbits, gates)?;
+    refuse_if(cap_too_small(cap), PbcError::CapTooSmall)?;
+    refuse_if(planes_too_few(cap, qubits, planes), PbcError::NoPlanes)
 }
 
 // The needs of a conversion: 13, 14, 15.
@@ -295,19 +327,18 @@ pub(crate) fn check_room(
     frame: usize,
     nodes: usize,
     operations: usize,
-) -> Checked
+) -> Result<(), PbcError>
     ensures { result ≡ room_checked limits Fine needed written qubits frame nodes operations }
 {
-    Checked::Fine
-        .refuse_if(frame < 2 * (qubits as usize), PbcError::NoFrame)
-        .refuse_if(
-            (MAX_NODES < needed) | (nodes / NODE_WORDS < (needed as usize)),
-            PbcError::NoNodes,
-        )
-        .refuse_if(
-            (MAX_OPERATIONS < written) | (operations / OPERATION_WORDS < (written as usize)),
-            PbcError::NoOperations,
-        )
+    refuse_if(frame < 2 * (qubits as usize), PbcError::NoFrame)?;
+    refuse_if(
+        (MAX_NODES < needed) | (nodes / NODE_WORDS < (needed as usize)),
+        PbcError::NoNodes,
+    )?;
+    refuse_if(
+        (MAX_OPERATIONS < written) | (operations / OPERATION_WORDS < (written as usize)),
+        PbcError::NoOperations,
+    )
 }
 
 // Whether one of the first words that are lent names an unused node.
@@ -332,25 +363,24 @@ pub(crate) fn check_clifford(
     kind: u32,
     a: u32,
     b: u32,
-) -> Checked
+) -> Result<(), PbcError>
     ensures { result ≡ clifford_check header nodes frame.now kind a b }
 {
     let gate = GateKind::of(kind);
     let words = 2 * (header.qubits as usize);
     let unused = names_unused(header.nodes, frame, words);
-    let known = Checked::Fine
-        .refuse_if(
-            header.breaks_limit() | header.exceeds_nodes(nodes) | unused,
-            PbcError::BadStore,
-        )
-        .refuse_if(
-            !gate.is_frame(),
-            PbcError::NonCliffordFrameGate(kind as u64),
-        );
-    check_qubits(known, header.qubits, 0, gate, a, b, 0)
-        .refuse_if(frame.len() < words, PbcError::NoFrame)
-        .refuse_if(
-            header.no_node_room(nodes, gate.frame_nodes()),
-            PbcError::NoNodes,
-        )
+    refuse_if(
+        header.breaks_limit() | header.exceeds_nodes(nodes) | unused,
+        PbcError::BadStore,
+    )?;
+    refuse_if(
+        !gate.is_frame(),
+        PbcError::NonCliffordFrameGate { kind: kind as u64 },
+    )?;
+    check_qubits(Ok(()), header.qubits, 0, gate, a, b, 0)?;
+    refuse_if(frame.len() < words, PbcError::NoFrame)?;
+    refuse_if(
+        header.no_node_room(nodes, gate.frame_nodes()),
+        PbcError::NoNodes,
+    )
 }

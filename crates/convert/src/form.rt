@@ -1,7 +1,6 @@
-//! Forms: a word for each kind, whose bits the writing pass tests. Read from a local table, the tests stay tests; the compiler makes no jump of them.
+//! Forms: a word for each kind, whose bits the writing pass tests. What each stands for: form_of of specs/Code/Tables.antt (proofs/GateKinds/Table.antt).
 
 ghost use Rattle.std.specs.Prelude.{◌≡◌, cond};
-ghost use Rattle.convert.specs.Code.Tables.{table_of, form_of};
 
 // The bit of each elementary gate.
 pub(crate) const H: u64 = 1;
@@ -43,33 +42,29 @@ pub(crate) const MOVES: u64 = H + X + Z;
 pub(crate) const SIGNS: u64 = X + Z;
 
 // The forms of kinds 0 to 20.
-pub(crate) fn forms() -> [u64; 21]
-    ensures { result ≡ table_of form_of }
-{
-    [
-        1,
-        2,
-        4,
-        8,
-        16,
-        17179869216,
-        120259084320,
-        32768,
-        256,
-        512,
-        1024,
-        2048,
-        4294971392,
-        32768,
-        32768,
-        32768,
-        32768,
-        32768,
-        32768,
-        32768,
-        32768,
-    ]
-}
+pub(crate) const FORMS: [u64; 21] = [
+    1,
+    2,
+    4,
+    8,
+    16,
+    17179869216,
+    120259084320,
+    32768,
+    256,
+    512,
+    1024,
+    2048,
+    4294971392,
+    32768,
+    32768,
+    32768,
+    32768,
+    32768,
+    32768,
+    32768,
+    32768,
+];
 
 // One of two places, with no jump.
 pub(crate) fn place_if(test: bool, x: usize, y: usize) -> usize

@@ -1,16 +1,16 @@
 -- What each function on a text returns, and what it leaves in the slices lent. There is no header: the answer alone may be too short.
-use Rattle.std.specs.Prelude.{List, ℕ, ltb, length}
+use Rattle.std.specs.Prelude.{List, ℕ, ltb, length, Result, Ok, Err}
 use Rattle.qasm.specs.Reading.{Read, reading}
 use Rattle.qasm.specs.Answers.{answer_of, left_in}
 use Rattle.qasm.specs.Position.{position_in}
-use Rattle.exports.specs.Types.{QasmRead, Program, QasmRefused, TextPosition}
+use Rattle.exports.specs.Types.{PbcError, Program, TextPosition}
 use Rattle.exports.specs.Words.{Reply, Values, Refused, Returned, replied}
 
 -- ---- read_qasm: the values are the number of gate records, of qubits and of classical bits
 
-unfoldable pub program_reply : QasmRead → Reply
-program_reply (Program count qubits bits) = Values count qubits bits
-program_reply (QasmRefused e) = Refused e
+unfoldable pub program_reply : Result Program PbcError → Reply
+program_reply (Ok p) = Values p.gates p.qubits p.cbits
+program_reply (Err e) = Refused e
 
 abbrev pub read_with : Read → (gates answer : List ℕ) → Returned (List ℕ)
 read_with read gates answer = replied (ltb (length answer) 4) answer gates (program_reply (answer_of read (length gates))) (left_in read gates)

@@ -7,14 +7,13 @@ pub use Rattle.arena.specs.declared.node.PauliNode.TheVariants.{the_data as Paul
 pub use Rattle.arena.specs.declared.pauli_ref.PauliRef.{PauliRef}
 pub use Rattle.arena.specs.declared.pauli_ref.PauliAxis.{PauliAxis}
 pub use Rattle.arena.specs.declared.op.MeasId.{MeasId}
-pub use Rattle.arena.specs.declared.op.Target.TheVariants.{the_data as Target, Bit, None as NoTarget}
+pub use Rattle.arena.specs.Operations.{Target, Bit, NoTarget}
 pub use Rattle.arena.specs.declared.op.PbcOp.TheVariants.{the_data as PbcOp, Rotate, Measure, ConditionalRotate, Malformed as MalformedOp}
 pub use Rattle.arena.specs.declared.error.PbcError.TheVariants.{the_data as PbcError}
-pub use Rattle.arena.specs.declared.error.Checked.TheVariants.{the_data as Checked, Fine, Wrong}
-pub use Rattle.arena.specs.declared.builder.Pushed.TheVariants.{the_data as Pushed, Made as PushedMade, Refused as PushedRefused}
-pub use Rattle.arena.specs.declared.builder.Measured.TheVariants.{the_data as Measured, Made as MeasuredMade, Refused as MeasuredRefused}
+pub use Rattle.arena.specs.Errors.{Checked, Fine, Wrong}
+pub use Rattle.arena.specs.Builder.{Pushed, PushedMade, PushedRefused, Measured, MeasuredMade, MeasuredRefused}
 pub use Rattle.convert.specs.declared.gate.GateKind.TheVariants.{the_data as GateKind, H as KindH, X as KindX, Z as KindZ, S as KindS, Sdg as KindSdg, T as KindT, Tdg as KindTdg}
 pub use Rattle.convert.specs.declared.gate.GateKind.TheVariants.{Cnot as KindCnot, Cz as KindCz, Ccx as KindCcx, Ccz as KindCcz, Measure as KindMeasure, Y as KindY, Sx as KindSx}
 pub use Rattle.convert.specs.declared.gate.GateKind.TheVariants.{Swap as KindSwap, Cy as KindCy, Unsupported}
 pub use Rattle.convert.specs.declared.cap.Cap.TheVariants.{the_data as Cap, None as NoCap}
-pub use Rattle.convert.specs.declared.frame.FramePushed.TheVariants.{the_data as FramePushed, Made as FramePushedMade, Refused as FramePushedRefused}
+pub use Rattle.convert.specs.Frame.{FramePushed, FramePushedMade, FramePushedRefused}

@@ -3,7 +3,7 @@
 use Rattle.std.specs.Prelude.{Bool, true, false, cond, ℕ, zero, suc, ltb}
 pub use Rattle.pauli.specs.declared.pauli.Phase.TheVariants.{the_data as Phase, One, I as PlusI, MinusOne, MinusI}
 pub use Rattle.pauli.specs.declared.pauli.Pauli.TheVariants.{the_data as Pauli, I, X, Y, Z}
-pub use Rattle.pauli.specs.declared.pauli.MaybePauli.TheVariants.{the_data as MaybePauli, Some, None}
+pub use Rattle.std.specs.Prelude.{Option, Some, None}
 pub use Rattle.pauli.specs.declared.pauli.PauliProduct.{PauliProduct}
 pub use Rattle.pauli.specs.declared.pauli.NumberProduct.{NumberProduct}
 
@@ -83,7 +83,7 @@ pauli_of (suc (suc (suc zero))) = Z
 pauli_of (suc (suc (suc (suc n)))) = I
 
 -- the same where a number past 3 is no letter
-unfoldable pub pauli_at : ℕ → MaybePauli
+unfoldable pub pauli_at : ℕ → Option Pauli
 pauli_at n = cond (ltb n 4) (Some (pauli_of n)) None
 
 -- the product of two letters, all by their numbers

@@ -10,11 +10,8 @@ use Rattle.pbc.specs.Lines.{Line, has_numbers, has_signed, signed_at}
 use Rattle.pbc.specs.Handles.{owner_at, handle_at}
 pub use Rattle.pauli.specs.declared.angle.PauliAngle.{PauliAngle}
 pub use Rattle.arena.specs.declared.pauli_ref.PauliAxis.{PauliAxis}
-pub use Rattle.arena.specs.declared.op.Target.TheVariants.{the_data as Target, Bit}
-pub use Rattle.arena.specs.declared.builder.Singled.TheVariants.{the_data as Singled, Made as SingledMade, Refused as SingledRefused}
-pub use Rattle.arena.specs.declared.builder.Multiplied.TheVariants.{the_data as Multiplied, Made as MultipliedMade, Refused as MultipliedRefused}
-pub use Rattle.arena.specs.declared.builder.Pushed.TheVariants.{the_data as Pushed, Made as PushedMade, Refused as PushedRefused}
-pub use Rattle.arena.specs.declared.builder.Measured.TheVariants.{the_data as Measured, Made as MeasuredMade, Refused as MeasuredRefused}
+pub use Rattle.arena.specs.Operations.{Target, Bit}
+pub use Rattle.arena.specs.Builder.{Singled, SingledMade, SingledRefused, Multiplied, MultipliedMade, MultipliedRefused, Pushed, PushedMade, PushedRefused, Measured, MeasuredMade, MeasuredRefused}
 pub use Rattle.pbc.specs.declared.builder.BuildCommand.TheVariants.{the_data as BuildCommand, Single, Product, Rotate, Measure, Conditional}
 
 -- a call that is lent the first words of a buffer; the others stay

@@ -1,12 +1,13 @@
 -- The command `qasm`: how a line's hex digits are kept in its words, the text that a line holds, and what is answered.
-use Rattle.std.specs.Prelude.{◌≡◌, ℕ, zero, suc, ◌+◌, ◌-◌, ◌*◌, ◌/◌, ◌%◌, ◌<◌, ◌≤◌, Bool, cond, ◌&&◌, ◌||◌, List, [], ◌∷◌, ◌++◌, length, take, drop, ◌==◌, nat_le, nat_lt, slice_index, slice_index_or, slice_set}
+use Rattle.std.specs.Prelude.{◌≡◌, ℕ, zero, suc, ◌+◌, ◌-◌, ◌*◌, ◌/◌, ◌%◌, ◌<◌, ◌≤◌, Bool, cond, ◌&&◌, ◌||◌, List, [], ◌∷◌, ◌++◌, length, take, drop, ◌==◌, nat_le, nat_lt, slice_index, slice_index_or, slice_set, Result, Ok, Err}
 use Rattle.qasm.specs.Reading.{reading}
+use Rattle.qasm.specs.declared.program.Program.{Program}
 use Rattle.qasm.specs.Answers.{answer_of, left_in}
 use Rattle.pbc.specs.Names.{number_of}
 use Rattle.pbc.specs.Buffers.{copied}
 use Rattle.pbc.specs.State.{CommandState, LineReply, Bad, Gates, says_of, refused_of}
 use Rattle.pbc.specs.Lines.{Line, spoilt_line, between_line, has_numbers}
-pub use Rattle.qasm.specs.declared.program.QasmRead.TheVariants.{the_data as QasmRead, Program, Refused as TextRefused}
+use Rattle.qasm.specs.Types.{PbcError}
 
 -- ---- hex digits and bytes
 
@@ -91,9 +92,9 @@ text_fits l ws = (has_numbers l 1 && nat_le l.digits 2097152) && nat_le (slice_i
 abbrev pub text_of : Line → List ℕ → List ℕ
 text_of l ws = text_in ws (l.digits / 2)
 
-abbrev pub read_line : CommandState → QasmRead → LineReply
-read_line s (Program count qubits bits) = says_of s (Gates qubits bits count)
-read_line s (TextRefused e) = refused_of s e
+abbrev pub read_line : CommandState → Result Program PbcError → LineReply
+read_line s (Ok p) = says_of s (Gates p.qubits p.cbits p.gates)
+read_line s (Err e) = refused_of s e
 
 pub record TextRead : Type 0 where
   pub reply : LineReply

@@ -10,7 +10,8 @@ use crate::buffers::{LETTERS, LINE_WORDS, byte_part, count_at};
 use crate::hex::{MOST_DIGITS, byte_in};
 use crate::line::Line;
 use crate::state::{CommandState, LineAnswer, LineReply};
-use qasm::{QasmRead, read_qasm};
+use arena::PbcError;
+use qasm::{Program, read_qasm};
 
 /// The most gate words that a line lends.
 const MOST_ROOM: usize = 262148;
@@ -43,7 +44,7 @@ fn unpack(words: &[u32], count: usize, letters: &mut [u8])
 }
 
 // The reader, lent the first words.
-fn lent_read(text: &[u8], room: usize, words: &mut [u32]) -> QasmRead
+fn lent_read(text: &[u8], room: usize, words: &mut [u32]) -> Result<Program, PbcError>
     ensures value { result ≡ answer_of (reading text.now) (length (take room words.old)) }
     ensures words_after { words.new ≡ left_in (reading text.now) (take room words.old) ++ drop room words.old }
 {
@@ -53,14 +54,16 @@ fn lent_read(text: &[u8], room: usize, words: &mut [u32]) -> QasmRead
     read_qasm(text, &mut words[..room])
 }
 
-fn told(state: CommandState, read: QasmRead) -> LineReply
+fn told(state: CommandState, read: Result<Program, PbcError>) -> LineReply
     ensures { result ≡ read_line state read }
 {
     match read {
-        QasmRead::Program(count, qubits, bits) => {
-            state.says(LineAnswer::Gates(qubits as u64, bits as u64, count))
-        }
-        QasmRead::Refused(error) => state.refused(error),
+        Ok(program) => state.says(LineAnswer::Gates(
+            program.qubits as u64,
+            program.cbits as u64,
+            program.gates,
+        )),
+        Err(error) => state.refused(error),
     }
 }
 

@@ -1,7 +1,8 @@
 -- Laws by subject, from the bottom up.
 pub mod Truth
 pub mod Tries
-pub mod Places
+pub mod Answered
+pub mod Passes
 pub mod Grammar
 pub mod Examples
 pub mod Theorems

@@ -1,9 +1,9 @@
 -- What is claimed of the reader: it answers what the text says, and refuses at the place where the text stops, and so decides every text in one way.
-use Rattle.std.specs.Prelude.{◌≡◌, List, ◌++◌, ℕ, ◌*◌, ◌≤◌, ◌<◌, length, drop}
-use Rattle.qasm.specs.Types.{BadText, NoGateRoom}
+use Rattle.std.specs.Prelude.{◌≡◌, List, ◌++◌, ℕ, ◌*◌, ◌≤◌, ◌<◌, length, drop, Result, Ok, Err}
+use Rattle.qasm.specs.Types.{PbcError, BadText, NoGateRoom}
 use Rattle.qasm.specs.Text.{Record, Says, Stops}
 use Rattle.qasm.specs.Reading.{Read, program, bad_text}
-use Rattle.qasm.specs.Answers.{QasmRead, Program, Refused, words_of}
+use Rattle.qasm.specs.Answers.{Program, program_of, words_of}
 
 -- sizes and gates exactly if the text says them, a place exactly if the text stops there
 pub record Exact (reading : List ℕ → Read) : Type 0 where
@@ -33,8 +33,8 @@ pub data Decided (text : List ℕ) : Type 0 where
   refused : {place : ℕ} → OnePlace text place → Decided text
 
 -- the answer to a text with these words lent, and the words after: by what the text says and where it stops alone
-pub record Answers (text words : List ℕ) (answer : QasmRead) (after : List ℕ) : Type 0 where
-  pub bad : (place : ℕ) → Stops text place → (answer ≡ Refused (BadText place)) × (after ≡ words)
-  pub full : (qubits bits : ℕ) (gs : List Record) → Says text qubits bits gs → length words < 4 * length gs → (answer ≡ Refused NoGateRoom) × (after ≡ words)
+pub record Answers (text words : List ℕ) (answer : Result Program PbcError) (after : List ℕ) : Type 0 where
+  pub bad : (place : ℕ) → Stops text place → (answer ≡ Err (BadText place)) × (after ≡ words)
+  pub full : (qubits bits : ℕ) (gs : List Record) → Says text qubits bits gs → length words < 4 * length gs → (answer ≡ Err NoGateRoom) × (after ≡ words)
   pub whole : (qubits bits : ℕ) (gs : List Record) → Says text qubits bits gs → 4 * length gs ≤ length words
-      → (answer ≡ Program (length gs) qubits bits) × (after ≡ words_of gs ++ drop (4 * length gs) words)
+      → (answer ≡ Ok (program_of (length gs) qubits bits)) × (after ≡ words_of gs ++ drop (4 * length gs) words)

@@ -1,3 +1,2 @@
 -- What the functions that are not public ask of each other. No public promise and no theorem cites it.
-pub mod Cursor
-pub mod Places
+pub mod Rest

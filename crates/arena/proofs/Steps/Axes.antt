@@ -68,7 +68,7 @@ row_laid k vs was ys h y =
     whole : was ≡ overlay (take k was) was
     whole = sym (take-append-drop k was) ∙ ap (λ (m : ℕ). take k was ++ drop m was) (sym long)
 
-rows_more : (n : ℕ) (xs : List Sparse) (x : Sparse) → axes_bytes (map (dense n) (xs ++ (x ∷ []))) ≡ axes_bytes (map (dense n) xs) ++ row_bytes (dense n x)
+pub rows_more : (n : ℕ) (xs : List Sparse) (x : Sparse) → axes_bytes (map (dense n) (xs ++ (x ∷ []))) ≡ axes_bytes (map (dense n) xs) ++ row_bytes (dense n x)
 rows_more n [] x = append-nil (row_bytes (dense n x))
 rows_more n (y ∷ xs) x =
     ap (λ (l : List ℕ). row_bytes (dense n y) ++ l) (rows_more n xs x) ∙ sym (append_assoc (row_bytes (dense n y)) (axes_bytes (map (dense n) xs)) (row_bytes (dense n x)))

@@ -13,7 +13,7 @@ use Rattle.pauli.specs.Table.{start}
 use Rattle.arena.specs.Limits.{max_qubits, max_cbits, max_nodes, max_operations, node_words, operation_words}
 use Rattle.arena.specs.Errors.{◌⟫◌⇒◌}
 use Rattle.arena.specs.Builder.{overlay, start_nodes, start_frame, new_check, new_step, header_of, new_header}
-use Rattle.arena.specs.declared.builder.Created.TheVariants.{the_data as Created, Made as CreatedMade, Refused as CreatedRefused}
+use Rattle.arena.specs.Builder.{Created, CreatedMade, CreatedRefused}
 use Rattle.arena.proofs.Overlay.{length-qubit_nodes}
 use Rattle.arena.proofs.Accepted.{passed_before, test_passed, left_false, right-false}
 use Rattle.convert.specs.Types.{PbcError, Header, TooManyQubits, BrokenGateList, CapTooSmall, NoPlanes, NoFrame, NoNodes, NoOperations, Checked, Fine, Wrong}

@@ -25,6 +25,10 @@ use Rattle.convert.proofs.GateKinds.Entries.{table_at}
 use Rattle.convert.proofs.GateKinds.Marks.{more_marks, target_test}
 use Rattle.convert.proofs.GateKinds.Targets.{taken_to, taken_more}
 
+pub stopped : (f : PbcError) (b : Bool) (e : PbcError) → Wrong f ≡ (Wrong f ⟫ b ⇒ e)
+unfolding ◌⟫◌⇒◌
+stopped f b e = refl
+
 no_test : (k : Checked) (e : PbcError) → (k ⟫ false ⇒ e) ≡ k
 unfolding ◌⟫◌⇒◌
 no_test Fine e = refl
@@ -113,7 +117,7 @@ checks_end s n cbits gs i taken h = rw (no_more gs i h)
 
 -- ---- past a refusal
 
-wrong_operands : (e : PbcError) (n i : ℕ) (seen qs : List ℕ) → operands_checked (Wrong e) n i seen qs ≡ Wrong e
+pub wrong_operands : (e : PbcError) (n i : ℕ) (seen qs : List ℕ) → operands_checked (Wrong e) n i seen qs ≡ Wrong e
 unfolding operands_checked ◌⟫◌⇒◌
 wrong_operands e n i seen [] = refl
 wrong_operands e n i seen (q ∷ qs) = wrong_operands e n i (q ∷ seen) qs

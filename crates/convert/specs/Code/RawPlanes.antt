@@ -43,6 +43,16 @@ unfoldable pub weight_to : List ℕ → ℕ → ℕ → ℕ → ℕ → ℕ → 
 weight_to p l ua ub ud a b d zero = 0
 weight_to p l ua ub ud a b d (suc k) = weight_to p l ua ub ud a b d k + ones (bit_or (joined p ua ub ud a b d k) (joined p ua ub ud a b d (l + k)))
 
+-- the exclusive-or of the words of the first k images of a list, at a place of theirs
+unfoldable pub joint_to : List ℕ → ℕ → ℕ → List ℕ → ℕ → ℕ
+joint_to p s at is zero = 0
+joint_to p s at is (suc k) = bit_xor (joint_to p s at is k) (get_or p (get_or is k 0 * s + at) 0)
+
+-- the weight of the product of a list of images, over the first k words of the parts
+unfoldable pub product_to : List ℕ → ℕ → List ℕ → ℕ → ℕ
+product_to p l is zero = 0
+product_to p l is (suc k) = product_to p l is k + ones (bit_or (joint_to p (l + l) k is (length is)) (joint_to p (l + l) (l + k) is (length is)))
+
 -- the or of the words at k of three images
 abbrev pub any_of : List ℕ → ℕ → ℕ → ℕ → ℕ → ℕ
 any_of p a b d k = bit_or (bit_or (get_or p (a + k) 0) (get_or p (b + k) 0)) (get_or p (d + k) 0)

@@ -9,7 +9,15 @@ use Rattle.qasm.specs.Bytes.{white, every}
 use Rattle.qasm.specs.Tokens.{slashed, no_line_feed, solid, Blank, empty, space, comment, Ends, closed, unclosed}
 use Rattle.qasm.specs.Reading.{skip}
 use Rattle.qasm.proofs.Truth.{and_left, and_right}
-use Rattle.qasm.proofs.Places.Blanks.{at_space, at_token, in_line}
+
+pub in_line : (b : ℕ) (r : List ℕ) → (b ≡ 10 → ⊥) → skip true (b ∷ r) ≡ skip true r
+in_line b r ne = rw (ne_eqb b 10 ne)
+
+pub at_space : (b : ℕ) (r : List ℕ) → white b ≡ true → skip false (b ∷ r) ≡ skip false r
+at_space b r e = rw e
+
+pub at_token : (b : ℕ) (r : List ℕ) → white b ≡ false → slashed (b ∷ r) ≡ false → skip false (b ∷ r) ≡ b ∷ r
+at_token b r e s = rw (e, s)
 
 -- ---- past a blank that is laid
 

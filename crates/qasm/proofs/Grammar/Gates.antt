@@ -12,8 +12,7 @@ use Rattle.qasm.specs.Tokens.{Token, word, Laid, nothing}
 use Rattle.qasm.specs.Names.{semicolon, comma, arrow, Named, gate_names, word_measure}
 use Rattle.qasm.specs.Text.{Record, record_of, bit, Stage, at_gates, Statement, measure_line, one_line, two_line, three_line}
 use Rattle.qasm.specs.Reading.{Try, got, failed, and_then, take_word, take_one, take_two, take_three, take_measure, operands_by, by_name, gate_by, take_gate}
-use Rattle.qasm.proofs.Tries.{ended}
-use Rattle.qasm.proofs.Places.Cursors.{then-got}
+use Rattle.qasm.proofs.Tries.{ended, then-got}
 use Rattle.qasm.proofs.Grammar.Phrases.{Took, same_is, Through, through, laid_word}
 use Rattle.qasm.proofs.Grammar.Operands.{Spelt, spelt-word, took_one, took_two, took_three, took_measure, laid_one, One, laid_two, laid_measure, Two, laid_three, Three}
 use Rattle.qasm.proofs.Grammar.Names.{gate_good, Found, found}

@@ -12,7 +12,7 @@ use Rattle.qasm.specs.Names.{opening, closing, semicolon, version, word_openqasm
 use Rattle.qasm.specs.Text.{bit}
 use Rattle.qasm.specs.Reading.{Try, got, failed, done, and_then, take_sign, take_word, take_number, take_this, take_index, take_bit, take_version}
 use Rattle.qasm.proofs.Truth.{and_left, and_right}
-use Rattle.qasm.proofs.Places.Cursors.{then-got, then-failed}
+use Rattle.qasm.proofs.Tries.{then-got, then-failed}
 use Rattle.qasm.proofs.Grammar.Tokens.{sign_complete, sign_sound, word_complete, word_sound, number_complete, number_sound}
 
 -- ---- what is laid is read

@@ -8,7 +8,7 @@ use lib.ListN.{length}
 use Rattle.qasm.specs.Names.{word_qreg, word_creg}
 use Rattle.qasm.specs.Text.{Record, Stage, at_version, at_include, at_qreg, at_creg, at_gates, before_gates}
 use Rattle.qasm.specs.Reading.{Read, program, bad_text, Try, got, failed, and_then, blank, take_version, take_include, take_register, take_gate, register, Gates, gates, bad, more, gates_by, gates_from, is_empty, or_place, finish, from_gates, from_creg, from_qreg, from_include, reading}
-use Rattle.qasm.proofs.Places.Cursors.{then-got}
+use Rattle.qasm.proofs.Tries.{then-got}
 use Rattle.qasm.proofs.Grammar.Phrases.{Through, through}
 use Rattle.qasm.proofs.Grammar.Tokens.{saw}
 use Rattle.qasm.proofs.Grammar.Lengths.{gate-blank, version-blank, include-blank, register-blank, blank-shorter}

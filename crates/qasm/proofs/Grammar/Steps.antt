@@ -11,8 +11,7 @@ use Rattle.qasm.specs.Tokens.{Token, word, Laid, nothing}
 use Rattle.qasm.specs.Names.{is_name, word_openqasm, word_include, word_qreg, word_creg, word_measure}
 use Rattle.qasm.specs.Text.{Record, Stage, at_version, at_include, at_qreg, at_creg, at_gates, Statement, version_line, include_line, qreg_line, creg_line, measure_line, one_line, two_line, three_line}
 use Rattle.qasm.specs.Reading.{Try, got, done, and_then, blank, take_version, take_include, take_register, take_gate, register}
-use Rattle.qasm.proofs.Tries.{got-value, got-left, only, ended}
-use Rattle.qasm.proofs.Places.Cursors.{then-got}
+use Rattle.qasm.proofs.Tries.{got-value, got-left, only, ended, then-got}
 use Rattle.qasm.proofs.Grammar.Phrases.{Took, took-version, same_is, same_self, Through, through}
 use Rattle.qasm.proofs.Grammar.Operands.{Spelt, took_include}
 use Rattle.qasm.proofs.Grammar.Names.{took-register, name_spelt, gate_good, laid-version, laid_include, laid-register}

@@ -12,9 +12,16 @@ use Rattle.qasm.specs.Bytes.{white, letter, digit, word_byte, lower_case, betwee
 use Rattle.qasm.specs.Tokens.{slashed, solid, Blank, decimal_by}
 use Rattle.qasm.specs.Reading.{got, failed, done, blank, prefix, taken, left, word_from, take_sign, take_word, value_of, plain_number, number_from, take_number}
 use Rattle.qasm.proofs.Truth.{and_left, and_right, or_elim}
-use Rattle.qasm.proofs.Places.Tokens.{every-taken}
 use Rattle.qasm.proofs.Grammar.Decimals.{decimal_digits, decimal_value, decimal_some, plain_decimal, plain_is_decimal}
 use Rattle.qasm.proofs.Grammar.Blanks.{blank_skip, solid-skip, Past, to_end, to_token, past}
+
+pub every_taken : (f : ℕ → Bool) (t : List ℕ) → every f (taken f t) ≡ true
+every_taken f [] = refl
+every_taken f (b ∷ r) = go (f b) refl (every_taken f r)
+  where
+    go : (t : Bool) → f b ≡ t → every f (taken f r) ≡ true → every f (cond t (b ∷ taken f r) []) ≡ true
+    go true e k = rw (e, k)
+    go false e k = refl
 
 -- what the reader looks at, past a blank that is laid before something solid
 pub looks : (text here : List ℕ) → Blank text here → solid here ≡ true → blank text ≡ here
@@ -150,7 +157,7 @@ word_sound text w after e = go (blank text) refl
       laid = subst (λ z. Blank text z) (split-taken word_byte (b ∷ r)
           ∙ ap₂ (λ u v. u ++ v) (same_word (taken word_byte (b ∷ r)) (left word_byte (b ∷ r)) f) (same_left (taken word_byte (b ∷ r)) (left word_byte (b ∷ r)) f)) (saw text b r k).0;
       first = ap (begins letter) (sym (same_word (taken word_byte (b ∷ r)) (left word_byte (b ∷ r)) f)) ∙ letter-first b r l;
-      bytes = ap (every word_byte) (sym (same_word (taken word_byte (b ∷ r)) (left word_byte (b ∷ r)) f)) ∙ every-taken word_byte (b ∷ r);
+      bytes = ap (every word_byte) (sym (same_word (taken word_byte (b ∷ r)) (left word_byte (b ∷ r)) f)) ∙ every_taken word_byte (b ∷ r);
       stops = ap (begins word_byte) (sym (same_left (taken word_byte (b ∷ r)) (left word_byte (b ∷ r)) f)) ∙ left-stops word_byte (b ∷ r);
     }
 
@@ -210,10 +217,10 @@ number_sound text v after e = go (blank text) refl
         → cond x (got (value_of 0 (taken digit (b ∷ r))) (left digit (b ∷ r))) failed ≡ got v after → Numbered text v after
     read b r k false l f = absurd (never f)
     read b r k true l f = record {
-      laid = subst (λ z. Blank text z) (split-taken digit (b ∷ r) ∙ ap₂ (λ x y. x ++ y) (sym (plain_is_decimal (taken digit (b ∷ r)) (every-taken digit (b ∷ r)) l).0
+      laid = subst (λ z. Blank text z) (split-taken digit (b ∷ r) ∙ ap₂ (λ x y. x ++ y) (sym (plain_is_decimal (taken digit (b ∷ r)) (every_taken digit (b ∷ r)) l).0
           ∙ ap (decimal_by 10) (same-value (value_of 0 (taken digit (b ∷ r))) (left digit (b ∷ r)) f)) (same_left (value_of 0 (taken digit (b ∷ r))) (left digit
           (b ∷ r)) f)) (saw text b r k).0;
-      fits = subst (λ z. z < 4294967296) (same-value (value_of 0 (taken digit (b ∷ r))) (left digit (b ∷ r)) f) (plain_is_decimal (taken digit (b ∷ r)) (every-taken digit (b ∷ r)) l).1;
+      fits = subst (λ z. z < 4294967296) (same-value (value_of 0 (taken digit (b ∷ r))) (left digit (b ∷ r)) f) (plain_is_decimal (taken digit (b ∷ r)) (every_taken digit (b ∷ r)) l).1;
       stops = ap (begins digit) (sym (same_left (value_of 0 (taken digit (b ∷ r))) (left digit (b ∷ r)) f)) ∙ left-stops digit (b ∷ r);
     }
 
