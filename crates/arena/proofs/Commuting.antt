@@ -1,3 +1,4 @@
+-- kept: claims, which Theorems.antt takes from here as a module
 -- Whether two factors commute: what the answer of expand, and the phase of a product of two sparse ones, say of it.
 use mathlib.Core.Path.{◌≡◌, refl, ap, sym, ◌∙◌, subst}
 use mathlib.Core.Logic.Iff

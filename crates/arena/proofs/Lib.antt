@@ -2,6 +2,7 @@
 pub mod Words
 pub mod Made
 pub mod Overlay
+pub mod Pairs
 pub mod Accepted
 pub mod NodeRows
 pub mod Spans

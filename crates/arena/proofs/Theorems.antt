@@ -404,9 +404,9 @@ charge-refused = Charges.refused-alike
 
 -- `Rep` is what every function that a walk runs on scratch and pool asks for and leaves, and `Stands` is `Rep` for some holders of the records:
 -- asked for by take_use (Takeable), multiply_at (Multiplying), combine_at (Combining), single_at (Making), product_step, step_at, run_path, eval_root, show_root,
--- weigh_root (Walking in Branched, Topped, Started, Rooted), release (Releasable), weigh_axes (Weighing);
+-- visit_root (Walking in Branched, Topped, Started, Rooted), release (Releasable), visit_all (Weighing);
 -- left by begin (Begun), take_use (TookRep), multiply_at, combine_at, single_at, run_path, eval_root (Stands), product_step, step_at (Landed), show_root (RootShown),
--- release (Released), weigh_root (RootWeighed). So what follows holds before and after each of them.
+-- release (Released), visit_root (RootVisited). So what follows holds before and after each of them.
 
 -- no record is in the values of two nodes
 pub walk-never_shared : (count room : ℕ) (l p : List ℕ) (s : State) (left : Ledger) → Stands count room l p s left

@@ -1,5 +1,5 @@
 -- The refusals of document 01 ("Turning back") and of document 02: the number, gate index and operand of each, and the order of a call's checks.
-use Rattle.std.specs.Prelude.{Bool, true, false, ℕ, Result, Ok, Err}
+use Rattle.std.specs.Prelude.{Bool, true, false, ℕ, Result, Ok}
 pub use Rattle.std.specs.Prelude.{Err as Wrong}
 pub use Rattle.arena.specs.declared.error.PbcError.TheVariants.{the_data as PbcError, TooManyQubits, BrokenGateList, BadStore, ForeignPauli, UnsupportedGate, NonCliffordFrameGate}
 pub use Rattle.arena.specs.declared.error.PbcError.TheVariants.{QubitOutOfRange, RepeatedOperand, ClassicalBitOutOfRange, UnknownMeasurement, CapTooSmall, NoPlanes, NoFrame, NoNodes}

@@ -1,9 +1,10 @@
 //! The checks of each call, in document 01's order.
 
-ghost use Rattle.std.specs.Prelude.{◌≡◌};
-ghost use Rattle.arena.specs.Store.{target_bit, target_outside};
-ghost use Rattle.arena.specs.Builder.{nodes_for, new_check, single_check, product_check, rotate_check, measure_check, conditional_check};
-ghost use Rattle.arena.specs.Expansion.{expand_check, hermitian_check, report_check, axes_size, axes_check};
+ghost use Rattle.std.specs.Prelude.{◌≡◌, ◌||◌, ◌*◌, ltb};
+ghost use Rattle.arena.specs.Errors.{Fine, BadStore, ForeignPauli, NoOperations, ◌⟫◌⇒◌};
+ghost use Rattle.arena.specs.Store.{target_bit, target_outside, breaks_limit, exceeds_nodes, no_operation_room, foreign};
+ghost use Rattle.arena.specs.Builder.{nodes_for, new_check, single_check, product_check, axis_check, rotate_check, measure_check, conditional_check};
+ghost use Rattle.arena.specs.Expansion.{bad_nodes, bad_operations, expand_check, hermitian_check, report_check, axes_size, axes_check};
 
 use crate::error::{PbcError, refuse_if};
 use crate::header::Header;
@@ -51,6 +52,17 @@ pub(crate) fn check_new(qubits: u32, cbits: u32, nodes: usize, frame: usize) -> 
     )
 }
 
+// What a call that adds a node asks first.
+fn check_nodes(header: Header, nodes: usize) -> Result<(), PbcError>
+    ensures { result ≡ (Fine ⟫ breaks_limit header || exceeds_nodes header nodes ⇒ BadStore) }
+{
+    refuse_if(
+        header.breaks_limit() | header.exceeds_nodes(nodes),
+        PbcError::BadStore,
+    )
+}
+
+// kept: what was alike is check_nodes; the rows after it differ
 pub(crate) fn check_single(
     header: Header,
     nodes: usize,
@@ -59,10 +71,7 @@ pub(crate) fn check_single(
 ) -> Result<(), PbcError>
     ensures { result ≡ single_check header nodes qubit pauli }
 {
-    refuse_if(
-        header.breaks_limit() | header.exceeds_nodes(nodes),
-        PbcError::BadStore,
-    )?;
+    check_nodes(header, nodes)?;
     refuse_if(
         header.qubits <= qubit,
         PbcError::QubitOutOfRange {
@@ -76,6 +85,7 @@ pub(crate) fn check_single(
     )
 }
 
+// kept: what was alike is check_nodes; the rows after it differ
 pub(crate) fn check_product(
     header: Header,
     nodes: usize,
@@ -84,10 +94,7 @@ pub(crate) fn check_product(
 ) -> Result<(), PbcError>
     ensures { result ≡ product_check header nodes left right }
 {
-    refuse_if(
-        header.breaks_limit() | header.exceeds_nodes(nodes),
-        PbcError::BadStore,
-    )?;
+    check_nodes(header, nodes)?;
     refuse_if(
         header.is_foreign(left) | header.is_foreign(right),
         PbcError::ForeignPauli,
@@ -95,6 +102,28 @@ pub(crate) fn check_product(
     refuse_if(header.no_node_room(nodes, 1), PbcError::NoNodes)
 }
 
+// What a call that adds an operation asks first.
+fn check_axis(header: Header, operations: usize, axis: PauliAxis) -> Result<(), PbcError>
+    ensures { result ≡ axis_check header operations axis }
+{
+    refuse_if(
+        header.breaks_limit() | header.exceeds_operations(operations),
+        PbcError::BadStore,
+    )?;
+    refuse_if(header.is_foreign(axis.as_ref()), PbcError::ForeignPauli)
+}
+
+// What such a call asks last.
+fn check_room(header: Header, operations: usize) -> Result<(), PbcError>
+    ensures { result ≡ (Fine ⟫ no_operation_room header operations 1 ⇒ NoOperations) }
+{
+    refuse_if(
+        header.no_operation_room(operations, 1),
+        PbcError::NoOperations,
+    )
+}
+
+// kept: what was alike is check_axis and check_room
 pub(crate) fn check_rotate(
     header: Header,
     operations: usize,
@@ -102,17 +131,11 @@ pub(crate) fn check_rotate(
 ) -> Result<(), PbcError>
     ensures { result ≡ rotate_check header operations axis }
 {
-    refuse_if(
-        header.breaks_limit() | header.exceeds_operations(operations),
-        PbcError::BadStore,
-    )?;
-    refuse_if(header.is_foreign(axis.as_ref()), PbcError::ForeignPauli)?;
-    refuse_if(
-        header.no_operation_room(operations, 1),
-        PbcError::NoOperations,
-    )
+    check_axis(header, operations, axis)?;
+    check_room(header, operations)
 }
 
+// kept: what was alike is check_axis and check_room; the row between differs
 pub(crate) fn check_measure(
     header: Header,
     operations: usize,
@@ -122,11 +145,7 @@ pub(crate) fn check_measure(
     ensures { result ≡ measure_check header operations axis target }
 {
     let bit = target_bit(target);
-    refuse_if(
-        header.breaks_limit() | header.exceeds_operations(operations),
-        PbcError::BadStore,
-    )?;
-    refuse_if(header.is_foreign(axis.as_ref()), PbcError::ForeignPauli)?;
+    check_axis(header, operations, axis)?;
     refuse_if(
         target_outside(header, target),
         PbcError::ClassicalBitOutOfRange {
@@ -134,12 +153,10 @@ pub(crate) fn check_measure(
             bit: bit as u64,
         },
     )?;
-    refuse_if(
-        header.no_operation_room(operations, 1),
-        PbcError::NoOperations,
-    )
+    check_room(header, operations)
 }
 
+// kept: what was alike is check_axis and check_room; the row between differs
 pub(crate) fn check_conditional(
     header: Header,
     operations: usize,
@@ -148,18 +165,27 @@ pub(crate) fn check_conditional(
 ) -> Result<(), PbcError>
     ensures { result ≡ conditional_check header operations axis outcome }
 {
-    refuse_if(
-        header.breaks_limit() | header.exceeds_operations(operations),
-        PbcError::BadStore,
-    )?;
-    refuse_if(header.is_foreign(axis.as_ref()), PbcError::ForeignPauli)?;
+    check_axis(header, operations, axis)?;
     refuse_if(header.is_unknown(outcome), PbcError::UnknownMeasurement)?;
-    refuse_if(
-        header.no_operation_room(operations, 1),
-        PbcError::NoOperations,
-    )
+    check_room(header, operations)
 }
 
+// What a reader of one reference asks first.
+fn check_reference(header: Header, nodes: &[u32], reference: PauliRef) -> Result<(), PbcError>
+    ensures { result ≡ (Fine ⟫ bad_nodes header nodes.now ⇒ BadStore ⟫ foreign header reference ⇒ ForeignPauli) }
+{
+    refuse_if(bad_nodes(header, nodes), PbcError::BadStore)?;
+    refuse_if(header.is_foreign(reference), PbcError::ForeignPauli)
+}
+
+// A walk has four words for each used node.
+fn short_scratch(header: Header, scratch: usize) -> bool
+    ensures { result ≡ ltb scratch (4 * header.nodes) }
+{
+    scratch < 4 * (header.nodes as usize)
+}
+
+// kept: what was alike is check_reference and short_scratch
 pub(crate) fn check_expand(
     header: Header,
     nodes: &[u32],
@@ -169,14 +195,14 @@ pub(crate) fn check_expand(
 ) -> Result<(), PbcError>
     ensures { result ≡ expand_check header nodes.now reference letters scratch }
 {
-    refuse_if(bad_nodes(header, nodes), PbcError::BadStore)?;
-    refuse_if(header.is_foreign(reference), PbcError::ForeignPauli)?;
+    check_reference(header, nodes, reference)?;
     refuse_if(
-        (scratch < 4 * (header.nodes as usize)) | (letters < (header.qubits as usize)),
+        short_scratch(header, scratch) | (letters < (header.qubits as usize)),
         PbcError::NoScratch,
     )
 }
 
+// kept: what was alike is check_reference and short_scratch
 pub(crate) fn check_hermitian(
     header: Header,
     nodes: &[u32],
@@ -185,11 +211,21 @@ pub(crate) fn check_hermitian(
 ) -> Result<(), PbcError>
     ensures { result ≡ hermitian_check header nodes.now reference scratch }
 {
-    refuse_if(bad_nodes(header, nodes), PbcError::BadStore)?;
-    refuse_if(header.is_foreign(reference), PbcError::ForeignPauli)?;
-    refuse_if(scratch < 4 * (header.nodes as usize), PbcError::NoScratch)
+    check_reference(header, nodes, reference)?;
+    refuse_if(short_scratch(header, scratch), PbcError::NoScratch)
 }
 
+// What a reader of all operations asks first.
+fn check_words(header: Header, nodes: &[u32], operations: &[u32]) -> Result<(), PbcError>
+    ensures { result ≡ (Fine ⟫ bad_nodes header nodes.now || bad_operations header operations.now ⇒ BadStore) }
+{
+    refuse_if(
+        bad_nodes(header, nodes) | bad_operations(header, operations),
+        PbcError::BadStore,
+    )
+}
+
+// kept: what was alike is check_words and short_scratch
 pub(crate) fn check_report(
     header: Header,
     nodes: &[u32],
@@ -198,11 +234,8 @@ pub(crate) fn check_report(
 ) -> Result<(), PbcError>
     ensures { result ≡ report_check header nodes.now operations.now scratch }
 {
-    refuse_if(
-        bad_nodes(header, nodes) | bad_operations(header, operations),
-        PbcError::BadStore,
-    )?;
-    refuse_if(scratch < 4 * (header.nodes as usize), PbcError::NoScratch)
+    check_words(header, nodes, operations)?;
+    refuse_if(short_scratch(header, scratch), PbcError::NoScratch)
 }
 
 // The bytes of the rows of all operations.
@@ -212,6 +245,7 @@ pub(crate) fn axes_size(header: Header) -> usize
     (header.operations as usize) * (header.qubits as usize + 1)
 }
 
+// kept: what was alike is check_words and short_scratch
 pub(crate) fn check_axes(
     header: Header,
     nodes: &[u32],
@@ -221,12 +255,9 @@ pub(crate) fn check_axes(
 ) -> Result<(), PbcError>
     ensures { result ≡ axes_check header nodes.now operations.now rows scratch }
 {
+    check_words(header, nodes, operations)?;
     refuse_if(
-        bad_nodes(header, nodes) | bad_operations(header, operations),
-        PbcError::BadStore,
-    )?;
-    refuse_if(
-        (scratch < 4 * (header.nodes as usize)) | (rows < axes_size(header)),
+        short_scratch(header, scratch) | (rows < axes_size(header)),
         PbcError::NoScratch,
     )
 }

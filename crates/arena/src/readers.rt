@@ -14,7 +14,7 @@ use crate::error::PbcError;
 use crate::expansion::{Expansion, HermitianAxis};
 use crate::header::Header;
 use crate::pauli_ref::{PauliAxis, PauliRef};
-use crate::pool::{cap_of, wide};
+use crate::pool::cap_of;
 use crate::roots::{show, walk_root, wipe};
 use crate::scratch::{first_word, named_value, second_word};
 use pauli::Phase;
@@ -28,16 +28,18 @@ fn factors_commute(nodes: &[u32], s: &[u32], w: usize) -> bool
 {
     let i = w / 4;
     let a = first_word(nodes, i);
+    // kept: a kind by its word: PauliNode::decode asks for the qubits, which a walk has not, and tests what bad_nodes has tested
     if a % 4 != 2 {
         return true;
     }
-    let left = named_value(s, wide(a / 4));
-    let right = named_value(s, wide(second_word(nodes, i)));
+    let left = named_value(s, (a / 4) as usize);
+    let right = named_value(s, second_word(nodes, i) as usize);
     let own = named_value(s, 4 * i);
     (left.phase + right.phase + own.phase) % 2 == 0
 }
 
 // The walk of `expand`, with the scratch and the pool left as they are then.
+// kept: a Walk made of parts of the lent slices loses what is known of them after the call (tried), so a function is lent the parts and makes it
 fn expand_walk(
     header: Header,
     nodes: &[u32],
@@ -67,6 +69,7 @@ fn expand_walk(
 }
 
 // The walk of `hermitian_axis`, in the same way.
+// kept: a Walk made of parts of the lent slices loses what is known of them after the call (tried), so a function is lent the parts and makes it
 fn hermitian_walk(
     header: Header,
     nodes: &[u32],
@@ -92,6 +95,7 @@ fn hermitian_walk(
 impl Header {
     /// The letters of a reference, one byte a qubit, its phase, and whether the two factors of its node commute; `max_cells` bounds the qubits and the work together. Refuses with 3, 4, 16, 17, 18.
     /// Scratch has four words a node; the words and records that a walk uses are zero afterwards, whatever it answers. O(nodes × qubits). Promise: `expand_step`.
+    // kept: public, as README has it, with the words that it is lent; it shares Walk and wipe with the other readers
     pub fn expand(
         self,
         nodes: &[u32],
@@ -124,6 +128,7 @@ impl Header {
 
     /// The reference as an axis, if the phase of what it stands for is +1 or -1. Refuses with 3, 4, 16, 17, 18, 19. Scratch and pool as in `expand`.
     /// O(nodes × qubits). Promise: `hermitian_step`.
+    // kept: public, as README has it, with the words that it is lent; it shares Walk and wipe with the other readers
     pub fn hermitian_axis(
         self,
         nodes: &[u32],

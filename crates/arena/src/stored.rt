@@ -12,30 +12,32 @@ ghost use Rattle.arena.specs.Code.Roots.{weighed_at};
 use crate::header::Header;
 use crate::limits::{HAND_MARK, MAX_GATES, NODE_WORDS, OPERATION_WORDS};
 use crate::op::{AxisKind, kind_of};
-use crate::pool::wide;
 
 // A word, or 0 past the end.
 fn word_at(words: &[u32], i: usize) -> u32
     ensures { result ≡ get_or words.now i 0 }
 {
-    if i < words.len() { words[i] } else { 0 }
+    words.get(i).copied().unwrap_or(0)
 }
 
 // ---- nodes: tests of their two words with no branch, so that a loop takes several nodes at a time
 
 // A product of nodes older than i.
+// kept: tests joined by & have no branch: the loop over nodes takes several at a time (docs/PROVING.md)
 fn is_product(i: u32, first: u32, second: u32) -> bool
     ensures { result ≡ is_product i first second }
 {
     (first % 4 == 2) & (first / 4 / 4 < i) & (second / 4 < i)
 }
 
+// kept: tests joined by & have no branch: the loop over nodes takes several at a time (docs/PROVING.md)
 fn is_single(qubits: u32, first: u32, second: u32) -> bool
     ensures { result ≡ is_single qubits first second }
 {
     (first % 4 == 1) & (1 <= first / 4) & (first / 4 <= 3) & (second < qubits)
 }
 
+// kept: tests joined by & have no branch: the loop over nodes takes several at a time (docs/PROVING.md)
 fn is_identity(first: u32, second: u32) -> bool
     ensures { result ≡ is_identity first second }
 {
@@ -51,32 +53,39 @@ fn is_malformed(qubits: u32, i: u32, first: u32, second: u32) -> bool
 }
 
 // Whether one of the first nodes is malformed.
+// kept: the words are lent longer than what is used, and the header says how many are
 fn any_malformed(qubits: u32, nodes: &[u32], count: u32) -> bool
     requires { node_words * count ≤ length nodes.now }
     ensures { result ≡ any_malformed (node_at qubits nodes.now) count }
 {
     let mut any = false;
-    for i in 0..count {
-        let at = NODE_WORDS * (i as usize);
-        any |= is_malformed(qubits, i, nodes[at], nodes[at + 1]);
+    for (i, &[first, second]) in nodes.as_chunks::<NODE_WORDS>().0[..count as usize]
+        .iter()
+        .enumerate()
+    {
+        any |= is_malformed(qubits, i as u32, first, second);
     }
     any
 }
 
 // Whether all nodes from one on are products: then those before it decide.
+// kept: the words are lent longer than what is used, and the header says how many are; skip(from) makes an iterator of its own, no plainer
 fn all_products(nodes: &[u32], from: u32, count: u32) -> bool
     requires { (from ≤ count) × (node_words * count ≤ length nodes.now) }
     ensures { (n : ℕ) → result ≡ true → any_malformed (node_at n nodes.now) from ≡ any_malformed (node_at n nodes.now) count }
 {
     let mut all = true;
-    for i in from..count {
-        let at = NODE_WORDS * (i as usize);
-        all &= is_product(i, nodes[at], nodes[at + 1]);
+    let pairs = nodes.as_chunks::<NODE_WORDS>().0;
+    // An index of 64 bits: with one of 32 the loop takes nearly three times the instructions.
+    for i in from as usize..count as usize {
+        let [first, second] = pairs[i];
+        all &= is_product(i as u32, first, second);
     }
     all
 }
 
 // How many of the first nodes decide. In a circuit that was converted those are the ones of `Header::new`, since all later ones are products.
+// kept: the words are lent longer than what is used, and the header says how many are
 fn deciding(qubits: u32, nodes: &[u32], count: u32) -> u32
     requires { (qubits ≤ max_qubits) × (node_words * count ≤ length nodes.now) }
     ensures { (result ≤ count) × (any_malformed (node_at qubits nodes.now) result ≡ any_malformed (node_at qubits nodes.now) count) }
@@ -104,12 +113,14 @@ pub(crate) fn bad_nodes(header: Header, nodes: &[u32]) -> bool
 
 // ---- operations
 
+// kept: tests joined by & have no branch, as those of nodes (docs/PROVING.md)
 fn is_rotation(first: u32, measurement: u32, target: u32) -> bool
     ensures { result ≡ is_rotation first measurement target }
 {
     (first % 4 == 0) & (first / 4 < 8) & (measurement == 0) & (target == 0)
 }
 
+// kept: tests joined by & have no branch, as those of nodes (docs/PROVING.md)
 fn is_measurement(header: Header, first: u32, measurement: u32, target: u32) -> bool
     ensures { result ≡ is_measurement header first measurement target }
 {
@@ -119,6 +130,7 @@ fn is_measurement(header: Header, first: u32, measurement: u32, target: u32) -> 
         & !(header.measurements <= measurement)
 }
 
+// kept: tests joined by & have no branch, as those of nodes (docs/PROVING.md)
 fn is_conditional(header: Header, first: u32, measurement: u32, target: u32) -> bool
     ensures { result ≡ is_conditional header first measurement target }
 {
@@ -149,10 +161,12 @@ fn is_bad_op(
     !formed | (header.nodes <= axis / 4) | !is_source(gate)
 }
 
+// kept: the words are lent longer than what is used, and the header says how many are
 fn is_bad_at(header: Header, operations: &[u32], index: u32) -> bool
     requires { operation_words * index + 4 < length operations.now }
     ensures { result ≡ is_bad_at header operations.now index }
 {
+    // kept: one record by its place, of lent flat words (no heap, C calls it so); a chunk of all is no shorter
     let at = OPERATION_WORDS * (index as usize);
     is_bad_op(
         header,
@@ -186,16 +200,20 @@ pub(crate) fn bad_operations(header: Header, operations: &[u32]) -> bool
 }
 
 // The word of the axis of an operation that is not bad.
+// kept: an operation by its place in lent words; its chunk is no shorter, and word_at is 0 past the end
 pub(crate) fn axis_word(operations: &[u32], index: u32) -> usize
     ensures { (h : Header) → is_bad_op h (op_at h operations.now index) ≡ false → result ≡ (weighed_at h operations.now index).word }
 {
-    wide(word_at(operations, OPERATION_WORDS * (index as usize) + 1))
+    // kept: one record by its place, of lent flat words (no heap, C calls it so); a chunk of all is no shorter
+    word_at(operations, OPERATION_WORDS * (index as usize) + 1) as usize
 }
 
 // The kind of the axis of an operation that is not bad.
+// kept: an operation by its place in lent words; its chunk is no shorter, and word_at is 0 past the end
 pub(crate) fn kind_at(operations: &[u32], index: u32) -> AxisKind
     ensures { (h : Header) → is_bad_op h (op_at h operations.now index) ≡ false → result ≡ (weighed_at h operations.now index).kind }
 {
+    // kept: one record by its place, of lent flat words (no heap, C calls it so); a chunk of all is no shorter
     let first = word_at(operations, OPERATION_WORDS * (index as usize));
     if first % 2 == 1 {
         return AxisKind::Measurement;

@@ -7,5 +7,6 @@ pub mod State
 pub mod Writing
 pub mod Listed
 pub mod Reads
+pub mod Did
 pub mod Clifford
 pub mod Conversion

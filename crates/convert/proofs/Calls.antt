@@ -4,3 +4,4 @@ pub mod Readable
 pub mod Operations
 pub mod Converted
 pub mod Words
+pub mod Headers

@@ -6,3 +6,4 @@ pub mod Lists
 pub mod Light
 pub mod Sums
 pub mod Needs
+pub mod Chunks

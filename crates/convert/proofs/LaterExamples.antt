@@ -1,4 +1,5 @@
 -- A conversion and later calls given as words, computed: which are accepted, and what they leave.
+-- kept: examples, computed: they are their own use.
 use mathlib.Core.Path.{◌≡◌, refl}
 use mathlib.Core.List.{List, [], ◌∷◌, ◌++◌}
 use Prim.Native.Nat.{ℕ}

@@ -1,4 +1,5 @@
 -- What is routed, at the edge of each clause: each falls if the definition departs from E6 of document 02.
+-- kept: pins, which docs/TRUST.md names: they are their own use.
 use mathlib.Core.Path.{◌≡◌, refl, ap, sym}
 use mathlib.Core.Bool.{true≢false}
 use mathlib.Core.List.{List, [], ◌∷◌}

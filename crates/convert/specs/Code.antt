@@ -7,3 +7,9 @@ pub mod Lists
 pub mod Counting
 pub mod Writing
 pub mod Marks
+pub mod Images
+pub mod Flush
+pub mod PlaneGates
+pub mod Converting
+pub mod Parts
+pub mod Passed

@@ -1,13 +1,22 @@
 -- Later calls as words, six a call; and what a conversion and such calls leave.
-use Rattle.std.specs.Prelude.{List, [], ◌∷◌, ◌++◌, ℕ, zero, suc, ◌+◌, ◌*◌, ◌/◌, ◌%◌, length, get_or}
+use Rattle.std.specs.Prelude.{List, [], ◌∷◌, ◌++◌, ℕ, zero, suc, ◌+◌, ◌*◌, ◌/◌, ◌%◌, length, get_or, Result, Ok, Err}
 use Rattle.pauli.specs.Letters.{pauli_of}
 use Rattle.pauli.specs.Angle.{angle_of}
 use Rattle.arena.specs.References.{axis_of}
 use Rattle.arena.specs.Operations.{meas_id, target_of}
-use Rattle.convert.specs.Types.{PauliRef, PauliAxis}
+use Rattle.convert.specs.Types.{Header, PbcError, PauliRef, PauliAxis}
 use Rattle.convert.specs.Conversion.{Input, Converted, ConvertedMade, ConvertedRefused, ConvertStep, convert_step, convert_of}
 use Rattle.convert.specs.Later.{circuit_of, LaterCall, call_frame, call_single, call_product, call_rotate, call_measure, call_conditional, laters}
-pub use Rattle.convert.specs.declared.later.CallWords.{CallWords}
+use Rattle.convert.specs.declared.later.Call.TheVariants.{the_data as Call, Frame, Single, Product, Rotate, Measure, ConditionalRotate}
+
+-- the words of a call
+pub record CallWords : Type 0 where
+  pub kind : ℕ
+  pub a : ℕ
+  pub b : ℕ
+  pub c : ℕ
+  pub d : ℕ
+  pub e : ℕ
 
 -- a 32-bit argument
 abbrev pub low : ℕ → ℕ
@@ -30,6 +39,20 @@ call_as (suc (suc (suc (suc (suc k))))) w = call_conditional (axis_in w.a w.b) (
 
 unfoldable pub call_in : CallWords → LaterCall
 call_in w = call_as w.kind w
+
+-- a call as the code has it
+abbrev pub called : Call → LaterCall
+called (Frame k a b) = call_frame k a b
+called (Single q p) = call_single q p
+called (Product l r) = call_product l r
+called (Rotate x k) = call_rotate x k
+called (Measure x t) = call_measure x t
+called (ConditionalRotate x k m) = call_conditional x k m
+
+-- the header of an answer that has more, or the one before where it refuses
+abbrev pub header_or : {A : Type 0} → Result (Header × A) PbcError → Header → Header
+header_or (Ok x) h = x.0
+header_or (Err e) h = h
 
 -- the words of call i
 abbrev pub call_words : (kind a b c d e : ℕ) → CallWords

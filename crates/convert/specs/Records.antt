@@ -1,11 +1,15 @@
 -- Gate records (document 01), and the elementary gates that they are lowered to.
-use Rattle.std.specs.Prelude.{Bool, false, cond, ◌&&◌, ◌≢◌, List, [], ◌∷◌, ◌++◌, map, ℕ, suc, ◌<◌, eqb, leb, get_or}
+use Rattle.std.specs.Prelude.{Bool, false, cond, Option, ◌&&◌, ◌≢◌, List, [], ◌∷◌, ◌++◌, map, ℕ, suc, ◌<◌, eqb, leb, get_or}
 use Rattle.pauli.specs.Gates.{Gate, gate_h, gate_x, gate_z, gate_s, gate_sdg, gate_cnot, gate_cz, Valid}
 pub use Rattle.convert.specs.declared.gate.GateKind.TheVariants.{the_data as GateKind, H as KindH, X as KindX, Z as KindZ, S as KindS, Sdg as KindSdg, T as KindT, Tdg as KindTdg}
 pub use Rattle.convert.specs.declared.gate.GateKind.TheVariants.{Cnot as KindCnot, Cz as KindCz, Ccx as KindCcx, Ccz as KindCcz, Measure as KindMeasure, Y as KindY, Sx as KindSx}
 pub use Rattle.convert.specs.declared.gate.GateKind.TheVariants.{Swap as KindSwap, Cy as KindCy, Unsupported}
 pub use Rattle.convert.specs.declared.gate.Shape.TheVariants.{the_data as Shape, None as NoShape, One as OneQubit, Two as TwoQubits, Three as ThreeQubits, Measured}
-pub use Rattle.convert.specs.declared.cap.Cap.TheVariants.{the_data as Cap, None as NoCap, AtMost}
+pub use Rattle.std.specs.Prelude.{Some as AtMost, None as NoCap}
+
+-- the most letters other than I that an axis may have, or no such bound
+abbrev pub Cap : Type 0
+Cap = Option ℕ
 
 -- four words: kind, then operands in declared order, the rest ignored
 pub record Record : Type 0 where

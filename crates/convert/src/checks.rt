@@ -1,22 +1,23 @@
 //! The checks of a conversion and of a frame gate, in the order of documents 01 and 02.
 
-ghost use Rattle.std.specs.Prelude.{◌≡◌, true, List, [], ℕ, ◌*◌, ◌<◌, ◌≤◌, min, leb, length, take};
+ghost use Rattle.std.specs.Prelude.{◌≡◌, true, List, [], ◌∷◌, ℕ, ◌*◌, ◌<◌, ◌≤◌, ◌/◌, leb, length, get_or, take};
+ghost use Rattle.std.specs.List.{list_any};
 ghost use Rattle.arena.specs.Limits.{max_cbits};
 ghost use Rattle.arena.specs.Errors.{◌⟫◌⇒◌};
 ghost use Rattle.convert.specs.Types.{QubitOutOfRange, Checked, Fine};
-ghost use Rattle.convert.specs.Records.{record_of, records};
-ghost use Rattle.convert.specs.Frame.{qubits_of, operands_checked, names_unused, clifford_check};
+ghost use Rattle.convert.specs.Records.{records};
+ghost use Rattle.convert.specs.Code.Parts.{record_in};
+ghost use Rattle.convert.specs.Frame.{qubits_of, operands_checked, clifford_check};
 ghost use Rattle.convert.specs.Conversion.{taken_with, record_checked, records_checked, cap_too_small, planes_too_few, gates_checked, room_checked, limits};
 ghost use Rattle.convert.specs.Planes.{part_words};
 ghost use Rattle.convert.specs.Code.Marks.{Marks};
 ghost use Rattle.convert.specs.Code.Tables.{table_of, bound_of, apart_of, Passes, AllPass};
 
-use crate::cap::Cap;
-use crate::gate::{GateKind, Shape, number_at, operand_at};
+use crate::gate::{GateKind, Shape};
 use crate::targets::{take_bit, take_target};
 use arena::{
     Header, MAX_CBITS, MAX_GATES, MAX_NODES, MAX_OPERATIONS, MAX_QUBITS, NODE_WORDS,
-    OPERATION_WORDS, PbcError, refuse_if, then_refuse_if,
+    OPERATION_WORDS, PbcError, refuse_if,
 };
 
 /// The most words of a gate list.
@@ -31,11 +32,10 @@ const FEW_CBITS: u32 = 1024;
 const FEW_TARGET_WORDS: usize = (FEW_CBITS as usize) / 64;
 
 // A qubit of gate i.
-fn check_operand(checked: Result<(), PbcError>, n: u32, i: u64, q: u32) -> Result<(), PbcError>
-    ensures { result ≡ (checked ⟫ leb n q ⇒ QubitOutOfRange i q) }
+fn check_operand(n: u32, i: u64, q: u32) -> Result<(), PbcError>
+    ensures { result ≡ (Fine ⟫ leb n q ⇒ QubitOutOfRange i q) }
 {
-    then_refuse_if(
-        checked,
+    refuse_if(
         n <= q,
         PbcError::QubitOutOfRange {
             index: i,
@@ -44,85 +44,77 @@ fn check_operand(checked: Result<(), PbcError>, n: u32, i: u64, q: u32) -> Resul
     )
 }
 
-// The qubits of gate i: 7, then 8, operand by operand.
-fn check_qubits(
-    checked: Result<(), PbcError>,
-    n: u32,
-    i: u64,
-    kind: GateKind,
-    a: u32,
-    b: u32,
-    c: u32,
-) -> Result<(), PbcError>
-    ensures { result ≡ operands_checked checked n i [] (qubits_of kind a b c) }
+// Two qubits of gate i.
+fn check_pair(n: u32, i: u64, a: u32, b: u32) -> Result<(), PbcError>
+    ensures { result ≡ operands_checked Fine n i [] (a ∷ b ∷ []) }
 {
-    if kind.has_shape(Shape::None) {
-        return checked;
-    }
-    let first = check_operand(checked, n, i, a);
-    if kind.has_shape(Shape::One) | kind.has_shape(Shape::Measured) {
-        return first;
-    }
-    let second = then_refuse_if(
-        check_operand(first, n, i, b),
+    check_operand(n, i, a)?;
+    check_operand(n, i, b)?;
+    refuse_if(
         b == a,
         PbcError::RepeatedOperand {
             index: i,
             qubit: b as u64,
         },
-    );
-    if kind.has_shape(Shape::Two) {
-        return second;
-    }
-    then_refuse_if(
-        check_operand(second, n, i, c),
-        (c == b) | (c == a),
-        PbcError::RepeatedOperand {
-            index: i,
-            qubit: c as u64,
-        },
     )
+}
+
+// The qubits of gate i: 7, then 8, operand by operand.
+fn check_qubits(n: u32, i: u64, kind: GateKind, a: u32, b: u32, c: u32) -> Result<(), PbcError>
+    ensures { result ≡ operands_checked Fine n i [] (qubits_of kind a b c) }
+{
+    match kind.shape() {
+        Shape::None => Ok(()),
+        Shape::One | Shape::Measured => check_operand(n, i, a),
+        Shape::Two => check_pair(n, i, a, b),
+        Shape::Three => {
+            check_pair(n, i, a, b)?;
+            check_operand(n, i, c)?;
+            refuse_if(
+                c == b || c == a,
+                PbcError::RepeatedOperand {
+                    index: i,
+                    qubit: c as u64,
+                },
+            )
+        }
+    }
 }
 
 // Gate i: 5, then 7 and 8, then 9, then 24; its target is taken from now on.
 fn check_record(
-    checked: Result<(), PbcError>,
     n: u32,
     cbits: u32,
     i: u64,
-    number: u32,
-    a: u32,
-    b: u32,
-    c: u32,
+    words: &[u32; 4],
     taken: &mut [u64],
 ) -> Result<(), PbcError>
     requires { cbits ≤ 64 * length taken.old }
-    ensures by_index { (bits : List ℕ) → Marks bits taken.old → result ≡ record_checked checked n cbits i bits (record_of number a b c) }
-    ensures by_index_2 { (bits : List ℕ) → Marks bits taken.old → Marks (taken_with (record_of number a b c) bits) taken.new }
+    ensures checked { (bits : List ℕ) → Marks bits taken.old → result ≡ record_checked Fine n cbits i bits (record_in words.now) }
+    ensures marked { (bits : List ℕ) → Marks bits taken.old → result ≡ Fine → Marks (taken_with (record_in words.now) bits) taken.new }
 {
+    let [number, a, b, c] = *words;
     let kind = GateKind::of(number);
-    let measured = kind.has_shape(Shape::Measured);
-    let held = (b as usize) / 64 < taken.len();
-    let again = take_bit(taken, measured & held, b as usize);
-    let known = then_refuse_if(
-        checked,
+    refuse_if(
         kind.has_shape(Shape::None),
         PbcError::UnsupportedGate {
             index: i,
             kind: number as u64,
         },
-    );
-    let inside = then_refuse_if(
-        check_qubits(known, n, i, kind, a, b, c),
-        measured & (cbits <= b),
+    )?;
+    check_qubits(n, i, kind, a, b, c)?;
+    if !kind.has_shape(Shape::Measured) {
+        return Ok(());
+    }
+    refuse_if(
+        cbits <= b,
         PbcError::ClassicalBitOutOfRange {
             index: i,
             bit: b as u64,
         },
-    );
-    then_refuse_if(
-        inside,
-        again,
+    )?;
+    refuse_if(
+        take_bit(taken, b as usize),
         PbcError::TargetTaken {
             index: i,
             bit: b as u64,
@@ -130,33 +122,28 @@ fn check_record(
     )
 }
 
-// What the second operand of each kind stays below; of a measurement the table says nothing. Tables are lent, so that no read copies one.
-fn bounds(n: u64) -> [u64; 21]
-    ensures { result ≡ table_of (bound_of n) }
+// An entry for the second operand of each kind: that of a qubit, that of a measurement's bit, and 2^32 where it has none. With n and 0 it is what the
+// operand stays below; of a measurement that says nothing. With 0 and 2^32 it is a bit above every operand for the kinds whose second is no qubit:
+// with it that one is never the first. Tables are lent, so that no read copies one.
+fn entries(qubit: u64, bit: u64) -> [u64; 21]
+    ensures bound { bit ≡ 0 → result ≡ table_of (bound_of qubit) }
+    ensures apart { qubit ≡ 0 → bit ≡ 4294967296 → result ≡ table_of apart_of }
 {
     let any: u64 = 4294967296;
     [
-        any, any, any, any, any, any, any, 0, n, n, n, n, 0, 0, 0, any, any, 0, 0, n, n,
-    ]
-}
-
-// A bit above every operand for the kinds whose second is no qubit: with it that one is never the first.
-fn apart() -> [u64; 21]
-    ensures { result ≡ table_of apart_of }
-{
-    let any: u64 = 4294967296;
-    [
-        any, any, any, any, any, any, any, 0, 0, 0, 0, 0, any, 0, 0, any, any, 0, 0, 0, 0,
+        any, any, any, any, any, any, any, 0, qubit, qubit, qubit, qubit, bit, 0, 0, any, any, 0,
+        0, qubit, qubit,
     ]
 }
 
 // Whether a record that is no measurement passes its checks, by its kind's entries. Of the jumps by kind, which a processor would have to guess,
 // one is left: ccx and ccz, 10 and 11.
-fn is_sound(n: usize, number: usize, bound: u64, above: u64, a: usize, b: usize, c: usize) -> bool
-    requires { number < 21 }
-    ensures { result ≡ true → Passes n number bound above a b c }
+fn is_sound(n: usize, bound: u64, above: u64, words: &[u32; 4]) -> bool
+    requires { get_or words.now 0 0 < 21 }
+    ensures { result ≡ true → Passes n (get_or words.now 0 0) bound above (get_or words.now 1 0) (get_or words.now 2 0) (get_or words.now 3 0) }
 {
-    if n <= a {
+    let [number, a, b, c] = *words;
+    if n <= (a as usize) {
         return false;
     }
     if bound <= (b as u64) {
@@ -165,13 +152,18 @@ fn is_sound(n: usize, number: usize, bound: u64, above: u64, a: usize, b: usize,
     if ((b as u64) | above) == (a as u64) {
         return false;
     }
-    if !(number / 2 == 5) {
+    // kept: a match on the kind is a jump a record (docs/DECISIONS.md, "Sums first").
+    if number / 2 != 5 {
         return true;
     }
-    (c < n) & (!(c == a) & !(c == b))
+    if n <= (c as usize) {
+        return false;
+    }
+    c != a && c != b
 }
 
 // Whether every gate passes its checks, by the tables and a mark for each classical bit. What the tables do not pass can still be a measurement.
+// kept: beside `check_each`; without it conversions take 1.40 and 1.60 times as long (no cap; adders, random).
 fn sound_by(
     n: usize,
     cbits: usize,
@@ -183,24 +175,19 @@ fn sound_by(
     requires { (cbits ≤ 64 * length taken.old) × Marks [] taken.old }
     ensures { result ≡ true → AllPass n cbits limits.now above.now gates.now }
 {
-    let count = gates.len() / 4;
-    let mut i: usize = 0;
-    while i < count {
-        let number = number_at(gates, i);
-        if 20 < number {
+    for words in gates.as_chunks::<4>().0 {
+        let [number, a, b, _] = *words;
+        let kind = number as usize;
+        if 20 < kind {
             return false;
         }
-        let a = operand_at(gates, i, 1);
-        let b = operand_at(gates, i, 2);
-        let c = operand_at(gates, i, 3);
-        if is_sound(n, number, limits[number], above[number], a, b, c) {
-            i += 1;
+        if is_sound(n, limits[kind], above[kind], words) {
             continue;
         }
-        if !take_target(taken, n, cbits, number == 12, a, b) {
+        // kept: a match on the kind is a jump a record (docs/DECISIONS.md, "Sums first").
+        if number != 12 || !take_target(taken, n, cbits, a as usize, b as usize) {
             return false;
         }
-        i += 1;
     }
     true
 }
@@ -210,8 +197,8 @@ fn all_sound(n: u32, cbits: u32, gates: &[u32]) -> bool
     requires { cbits ≤ max_cbits }
     ensures { result ≡ true → ((checked : Checked) → records_checked checked n cbits 0 [] (records gates.now) ≡ checked) }
 {
-    let limits = bounds(n as u64);
-    let above = apart();
+    let limits = entries(n as u64, 0);
+    let above = entries(0, 4294967296);
     if cbits <= FEW_CBITS {
         let mut few = [0u64; FEW_TARGET_WORDS];
         return sound_by(n as usize, cbits as usize, &limits, &above, gates, &mut few);
@@ -221,25 +208,13 @@ fn all_sound(n: u32, cbits: u32, gates: &[u32]) -> bool
 }
 
 // Every gate of the list, the first faulty one deciding.
+// kept: beside `sound_by`, which says nothing of the fault.
 fn check_each(n: u32, cbits: u32, gates: &[u32], taken: &mut [u64]) -> Result<(), PbcError>
     requires { (cbits ≤ 64 * length taken.old) × Marks [] taken.old }
     ensures { result ≡ records_checked Fine n cbits 0 [] (records gates.now) }
 {
-    let count = gates.len() / 4;
-    let mut i: usize = 0;
-    while i < count {
-        check_record(
-            Ok(()),
-            n,
-            cbits,
-            i as u64,
-            gates[4 * i],
-            gates[4 * i + 1],
-            gates[4 * i + 2],
-            gates[4 * i + 3],
-            taken,
-        )?;
-        i += 1;
+    for (i, words) in gates.as_chunks::<4>().0.iter().enumerate() {
+        check_record(n, cbits, i as u64, words, taken)?;
     }
     Ok(())
 }
@@ -257,61 +232,42 @@ fn check_records(n: u32, cbits: u32, gates: &[u32]) -> Result<(), PbcError>
 }
 
 // Cap 0.
-fn cap_too_small(cap: Cap) -> bool
+fn cap_too_small(cap: Option<u32>) -> bool
     ensures { result ≡ cap_too_small cap }
 {
-    match cap {
-        Cap::None => false,
-        Cap::AtMost(most) => most == 0,
-    }
+    cap == Some(0)
 }
 
 // L, the words of a part.
 pub(crate) fn part_words(n: u32) -> usize
     ensures { result ≡ part_words n }
 {
-    let words = ((n as usize) + 63) / 64;
-    if words == 0 {
-        return 1;
-    }
-    words
+    (n as usize).div_ceil(64).max(1)
 }
 
 // Fewer than 4nL plane words under a cap.
-fn planes_too_few(cap: Cap, n: u32, planes: usize) -> bool
+fn planes_too_few(cap: Option<u32>, n: u32, planes: usize) -> bool
     ensures { result ≡ planes_too_few cap n planes }
 {
-    match cap {
-        Cap::None => false,
-        Cap::AtMost(_) => planes < 4 * (n as usize) * part_words(n),
-    }
-}
-
-fn least(a: usize, b: usize) -> usize
-    ensures { result ≡ min a b }
-{
-    if a < b {
-        return a;
-    }
-    b
+    cap.is_some() && planes < 4 * (n as usize) * part_words(n)
 }
 
 // A conversion up to its planes: 1, 2, then gate by gate, then 11, 12.
 pub(crate) fn check_gates(
     qubits: u32,
     cbits: u32,
-    cap: Cap,
+    cap: Option<u32>,
     gates: &[u32],
     planes: usize,
 ) -> Result<(), PbcError>
     ensures { result ≡ gates_checked limits qubits cbits cap gates.now planes }
 {
     refuse_if(
-        (MAX_QUBITS < qubits) | (MAX_CBITS < cbits),
+        MAX_QUBITS < qubits || MAX_CBITS < cbits,
         PbcError::TooManyQubits,
     )?;
     refuse_if(
-        !(gates.len() % 4 == 0) | (MAX_GATE_WORDS < gates.len()),
+        gates.len() % 4 != 0 || MAX_GATE_WORDS < gates.len(),
         PbcError::BrokenGateList,
     )?;
     check_records(qubits, cbits, gates)?;
@@ -319,40 +275,41 @@ pub(crate) fn check_gates(
     refuse_if(planes_too_few(cap, qubits, planes), PbcError::NoPlanes)
 }
 
+/// The words lent for a circuit.
+#[derive(Clone, Copy, Debug, PartialEq, Eq)]
+pub(crate) struct Lent {
+    pub(crate) frame: usize,
+    pub(crate) nodes: usize,
+    pub(crate) operations: usize,
+}
+
 // The needs of a conversion: 13, 14, 15.
-pub(crate) fn check_room(
-    needed: u32,
-    written: u32,
-    qubits: u32,
-    frame: usize,
-    nodes: usize,
-    operations: usize,
-) -> Result<(), PbcError>
-    ensures { result ≡ room_checked limits Fine needed written qubits frame nodes operations }
+pub(crate) fn check_room(needed: u32, written: u32, qubits: u32, lent: Lent) -> Result<(), PbcError>
+    ensures { result ≡ room_checked limits Fine needed written qubits lent.frame lent.nodes lent.operations }
 {
-    refuse_if(frame < 2 * (qubits as usize), PbcError::NoFrame)?;
+    refuse_if(lent.frame < 2 * (qubits as usize), PbcError::NoFrame)?;
     refuse_if(
-        (MAX_NODES < needed) | (nodes / NODE_WORDS < (needed as usize)),
+        MAX_NODES < needed || lent.nodes / NODE_WORDS < (needed as usize),
         PbcError::NoNodes,
     )?;
     refuse_if(
-        (MAX_OPERATIONS < written) | (operations / OPERATION_WORDS < (written as usize)),
+        MAX_OPERATIONS < written || lent.operations / OPERATION_WORDS < (written as usize),
         PbcError::NoOperations,
     )
 }
 
-// Whether one of the first words that are lent names an unused node.
-fn names_unused(used: u32, frame: &[u32], words: usize) -> bool
-    ensures { result ≡ names_unused used (take words frame.now) }
+// The first words, all of them if there are fewer.
+fn first(words: &[u32], count: usize) -> &[u32]
+    ensures { result.now ≡ take count words.now }
 {
-    let count = least(words, frame.len());
-    let mut found = false;
-    let mut i: usize = 0;
-    while i < count {
-        found = found | (used <= frame[i] / 4);
-        i += 1;
-    }
-    found
+    words.get(..count).unwrap_or(words)
+}
+
+// Whether one of the words names an unused node.
+fn any_unused(used: u32, words: &[u32]) -> bool
+    ensures { result ≡ list_any (λ w. leb used (w / 4)) words.now }
+{
+    words.iter().any(|&w| used <= w / 4)
 }
 
 // A frame gate: 3, 6, 7, 8, 13, 14.
@@ -368,16 +325,16 @@ pub(crate) fn check_clifford(
 {
     let gate = GateKind::of(kind);
     let words = 2 * (header.qubits as usize);
-    let unused = names_unused(header.nodes, frame, words);
+    let unused = any_unused(header.nodes, first(frame, words));
     refuse_if(
-        header.breaks_limit() | header.exceeds_nodes(nodes) | unused,
+        header.breaks_limit() || header.exceeds_nodes(nodes) || unused,
         PbcError::BadStore,
     )?;
     refuse_if(
         !gate.is_frame(),
         PbcError::NonCliffordFrameGate { kind: kind as u64 },
     )?;
-    check_qubits(Ok(()), header.qubits, 0, gate, a, b, 0)?;
+    check_qubits(header.qubits, 0, gate, a, b, 0)?;
     refuse_if(frame.len() < words, PbcError::NoFrame)?;
     refuse_if(
         header.no_node_room(nodes, gate.frame_nodes()),

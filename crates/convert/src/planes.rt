@@ -2,17 +2,15 @@
 //! What the words stand for: specs/Planes.antt; what each loop does to them: specs/Code/RawPlanes.antt.
 
 ghost use Rattle.std.specs.Prelude.{◌≡◌, false, cond, List, ◌++◌, ℕ, ◌+◌, ◌-◌, ◌*◌, ◌/◌, ◌<◌, ◌≤◌, ◌^◌, length, get_or, nat_lt};
-ghost use Rattle.pauli.specs.Gates.{AllValid, gate_h, gate_s};
 ghost use Rattle.pauli.specs.Rows.{Row};
 ghost use Rattle.convert.specs.Records.{AtMost, lower_as, AllProper};
 ghost use Rattle.arena.specs.Limits.{max_qubits};
 ghost use Rattle.convert.specs.Planes.{part_words, packed};
-ghost use Rattle.convert.specs.Code.Raw.{record_gates, tests_of, any_exceeds, refreshed, Decided};
-ghost use Rattle.convert.specs.Code.Tables.{form_of, pair_gate};
-ghost use Rattle.convert.specs.Code.RawPlanes.{Wide, plane_run, xor_to, swap_to, joint_to, product_to, any_of, union_to, plane_step, plane_reset, clear_to, mark_at, Restored, Since, seven_above};
+ghost use Rattle.convert.specs.Code.Raw.{any_exceeds, refreshed, Decided};
+ghost use Rattle.convert.specs.Code.RawPlanes.{Wide, xor_to, swap_to, joint_to, product_to, any_of, union_to, plane_reset, clear_to, mark_at, Restored, Since, seven_above};
 
-use crate::form::{CCZ, CZ, H, LONE, PAIR, PHASE, SIGNS, WRITES, place_if};
-use crate::gate::{GateKind, operand_at};
+use crate::gate::{Gate, GateKind, gate_at};
+use crate::lowered::FrameGates;
 
 // The words at a place take up those at another.
 fn xor_words(words: &mut [u64], target: usize, source: usize, count: usize)
@@ -85,6 +83,7 @@ pub(crate) struct Planes<'a> {
 
 impl Planes<'_> {
     // One image takes up another.
+    // kept: a `&mut self` method says itself that it lends the same words and keeps both sizes: a ghost field speaks of one value, not of before and after.
     fn xor_into(&mut self, target: usize, source: usize)
         requires images { (target < self.old.qubits + self.old.qubits) × (source < self.old.qubits + self.old.qubits) }
         ensures after { self.new.words.now ≡ xor_to self.old.words.now (target * (self.old.width + self.old.width)) (source * (self.old.width + self.old.width)) (self.old.width + self.old.width) }
@@ -97,6 +96,7 @@ impl Planes<'_> {
         xor_words(self.words, t, s, stride);
     }
 
+    // kept: as `xor_into`.
     fn exchange(&mut self, one: usize, other: usize)
         requires images { (one < self.old.qubits + self.old.qubits) × (other < self.old.qubits + self.old.qubits) }
         ensures after { self.new.words.now ≡ swap_to self.old.words.now (one * (self.old.width + self.old.width)) (other * (self.old.width + self.old.width)) (self.old.width + self.old.width) }
@@ -110,6 +110,7 @@ impl Planes<'_> {
     }
 
     // The weight of the product of some images.
+    // kept: beside `weigh_union`, which is an or: that test first saves up to a fifth of the instructions under a cap (random lists 1.10 to 1.20 times without it).
     fn weigh(&self, images: &[usize]) -> u32
         requires { (i : ℕ) → i < length images.now → get_or images.now i 0 < self.now.qubits + self.now.qubits }
         ensures { result ≡ product_to self.now.words.now self.now.width images.now self.now.width }
@@ -125,6 +126,7 @@ impl Planes<'_> {
     }
 
     // The qubits on which one of three images has a letter: no product of them weighs more.
+    // kept: as `weigh`.
     fn weigh_union(&self, a: usize, b: usize, d: usize) -> u32
         requires { (a < self.now.qubits + self.now.qubits) × (b < self.now.qubits + self.now.qubits) × (d < self.now.qubits + self.now.qubits) }
         ensures { result ≡ union_to self.now.words.now self.now.width (a * (self.now.width + self.now.width)) (b * (self.now.width + self.now.width)) (d * (self.now.width + self.now.width)) self.now.width }
@@ -133,37 +135,8 @@ impl Planes<'_> {
         union_of(self.words, self.width, a * stride, b * stride, d * stride)
     }
 
-    fn h(&mut self, q: usize)
-        requires qubit { q < self.old.qubits }
-        ensures after { self.new.words.now ≡ plane_step self.old.width (gate_h q) self.old.words.now }
-        ensures lent { self.new.words.ghost_name ≡ self.old.words.ghost_name }
-        ensures same { (self.new.qubits ≡ self.old.qubits) × (self.new.width ≡ self.old.width) }
-    {
-        self.exchange(q + q, q + q + 1);
-    }
-
-    // s and sdg
-    fn s(&mut self, q: usize)
-        requires qubit { q < self.old.qubits }
-        ensures after { self.new.words.now ≡ plane_step self.old.width (gate_s q) self.old.words.now }
-        ensures lent { self.new.words.ghost_name ≡ self.old.words.ghost_name }
-        ensures same { (self.new.qubits ≡ self.old.qubits) × (self.new.width ≡ self.old.width) }
-    {
-        self.xor_into(q + q, q + q + 1);
-    }
-
-    // cnot or cz: with cz the z image of t stands for the x image, and back.
-    fn pair(&mut self, cz: bool, c: usize, t: usize)
-        requires qubits { (c < self.old.qubits) × (t < self.old.qubits) }
-        ensures after { self.new.words.now ≡ plane_step self.old.width (pair_gate cz c t) self.old.words.now }
-        ensures lent { self.new.words.ghost_name ≡ self.old.words.ghost_name }
-        ensures same { (self.new.qubits ≡ self.old.qubits) × (self.new.width ≡ self.old.width) }
-    {
-        self.xor_into(c + c, place_if(cz, t + t + 1, t + t));
-        self.xor_into(place_if(cz, t + t, t + t + 1), c + c + 1);
-    }
-
     // X and Z of qubit q.
+    // kept: as `xor_into`.
     fn mark(&mut self, q: usize)
         requires qubit { q < self.old.qubits }
         ensures after { self.new.words.now ≡ mark_at self.old.words.now self.old.width q }
@@ -174,6 +147,7 @@ impl Planes<'_> {
     }
 
     // All planes as at the start.
+    // kept: as `xor_into`.
     pub(crate) fn reset(&mut self)
         ensures after { self.new.words.now ≡ plane_reset self.old.qubits self.old.width self.old.words.now }
         ensures lent { self.new.words.ghost_name ≡ self.old.words.ghost_name }
@@ -183,6 +157,7 @@ impl Planes<'_> {
     }
 
     // The images of a qubit as at the start, if it is below n.
+    // kept: as `xor_into`.
     fn restore(&mut self, q: usize)
         ensures after { Restored self.old.qubits self.old.width q self.old.words.now self.new.words.now }
         ensures lent { self.new.words.ghost_name ≡ self.old.words.ghost_name }
@@ -198,6 +173,7 @@ impl Planes<'_> {
 
     // All planes as at the start, where only the records from one to another may have changed them. Not every second operand is a qubit of the gate:
     // to restore one too many changes nothing.
+    // kept: as `xor_into`.
     fn restore_since(&mut self, gates: &[u32], from: usize, to: usize)
         requires from_le_to { (from ≤ to) × (to ≤ length gates.now / 4) }
         requires since { Since self.old.qubits self.old.width self.old.words.now gates.now from (to - from) }
@@ -206,8 +182,9 @@ impl Planes<'_> {
         ensures same { (self.new.qubits ≡ self.old.qubits) × (self.new.width ≡ self.old.width) }
     {
         for i in from..to {
-            self.restore(operand_at(gates, i, 1));
-            self.restore(operand_at(gates, i, 2));
+            let gate = gate_at(gates, i);
+            self.restore(gate.a);
+            self.restore(gate.b);
         }
     }
 
@@ -229,105 +206,22 @@ impl Planes<'_> {
     }
 
     // Whether what is tested before a gate weighs more than the cap.
-    fn heavy(&self, cap: u32, kind: GateKind, a: usize, b: usize, d: usize) -> bool
-        requires all_proper { AllProper self.now.qubits (b + 1) (lower_as kind a b d) }
-        ensures { (t : List Row) (rest : List ℕ) → Wide self.now.qubits t → self.now.words.now ≡ packed self.now.qubits t ++ rest → result ≡ any_exceeds self.now.qubits (AtMost cap) t (lower_as kind a b d) }
+    // kept: that its operands are among n qubits is a fact of the gate and of n, which `Gate` does not hold.
+    #[inline(always)]
+    fn heavy(&self, cap: u32, gate: Gate) -> bool
+        requires all_proper { AllProper self.now.qubits (gate.b + 1) (lower_as gate.kind gate.a gate.b gate.d) }
+        ensures { (t : List Row) (rest : List ℕ) → Wide self.now.qubits t → self.now.words.now ≡ packed self.now.qubits t ++ rest → result ≡ any_exceeds self.now.qubits (AtMost cap) t (lower_as gate.kind gate.a gate.b gate.d) }
     {
-        let k = kind.tests();
-        if k == 0 {
-            return false;
-        }
-        if k == 1 {
-            let w = self.weigh(&[a + a + 1]);
-            return cap < w;
-        }
-        if k == 2 {
-            return self.seven(cap, a + a + 1, b + b + 1, d + d);
-        }
-        self.seven(cap, a + a + 1, b + b + 1, d + d + 1)
-    }
-
-    // The same by the record's form, where something is tested: no jump.
-    fn heavy_by(&self, cap: u32, form: u64, kind: GateKind, a: usize, b: usize, d: usize) -> bool
-        requires all_proper { AllProper self.now.qubits (b + 1) (lower_as kind a b d) }
-        requires form_value { (form ≡ form_of kind) × (tests_of kind ≡ 0 → ⊥) }
-        ensures { (t : List Row) (rest : List ℕ) → Wide self.now.qubits t → self.now.words.now ≡ packed self.now.qubits t ++ rest → result ≡ any_exceeds self.now.qubits (AtMost cap) t (lower_as kind a b d) }
-    {
-        if form & LONE != 0 {
-            return cap < self.weigh(&[a + a + 1]);
-        }
-        let third = place_if(form & CCZ != 0, d + d + 1, d + d);
-        self.seven(cap, a + a + 1, b + b + 1, third)
-    }
-
-    // The frame gates of a record.
-    fn record(&mut self, kind: GateKind, a: usize, b: usize)
-        requires all_valid { AllValid self.old.qubits (record_gates kind a b) }
-        ensures after { self.new.words.now ≡ plane_run self.old.width (record_gates kind a b) self.old.words.now }
-        ensures lent { self.new.words.ghost_name ≡ self.old.words.ghost_name }
-        ensures same { (self.new.qubits ≡ self.old.qubits) × (self.new.width ≡ self.old.width) }
-    {
+        let Gate { kind, a, b, d } = gate;
         match kind {
-            GateKind::H => {
-                self.h(a);
-            }
-            GateKind::S => {
-                self.s(a);
-            }
-            GateKind::Sdg => {
-                self.s(a);
-            }
-            GateKind::Cnot => {
-                self.pair(false, a, b);
-            }
-            GateKind::Cz => {
-                self.pair(true, a, b);
-            }
-            GateKind::Sx => {
-                self.h(a);
-                self.s(a);
-                self.h(a);
-            }
-            GateKind::Swap => {
-                self.pair(false, a, b);
-                self.pair(false, b, a);
-                self.pair(false, a, b);
-            }
-            GateKind::Cy => {
-                self.s(b);
-                self.pair(false, a, b);
-                self.s(b);
-            }
-            _ => {}
+            GateKind::T | GateKind::Tdg | GateKind::Measure => self.exceeds(cap, &[a + a + 1]),
+            GateKind::Ccx => self.seven(cap, a + a + 1, b + b + 1, d + d),
+            GateKind::Ccz => self.seven(cap, a + a + 1, b + b + 1, d + d + 1),
+            _ => false,
         }
     }
 
-    // The same by its form: no jump.
-    fn by_form(&mut self, form: u64, kind: GateKind, a: usize, b: usize)
-        requires all_valid { AllValid self.old.qubits (record_gates kind a b) }
-        requires form_value { form ≡ form_of kind }
-        ensures after { self.new.words.now ≡ plane_run self.old.width (record_gates kind a b) self.old.words.now }
-        ensures lent { self.new.words.ghost_name ≡ self.old.words.ghost_name }
-        ensures same { (self.new.qubits ≡ self.old.qubits) × (self.new.width ≡ self.old.width) }
-    {
-        if form & PAIR != 0 {
-            self.pair(form & CZ != 0, a, b);
-            return;
-        }
-        if form & H != 0 {
-            self.h(a);
-            return;
-        }
-        if form & PHASE != 0 {
-            self.s(a);
-            return;
-        }
-        if form & SIGNS != 0 {
-            return;
-        }
-        self.record(kind, a, b);
-    }
-
+    // kept: as `xor_into`.
     fn refresh(&mut self, flushed: bool)
         ensures after { self.new.words.now ≡ refreshed flushed self.old.qubits self.old.width self.old.words.now }
         ensures lent { self.new.words.ghost_name ≡ self.old.words.ghost_name }
@@ -340,23 +234,25 @@ impl Planes<'_> {
     }
 
     // Whether a flush comes before this record; the planes go past it. A record is tested or has frame gates, never both.
-    pub(crate) fn decide(&mut self, most: u32, kind: GateKind, a: usize, b: usize, d: usize) -> bool
-        requires all_proper { AllProper self.old.qubits (b + 1) (lower_as kind a b d) }
-        ensures after { Decided self.old.qubits (AtMost most) kind a b d self.old.words.now result self.new.words.now }
+    // kept: as `xor_into`.
+    pub(crate) fn decide(&mut self, most: u32, gate: Gate) -> bool
+        requires all_proper { AllProper self.old.qubits (gate.b + 1) (lower_as gate.kind gate.a gate.b gate.d) }
+        ensures after { Decided self.old.qubits (AtMost most) gate.kind gate.a gate.b gate.d self.old.words.now result self.new.words.now }
         ensures lent { self.new.words.ghost_name ≡ self.old.words.ghost_name }
         ensures same { (self.new.qubits ≡ self.old.qubits) × (self.new.width ≡ self.old.width) }
     {
-        if kind.tests() == 0 {
-            self.record(kind, a, b);
+        if gate.kind.tests() == 0 {
+            self.record(gate.kind, gate.a, gate.b);
             return false;
         }
-        let flushed = self.heavy(most, kind, a, b, d);
+        let flushed = self.heavy(most, gate);
         self.refresh(flushed);
         flushed
     }
 
     // A refresh where, without a narrow cap, only the records from one to another may have changed the planes: where they are few, only what they touch is
     // restored.
+    // kept: as `xor_into`.
     fn refresh_since(&mut self, flushed: bool, narrow: bool, gates: &[u32], from: usize, to: usize)
         requires from_le_to { (narrow ≡ false → from ≤ to) × (to ≤ length gates.now / 4) }
         requires since { narrow ≡ false → Since self.old.qubits self.old.width self.old.words.now gates.now from (to - from) }
@@ -378,37 +274,77 @@ impl Planes<'_> {
         self.restore_since(gates, from, to);
     }
 
-    // The same decision by the form of record `to`, where the last flush came before record `from`: no jump.
-    pub(crate) fn decide_by(
+    // The same decision about record `to`, where the last flush came before record `from`.
+    // kept: as `xor_into`.
+    #[inline(always)]
+    pub(crate) fn decide_since(
         &mut self,
         most: u32,
-        form: u64,
-        kind: GateKind,
-        a: usize,
-        b: usize,
-        d: usize,
+        gate: Gate,
         narrow: bool,
         gates: &[u32],
         from: usize,
         to: usize,
     ) -> bool
-        requires all_proper { AllProper self.old.qubits (b + 1) (lower_as kind a b d) }
-        requires form_value { form ≡ form_of kind }
-        requires from_le_to { (narrow ≡ false → from ≤ to) × (to < length gates.now / 4) × (narrow ≡ false → (a ≡ get_or gates.now (4 * to + 1) 0) × (b ≡ get_or gates.now (4 * to + 2) 0)) }
+        requires all_proper { AllProper self.old.qubits (gate.b + 1) (lower_as gate.kind gate.a gate.b gate.d) }
+        requires from_le_to { (narrow ≡ false → from ≤ to) × (to < length gates.now / 4) × (narrow ≡ false → (gate.a ≡ get_or gates.now (4 * to + 1) 0) × (gate.b ≡ get_or gates.now (4 * to + 2) 0)) }
         requires since { narrow ≡ false → Since self.old.qubits self.old.width self.old.words.now gates.now from (to - from) }
-        ensures decided { Decided self.old.qubits (AtMost most) kind a b d self.old.words.now result self.new.words.now }
+        ensures decided { Decided self.old.qubits (AtMost most) gate.kind gate.a gate.b gate.d self.old.words.now result self.new.words.now }
         ensures since_2 { narrow ≡ false → Since self.old.qubits self.old.width self.new.words.now gates.now (cond result to from) (to + 1 - cond result to from) }
         ensures lent { self.new.words.ghost_name ≡ self.old.words.ghost_name }
         ensures same { (self.new.qubits ≡ self.old.qubits) × (self.new.width ≡ self.old.width) }
     {
-        if form & WRITES == 0 {
-            self.by_form(form, kind, a, b);
+        if gate.kind.tests() == 0 {
+            self.record(gate.kind, gate.a, gate.b);
             return false;
         }
-        let flushed = self.heavy_by(most, form, kind, a, b, d);
+        let flushed = self.heavy(most, gate);
         self.refresh_since(flushed, narrow, gates, from, to);
         flushed
     }
+}
+
+// The words of a gate's images alone; signs have none.
+impl FrameGates for Planes<'_> {
+    ghost use Rattle.convert.specs.Code.PlaneGates.{PlanesReady, PlanesDone, planes_head, planes_tail, planes_none, planes_more};
+
+    ghost Ready = { PlanesReady };
+
+    ghost Done = { PlanesDone };
+
+    fn h(&mut self, q: usize) {
+        self.exchange(q + q, q + q + 1);
+    }
+
+    fn x(&mut self, q: usize) {}
+
+    fn z(&mut self, q: usize) {}
+
+    fn s(&mut self, q: usize) {
+        self.xor_into(q + q, q + q + 1);
+    }
+
+    fn sdg(&mut self, q: usize) {
+        self.xor_into(q + q, q + q + 1);
+    }
+
+    fn cnot(&mut self, c: usize, t: usize) {
+        self.xor_into(c + c, t + t);
+        self.xor_into(t + t + 1, c + c + 1);
+    }
+
+    fn cz(&mut self, c: usize, t: usize) {
+        self.xor_into(c + c, t + t + 1);
+        self.xor_into(t + t, c + c + 1);
+    }
+
+    ghost head = { planes_head };
+
+    ghost tail = { planes_tail };
+
+    ghost none = { planes_none };
+
+    ghost more = { planes_more };
 }
 
 // The weight of the product of some images.
@@ -433,9 +369,9 @@ fn union_of(words: &[u64], l: usize, one: usize, two: usize, three: usize) -> u3
 {
     let mut sum: u32 = 0;
     for k in 0..l {
-        let x = any_of(words, one, two, three, k);
-        let z = any_of(words, one, two, three, l + k);
-        sum += u64::count_ones(x | z);
+        let any_x = any_of(words, one, two, three, k);
+        let any_z = any_of(words, one, two, three, l + k);
+        sum += u64::count_ones(any_x | any_z);
     }
     sum
 }

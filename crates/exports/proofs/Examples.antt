@@ -27,10 +27,10 @@ use Rattle.qasm.specs.Reading.{take_end, take_one, take_two, take_three, take_me
 use Rattle.qasm.specs.Answers.{answer_of, left_in}
 use Rattle.qasm.specs.Position.{position_in}
 use Rattle.exports.specs.Words.{field_in, header_in, letter_in, angle_in, target_in, too_short, number_in, header_left, answer_left, returned}
-use Rattle.exports.specs.Exports.{created_reply, singled_reply, multiplied_reply, pushed_reply, measured_reply, headed, lent_words}
+use Rattle.exports.specs.Exports.{header_reply, singled_reply, multiplied_reply, measured_reply, headed, lent_words}
 use Rattle.exports.specs.Exports.{new_call, single_call, product_call, rotate_call, measure_call, conditional_call, times_number}
 use Rattle.exports.specs.Readers.{expanded_reply, hermitian_reply, weights_reply, axes_reply, expand_words, walk_words, axes_words, expand_call, hermitian_call, weights_call, expand_axes_call}
-use Rattle.exports.specs.Conversion.{frame_pushed_reply, converted_reply, cap_in, clifford_call, convert_words, convert_call}
+use Rattle.exports.specs.Conversion.{cap_in, clifford_call, convert_words, convert_call}
 use Rattle.exports.specs.Texts.{program_reply, read_qasm_call, position_reply, text_position_call}
 
 -- a header of two qubits, three classical bits, owner 7, six nodes, two operations and one measurement, and a word more; five words for the answer
@@ -40,9 +40,9 @@ unfolding power flush_from start step ◌⟫◌⇒◌ decode node_at values imag
     expand_step hermitian_check hermitian_step report_check report_step records kind_of lower_as lower lower_from parts_of lower_in lower_all plain_begin tested exceeds flushed perform_as plain_step plain_run
     rows_after table_run start_arena pushed multiplied frame_step qubits_of operands_checked frame_gates frame_run clifford_check clifford_step start_words flush_gate flush_gates flush_words
     write_seven write word_step word_run mask digits row_words rows_words images packed gates_in plain_end table_end word_end record_checked records_checked gates_check gates_checked room_checked
-    convert_check convert_within convert_step field_in header_in letter_in angle_in target_in too_short number_in header_left answer_left created_reply singled_reply multiplied_reply pushed_reply
+    convert_check convert_within convert_step field_in header_in letter_in angle_in target_in too_short number_in header_left answer_left header_reply singled_reply multiplied_reply
     measured_reply new_call single_call product_call rotate_call measure_call conditional_call times_number expanded_reply hermitian_reply weights_reply expand_call hermitian_call weights_call
-    axes_walk axes_check axes_step axes_reply expand_axes_call frame_pushed_reply converted_reply cap_in clifford_call convert_call
+    axes_walk axes_check axes_step axes_reply expand_axes_call cap_in clifford_call convert_call
 header = 2 ∷ 3 ∷ 7 ∷ 6 ∷ 2 ∷ 1 ∷ 9 ∷ []
 
 abbrev answer : List ℕ

@@ -1,4 +1,5 @@
 -- What a function for C returns and leaves, from what it has written.
+-- kept: laws that docs/PROVING.md named when the design pass began; the check finds what functions need of them.
 use mathlib.Core.Path.{◌≡◌}
 use mathlib.Core.List.{List}
 use Prim.Native.Nat.{ℕ}

@@ -3,17 +3,13 @@ use Rattle.std.specs.Prelude.{cond, List, ℕ, ltb}
 use Rattle.arena.specs.Builder.{Step, NodesAndFrame}
 use Rattle.convert.specs.Frame.{clifford_step}
 use Rattle.convert.specs.Conversion.{Input, input_of, ConvertStep, convert_step}
-use Rattle.exports.specs.Types.{FramePushed, FramePushedMade, FramePushedRefused, Converted, ConvertedMade, ConvertedRefused, Cap, NoCap, AtMost}
-use Rattle.exports.specs.Words.{header_in, Reply, Accepted, Refused, Returned}
-use Rattle.exports.specs.Exports.{Headed, lent_words, exported}
-
-unfoldable pub frame_pushed_reply : FramePushed → Reply
-frame_pushed_reply (FramePushedMade h) = Accepted h 0 0 0
-frame_pushed_reply (FramePushedRefused e) = Refused e
+use Rattle.exports.specs.Types.{Converted, Cap, NoCap, AtMost}
+use Rattle.exports.specs.Words.{header_in, Returned}
+use Rattle.exports.specs.Exports.{header_reply, Headed, lent_words, exported}
 
 unfoldable pub clifford_call : (header nodes frame : List ℕ) → (kind a b : ℕ) → (answer : List ℕ) → Returned (Headed NodesAndFrame)
 clifford_call header nodes frame kind a b answer =
-    exported header answer (lent_words nodes frame) frame_pushed_reply
+    exported header answer (lent_words nodes frame) header_reply
     (clifford_step (header_in header) nodes frame kind a b)
 
 -- ---- conversion
@@ -21,10 +17,6 @@ clifford_call header nodes frame kind a b answer =
 -- a number that does not fit into 32 bits is no cap
 unfoldable pub cap_in : ℕ → Cap
 cap_in n = cond (ltb n 4294967296) (AtMost n) NoCap
-
-unfoldable pub converted_reply : Converted → Reply
-converted_reply (ConvertedMade h) = Accepted h 0 0 0
-converted_reply (ConvertedRefused e) = Refused e
 
 -- the words that a conversion may write
 pub record ConvertLent : Type 0 where
@@ -44,5 +36,5 @@ input_in qubits cbits owner cap gates nodes operations frame planes = input_of q
 
 unfoldable pub convert_call : (qubits cbits owner cap : ℕ) → (gates nodes operations frame planes header answer : List ℕ) → Returned (Headed ConvertLent)
 convert_call qubits cbits owner cap gates nodes operations frame planes header answer =
-    exported header answer (convert_words nodes operations frame planes) converted_reply
+    exported header answer (convert_words nodes operations frame planes) header_reply
     (convert_left (convert_step (input_in qubits cbits owner cap gates nodes operations frame planes)))

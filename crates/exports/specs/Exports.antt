@@ -1,33 +1,28 @@
 -- What each function for C returns, and what it leaves in the slices lent: accepted, refused, or lent too few words.
-use Rattle.std.specs.Prelude.{List, ℕ, ◌+◌, ◌*◌, ◌%◌, ℤ, length}
+use Rattle.std.specs.Prelude.{List, ℕ, ◌+◌, ◌*◌, ◌%◌, ℤ, length, Result, Ok, Err}
 use Rattle.pauli.specs.Letters.{number_product}
 use Rattle.arena.specs.Operations.{meas_id}
 use Rattle.arena.specs.Builder.{Step, NodesAndFrame, new_step, single_step, product_step, rotate_step, measure_step, conditional_step}
-use Rattle.exports.specs.Types.{Created, CreatedMade, CreatedRefused, Singled, SingledMade, SingledRefused, Multiplied, MultipliedMade, MultipliedRefused}
-use Rattle.exports.specs.Types.{Pushed, PushedMade, PushedRefused, Measured, MeasuredMade, MeasuredRefused}
+use Rattle.exports.specs.Types.{Header, PauliAxis, PauliRef, MeasId, PbcError}
 use Rattle.exports.specs.Words.{header_in, handle_in, handle_axis, letter_in, angle_in, target_in, too_short, Reply, Accepted, Refused, header_left, Returned, replied}
 
 -- ---- replies: the header and up to three values, or a refusal
 
-unfoldable pub created_reply : Created → Reply
-created_reply (CreatedMade h) = Accepted h 0 0 0
-created_reply (CreatedRefused e) = Refused e
+unfoldable pub header_reply : Result Header PbcError → Reply
+header_reply (Ok h) = Accepted h 0 0 0
+header_reply (Err e) = Refused e
 
-unfoldable pub singled_reply : Singled → Reply
-singled_reply (SingledMade h axis) = Accepted h axis.0.word 0 0
-singled_reply (SingledRefused e) = Refused e
+unfoldable pub singled_reply : Result (Header × PauliAxis) PbcError → Reply
+singled_reply (Ok made) = Accepted made.0 made.1.0.word 0 0
+singled_reply (Err e) = Refused e
 
-unfoldable pub multiplied_reply : Multiplied → Reply
-multiplied_reply (MultipliedMade h r) = Accepted h r.word 0 0
-multiplied_reply (MultipliedRefused e) = Refused e
+unfoldable pub multiplied_reply : Result (Header × PauliRef) PbcError → Reply
+multiplied_reply (Ok made) = Accepted made.0 made.1.word 0 0
+multiplied_reply (Err e) = Refused e
 
-unfoldable pub pushed_reply : Pushed → Reply
-pushed_reply (PushedMade h) = Accepted h 0 0 0
-pushed_reply (PushedRefused e) = Refused e
-
-unfoldable pub measured_reply : Measured → Reply
-measured_reply (MeasuredMade h m) = Accepted h m.1 0 0
-measured_reply (MeasuredRefused e) = Refused e
+unfoldable pub measured_reply : Result (Header × MeasId) PbcError → Reply
+measured_reply (Ok made) = Accepted made.0 made.1.1 0 0
+measured_reply (Err e) = Refused e
 
 -- ---- calls that give a header
 
@@ -50,7 +45,7 @@ exported header answer was reply step =
 
 unfoldable pub new_call : (qubits cbits owner : ℕ) → (nodes frame header answer : List ℕ) → Returned (Headed NodesAndFrame)
 new_call qubits cbits owner nodes frame header answer =
-    exported header answer (lent_words nodes frame) created_reply
+    exported header answer (lent_words nodes frame) header_reply
     (new_step qubits cbits owner nodes frame)
 
 unfoldable pub single_call : (header nodes : List ℕ) → (qubit letter : ℕ) → (answer : List ℕ) → Returned (Headed (List ℕ))
@@ -64,7 +59,7 @@ product_call header nodes leftOwner left rightOwner right answer =
 
 unfoldable pub rotate_call : (header operations : List ℕ) → (owner word : ℕ) → (angle : ℤ) → (answer : List ℕ) → Returned (Headed (List ℕ))
 rotate_call header operations owner word angle answer =
-    exported header answer operations pushed_reply
+    exported header answer operations header_reply
     (rotate_step (header_in header) operations (handle_axis owner word) (angle_in angle))
 
 unfoldable pub measure_call : (header operations : List ℕ) → (owner word target : ℕ) → (answer : List ℕ) → Returned (Headed (List ℕ))
@@ -76,7 +71,7 @@ unfoldable pub conditional_call :
     (header operations : List ℕ) → (owner word : ℕ) → (angle : ℤ) → (measurementOwner measurement : ℕ) → (answer : List ℕ)
     → Returned (Headed (List ℕ))
 conditional_call header operations owner word angle measurementOwner measurement answer =
-    exported header answer operations pushed_reply
+    exported header answer operations header_reply
     (conditional_step (header_in header) operations (handle_axis owner word) (angle_in angle) (meas_id measurementOwner measurement))
 
 -- ---- letters: the product of two, as 4 × phase + letter

@@ -1,28 +1,28 @@
 -- What each function that reads a circuit returns, and what it leaves in the slices lent. The header and the nodes are only read.
-use Rattle.std.specs.Prelude.{Bool, cond, List, ℕ, length, Ok}
+use Rattle.std.specs.Prelude.{Bool, cond, List, ℕ, length, Ok, Err}
 use Rattle.pauli.specs.Letters.{phase_number}
 use Rattle.arena.specs.Walk.{Out}
 use Rattle.arena.specs.Expansion.{ExpandStep, WalkStep, AxesStep, expansion_of, hermitian_of, max_weights_of, expanded_axes_of, expand_step, hermitian_step, report_step, kind_report_step, axes_step}
-use Rattle.exports.specs.Types.{Expansion, ExpansionRefused, HermitianAxis, HermitianRefused, MaxAxisWeights, WeightsRefused, ExpandedAxes, AxesMade, AxesRefused}
+use Rattle.exports.specs.Types.{Expansion, HermitianAxis, MaxAxisWeights, ExpandedAxes}
 use Rattle.exports.specs.Words.{header_in, handle_in, too_short, Reply, Values, Refused, Returned, replied}
 
 -- ---- replies: phase, work and 1 if the two factors commute; word and work; two weights and work; the work
 
 unfoldable pub expanded_reply : Expansion → Reply
 expanded_reply (Ok made) = Values (phase_number made.phase) made.work (cond made.commute 1 0)
-expanded_reply (ExpansionRefused e) = Refused e
+expanded_reply (Err e) = Refused e
 
 unfoldable pub hermitian_reply : HermitianAxis → Reply
 hermitian_reply (Ok made) = Values made.axis.0.word made.work 0
-hermitian_reply (HermitianRefused e) = Refused e
+hermitian_reply (Err e) = Refused e
 
 unfoldable pub weights_reply : MaxAxisWeights → Reply
 weights_reply (Ok made) = Values made.non_clifford made.clifford made.work
-weights_reply (WeightsRefused e) = Refused e
+weights_reply (Err e) = Refused e
 
 unfoldable pub axes_reply : ExpandedAxes → Reply
-axes_reply (AxesMade work) = Values work 0 0
-axes_reply (AxesRefused e) = Refused e
+axes_reply (Ok work) = Values work 0 0
+axes_reply (Err e) = Refused e
 
 -- ---- expand
 

@@ -1,11 +1,26 @@
 -- How the words of a caller stand for a header, a handle, a letter, an angle and a target, and how a reply is written to words.
-use Rattle.std.specs.Prelude.{Bool, true, false, cond, ◌||◌, List, [], ◌∷◌, ℕ, zero, suc, ◌%◌, ℤ, ltb, get_or}
+use Rattle.std.specs.Prelude.{Bool, true, false, cond, ◌||◌, List, [], ◌∷◌, ℕ, zero, suc, ◌%◌, ℤ, ltb, get_or, Result, Ok, Err}
 use Rattle.std.proofs.lemmas.List.Edits.{sets}
 use Rattle.pauli.specs.Angle.{remainder8}
 use Rattle.pauli.specs.Letters.{pauli_of}
 use Rattle.arena.specs.Errors.{refusal_in}
-use Rattle.exports.specs.Types.{Pauli, PauliAngle, Header, PauliRef, PauliAxis, Target, Bit, NoTarget}
-pub use Rattle.exports.specs.declared.words.Reply.TheVariants.{the_data as Reply, Accepted, Values, Refused}
+use Rattle.exports.specs.Types.{Pauli, PauliAngle, Header, PauliRef, PauliAxis, Target, Bit, NoTarget, PbcError}
+
+-- ---- what a call has to say: the new header and up to three values; values alone, where no header changes; or why it was refused
+
+pub data Reply : Type 0 where
+  Accepted : (header : Header) (first second third : ℕ) → Reply
+  Values : (first second third : ℕ) → Reply
+  Refused : (error : PbcError) → Reply
+
+-- the same from an answer of the code: a header and a value, or three values
+unfoldable pub made_reply : Result (Header × ℕ) PbcError → Reply
+made_reply (Ok made) = Accepted made.0 made.1 0 0
+made_reply (Err e) = Refused e
+
+unfoldable pub values_reply : Result (ℕ × ℕ × ℕ) PbcError → Reply
+values_reply (Ok made) = Values made.0 made.1 made.2
+values_reply (Err e) = Refused e
 
 -- ---- what is read
 

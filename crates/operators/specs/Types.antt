@@ -15,5 +15,5 @@ pub use Rattle.arena.specs.Builder.{Pushed, PushedMade, PushedRefused, Measured,
 pub use Rattle.convert.specs.declared.gate.GateKind.TheVariants.{the_data as GateKind, H as KindH, X as KindX, Z as KindZ, S as KindS, Sdg as KindSdg, T as KindT, Tdg as KindTdg}
 pub use Rattle.convert.specs.declared.gate.GateKind.TheVariants.{Cnot as KindCnot, Cz as KindCz, Ccx as KindCcx, Ccz as KindCcz, Measure as KindMeasure, Y as KindY, Sx as KindSx}
 pub use Rattle.convert.specs.declared.gate.GateKind.TheVariants.{Swap as KindSwap, Cy as KindCy, Unsupported}
-pub use Rattle.convert.specs.declared.cap.Cap.TheVariants.{the_data as Cap, None as NoCap}
+pub use Rattle.convert.specs.Records.{Cap, NoCap}
 pub use Rattle.convert.specs.Frame.{FramePushed, FramePushedMade, FramePushedRefused}

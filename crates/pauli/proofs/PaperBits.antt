@@ -1,3 +1,4 @@
+-- kept: claims, which Theorems.antt takes from here as a module
 -- Conjugation by h, s and cnot is what Aaronson and Gottesman's rules do to the bits of a row, and the phase of a product is their g.
 use mathlib.Core.Path.{◌≡◌, refl, ap, ap₂, sym, ◌∙◌}
 use mathlib.Core.Logic.{◌≢◌, Ne-symm}

@@ -1,3 +1,4 @@
+-- kept: claims, which Theorems.antt takes from here as a module
 -- The seven rows of ccx and ccz are the doubly controlled gate: one test over the eight sign patterns.
 use mathlib.Core.Path.{◌≡◌}
 use mathlib.Core.Bool.{Bool, cond, ◌&&◌}

@@ -1,6 +1,6 @@
 -- Letters and phases (document 01, "Phase, letter, angle"): the Pauli matrices of one qubit, and the power of i in front of a product.
 -- They are the enums of src/pauli.rt. Only the phase I has another name here, PlusI, since I is the letter.
-use Rattle.std.specs.Prelude.{Bool, true, false, cond, ℕ, zero, suc, ltb}
+use Rattle.std.specs.Prelude.{Bool, true, false, cond, List, ℕ, zero, suc, ltb, codes}
 pub use Rattle.pauli.specs.declared.pauli.Phase.TheVariants.{the_data as Phase, One, I as PlusI, MinusOne, MinusI}
 pub use Rattle.pauli.specs.declared.pauli.Pauli.TheVariants.{the_data as Pauli, I, X, Y, Z}
 pub use Rattle.std.specs.Prelude.{Option, Some, None}
@@ -89,3 +89,17 @@ pauli_at n = cond (ltb n 4) (Some (pauli_of n)) None
 -- the product of two letters, all by their numbers
 abbrev pub number_product : ℕ → ℕ → NumberProduct
 number_product a b = record { phase = phase_number (phase_of (pauli_of a) (pauli_of b)); pauli = pauli_number (pauli_of a · pauli_of b) }
+
+-- ---- what is printed
+
+abbrev pub phase_text : Phase → List ℕ
+phase_text One = codes "+"
+phase_text PlusI = codes "+i"
+phase_text MinusOne = codes "-"
+phase_text MinusI = codes "-i"
+
+abbrev pub pauli_text : Pauli → List ℕ
+pauli_text I = codes "I"
+pauli_text X = codes "X"
+pauli_text Y = codes "Y"
+pauli_text Z = codes "Z"

@@ -1,6 +1,20 @@
 -- The buffers' lengths, what of them is lent, and work on their words.
-use Rattle.std.specs.Prelude.{ℕ, ◌+◌, Bool, cond, ◌||◌, List, [], ◌∷◌, length, take, drop, nat_le, nat_lt, slice_index}
+use Rattle.std.specs.Prelude.{ℕ, ◌+◌, ◌%◌, Bool, cond, ◌||◌, List, [], ◌∷◌, length, take, drop, replicate, nat_le, nat_lt, slice_index}
+pub use Rattle.pbc.specs.declared.buffers.Buffers.{Buffers}
 pub use Rattle.pbc.specs.declared.buffers.Lends.{Lends}
+
+-- every word of every buffer is the value; the numbers of the line stay
+abbrev pub filled : Buffers → ℕ → Buffers
+filled b value = record {
+  words = b.words;
+  nodes = replicate (length b.nodes) value;
+  operations = replicate (length b.operations) value;
+  frame = replicate (length b.frame) value;
+  planes = replicate (length b.planes) value;
+  scratch = replicate (length b.scratch) value;
+  pool = replicate (length b.pool) value;
+  letters = replicate (length b.letters) (value % 256);
+}
 
 -- every buffer whole
 abbrev pub all_lends : Lends
@@ -33,7 +47,7 @@ lends_exceed l =
     || nat_lt all_lends.scratch l.scratch || nat_lt all_lends.pool l.pool || nat_lt all_lends.letters l.letters
 
 -- so many words from a place on, none if they are not all there
-unfoldable pub part_of : List ℕ → ℕ → ℕ → List ℕ
+unfoldable pub part_of : {A : Type 0} → List A → ℕ → ℕ → List A
 part_of ws from count = cond (nat_le (from + count) (length ws)) (take count (drop from ws)) []
 
 -- the first words of the second list become those of the first, as far as it goes

@@ -1,21 +1,22 @@
--- Names of commands and buffers, as numbers to the base 37: the letters a to z are the digits 1 to 26, the decimal digits 27 to 36.
-use Rattle.std.specs.Prelude.{ℕ, ◌+◌, ◌-◌, ◌*◌, Bool, cond, ◌&&◌, ◌||◌, List, [], ◌∷◌, nat_le, nat_lt}
+-- Names of commands and buffers: lower-case letters and decimal digits, at most twelve.
+use Rattle.std.specs.Prelude.{ℕ, ◌+◌, Bool, cond, ◌&&◌, ◌||◌, List, take, replicate, nat_le, nat_lt, nat_eq, slice_set, Option, Some, None}
+use Rattle.std.specs.Cmp.Lexicographic.{pointwise}
+pub use Rattle.pbc.specs.declared.names.Name.{Name}
 
-abbrev pub no_name : ℕ
-no_name = 18446744073709551615
+abbrev pub no_name : Name
+no_name = record { bytes = replicate 12 0; length = 0 }
 
-unfoldable pub is_letter : ℕ → Bool
-is_letter byte = nat_le 97 byte && nat_le byte 122
+abbrev pub name_bytes : Name → List ℕ
+name_bytes n = take n.length n.bytes
+
+-- a lower-case letter or a decimal digit
+unfoldable pub name_byte : ℕ → Bool
+name_byte byte = (nat_le 97 byte && nat_le byte 122) || (nat_le 48 byte && nat_le byte 57)
 
 -- a name with one byte more: none if the name has twelve bytes already, or the byte is no letter and no digit
-unfoldable pub extended_name : ℕ → ℕ → ℕ
-extended_name name byte =
-    cond (nat_le 177917621779460413 name || nat_lt 122 byte) no_name (cond (nat_le 97 byte) (37 * name + (byte - 96)) (cond (nat_lt 57 byte || nat_lt byte 48) no_name (37 * name + (byte - 21))))
+unfoldable pub extended_name : Name → ℕ → Option Name
+extended_name n byte = cond (nat_lt n.length 12 && name_byte byte) (Some (record { bytes = slice_set n.bytes n.length byte; length = n.length + 1 })) None
 
--- a name with the bytes of a text more
-unfoldable pub extended_by : ℕ → List ℕ → ℕ
-extended_by name [] = name
-extended_by name (byte ∷ text) = extended_by (extended_name name byte) text
-
-abbrev pub number_of : List ℕ → ℕ
-number_of text = extended_by 0 text
+-- whether these are the bytes of a name
+abbrev pub is_name : List ℕ → List ℕ → Bool
+is_name bytes name = pointwise nat_eq bytes name

@@ -1,19 +1,19 @@
 -- The command `qasm`: how a line's hex digits are kept in its words, the text that a line holds, and what is answered.
-use Rattle.std.specs.Prelude.{◌≡◌, ℕ, zero, suc, ◌+◌, ◌-◌, ◌*◌, ◌/◌, ◌%◌, ◌<◌, ◌≤◌, Bool, cond, ◌&&◌, ◌||◌, List, [], ◌∷◌, ◌++◌, length, take, drop, ◌==◌, nat_le, nat_lt, slice_index, slice_index_or, slice_set, Result, Ok, Err}
+use Rattle.std.specs.Prelude.{◌≡◌, ℕ, zero, suc, ◌+◌, ◌-◌, ◌*◌, ◌/◌, ◌%◌, ◌<◌, ◌≤◌, Bool, cond, ◌&&◌, List, [], ◌∷◌, ◌++◌, length, take, drop, ◌==◌, nat_le, nat_lt, slice_index, slice_index_or, slice_set, Option, Some, None, Result, Ok, Err}
 use Rattle.qasm.specs.Reading.{reading}
 use Rattle.qasm.specs.declared.program.Program.{Program}
 use Rattle.qasm.specs.Answers.{answer_of, left_in}
-use Rattle.pbc.specs.Names.{number_of}
+use Rattle.pbc.specs.Names.{name_bytes, is_name}
 use Rattle.pbc.specs.Buffers.{copied}
 use Rattle.pbc.specs.State.{CommandState, LineReply, Bad, Gates, says_of, refused_of}
-use Rattle.pbc.specs.Lines.{Line, spoilt_line, between_line, has_numbers}
+use Rattle.pbc.specs.Lines.{Line, Token, Hex, spoilt_line, between_line, has_numbers}
 use Rattle.qasm.specs.Types.{PbcError}
 
 -- ---- hex digits and bytes
 
--- 0 to 9 and a to f; 16 for any other byte
-unfoldable pub digit_of : ℕ → ℕ
-digit_of b = cond (nat_lt b 48) 16 (cond (nat_le b 57) (b - 48) (cond (nat_lt b 97) 16 (cond (nat_le b 102) (b - 87) 16)))
+-- 0 to 9 and a to f
+unfoldable pub digit_of : ℕ → Option ℕ
+digit_of b = cond (nat_lt b 48) None (cond (nat_le b 57) (Some (b - 48)) (cond (nat_lt b 97) None (cond (nat_le b 102) (Some (b - 87)) None)))
 
 abbrev pub byte_of : (high low : ℕ) → ℕ
 byte_of high low = 16 * (high % 16) + low % 16
@@ -47,37 +47,36 @@ text_in ws (suc n) = text_in ws n ++ byte_in ws n ∷ []
 unfoldable pub packed_digit : List ℕ → (k before digit : ℕ) → List ℕ
 packed_digit ws k before digit = cond (k % 2 == 1) (packed_byte ws (k / 2) (byte_of before digit)) ws
 
+-- the command `qasm`
+unfoldable pub has_text : Line → Bool
+has_text l = is_name (name_bytes l.name) (113 ∷ 97 ∷ 115 ∷ 109 ∷ [])
+
 -- after `qasm` and a number
 unfoldable pub awaits_hex : Line → Bool
-awaits_hex l = (l.name == number_of (113 ∷ 97 ∷ 115 ∷ 109 ∷ []) && l.numbers == 1) && l.digits == 0
+awaits_hex l = (has_text l && l.numbers == 1) && l.digits == 0
 
 -- one digit more is read as a part of the text
 abbrev pub digit_line : Line → ℕ → Line
-digit_line l digit = record {
-  length = l.length;
-  bad = l.bad;
-  name = l.name;
-  buffer = l.buffer;
-  numbers = l.numbers;
-  wide = l.wide;
-  place = l.place;
-  value = l.value;
-  sign = l.sign;
-  token = 5;
-  magnitude = digit;
-  negative = l.negative;
-  digits = l.digits + 1;
-}
+digit_line l digit = record l { token = Hex digit; digits = l.digits + 1 }
 
--- no hex digit, or more than 1,048,576 bytes have
-unfoldable pub no_hex : Line → ℕ → Bool
-no_hex l byte = nat_lt 15 (digit_of byte) || nat_le 2097152 l.digits
+abbrev pub last_digit : Token → ℕ
+last_digit (Hex digit) = digit
+last_digit t = 0
+
+-- what is no hex digit spoils the line, and so does a digit after those of 1,048,576 bytes
+abbrev pub line_with : Line → Option ℕ → Line
+line_with l None = spoilt_line l
+line_with l (Some digit) = cond (nat_lt l.digits 2097152) (digit_line l digit) (spoilt_line l)
 
 unfoldable pub hex_line : Line → ℕ → Line
-hex_line l byte = cond (no_hex l byte) (spoilt_line l) (digit_line l (digit_of byte))
+hex_line l byte = line_with l (digit_of byte)
+
+abbrev pub words_with : Line → Option ℕ → List ℕ → List ℕ
+words_with l None ws = ws
+words_with l (Some digit) ws = cond (nat_lt l.digits 2097152) (packed_digit ws l.digits (last_digit l.token) digit) ws
 
 unfoldable pub hex_words : Line → ℕ → List ℕ → List ℕ
-hex_words l byte ws = cond (no_hex l byte) ws (packed_digit ws l.digits l.magnitude (digit_of byte))
+hex_words l byte ws = words_with l (digit_of byte) ws
 
 -- two digits a byte
 unfoldable pub hex_ended : Line → Line

@@ -1,4 +1,5 @@
 -- What stays from line to line, and what a command answers.
+use Rattle.std.specs.Prelude.{Result, Ok, Err}
 use Rattle.arena.specs.Errors.{refusal_in}
 use Rattle.pbc.specs.Buffers.{Lends, all_lends}
 pub use Rattle.arena.specs.declared.header.Header.{Header}
@@ -30,3 +31,12 @@ headed_of s h a = record { state = state_of h s.lends; answer = a }
 
 abbrev pub lent_of : CommandState → Lends → LineReply
 lent_of s l = record { state = state_of s.header l; answer = Done }
+
+-- what a call comes to: an answer alone, or with another circuit
+abbrev pub told_of : CommandState → Result LineAnswer PbcError → LineReply
+told_of s (Ok a) = says_of s a
+told_of s (Err e) = refused_of s e
+
+abbrev pub made_of : CommandState → Result (Header × LineAnswer) PbcError → LineReply
+made_of s (Ok p) = headed_of s p.0 p.1
+made_of s (Err e) = refused_of s e

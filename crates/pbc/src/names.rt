@@ -1,104 +1,52 @@
-//! Names of commands and buffers, as numbers to the base 37: the letters a to z are the digits 1 to 26, the decimal digits 27 to 36.
+//! Names of commands and buffers: lower-case letters and decimal digits.
 
-ghost use Rattle.std.specs.Prelude.{◌≡◌};
-ghost use Rattle.pbc.specs.Names.{is_letter, extended_name};
+#![tactic(auto, unfolding(crate::specs::Names::extended_name, crate::specs::Names::name_byte))]
 
-/// What stands for a name that has no number: it is too long, or has a byte that is no lower-case letter and no decimal digit.
-pub const NO_NAME: u64 = 18446744073709551615;
+ghost use Rattle.std.specs.Prelude.{◌≡◌, ◌==◌};
+ghost use Rattle.pbc.specs.Names.{no_name, extended_name, name_bytes};
 
-// 37 to the power 11: a name of twelve bytes or more is not below it.
-const LONG: u64 = 177917621779460413;
+// The most bytes of a name.
+const LONGEST: usize = 12;
 
-/// The names of the commands and of the buffers; proofs/NameNumbers.antt has each number beside its letters.
-pub const LEND: u64 = 615203;
-
-pub const FILL: u64 = 316695;
-
-pub const PEEK: u64 = 817489;
-
-pub const HEADER: u64 = 564178793;
-
-pub const DUMP: u64 = 231858;
-
-pub const KINDS: u64 = 21090981;
-
-pub const ANGLE: u64 = 2593335;
-
-pub const TIMES: u64 = 37957098;
-
-pub const NEW: u64 = 19374;
-
-pub const STORE: u64 = 36643325;
-
-pub const SINGLE: u64 = 1335121806;
-
-pub const PRODUCT: u64 = 42328157677;
-
-pub const ROTATE: u64 = 1277318815;
-
-pub const MEASURE: u64 = 33704029090;
-
-pub const COND: u64 = 173016;
-
-pub const EXPAND: u64 = 392511988;
-
-pub const COMMUTES: u64 = 324208454365;
-
-pub const HERM: u64 = 412748;
-
-pub const REPORT: u64 = 1258393700;
-
-pub const REPORT2: u64 = 46560566929;
-
-pub const ROWS: u64 = 933159;
-
-pub const CONVERT: u64 = 8764698733;
-
-pub const PLANES: u64 = 1132063267;
-
-pub const FGATE: u64 = 11601651;
-
-pub const HELP: u64 = 412529;
-
-pub const QASM: u64 = 863186;
-
-pub const NODES: u64 = 27003729;
-
-pub const OPERATIONS: u64 = 2006146717954044;
-
-pub const FRAME: u64 = 12158575;
-
-pub const SCRATCH: u64 = 48990646692;
-
-pub const POOL: u64 = 831550;
-
-pub const LETTERS: u64 = 31173940503;
-
-/// Whether the byte is a lower-case letter. Promise: `is_letter`.
-pub(crate) fn is_letter(byte: u8) -> bool
-    ensures { result ≡ is_letter byte }
-{
-    (97 <= byte) & (byte <= 122)
+/// A name, or what was read of it so far.
+#[derive(Clone, Copy, Debug, PartialEq, Eq)]
+pub struct Name {
+    bytes: [u8; LONGEST],
+    length: usize,
 }
 
-/// The number of a name with one byte more. Promise: `extended_name`.
-pub(crate) fn extended(name: u64, byte: u8) -> u64
-    ensures { result ≡ extended_name name byte }
-{
-    if LONG <= name {
-        return NO_NAME;
+impl Name {
+    /// Nothing is read yet.
+    pub(crate) fn new() -> Name
+        ensures { result ≡ no_name }
+    {
+        Name {
+            bytes: [0; LONGEST],
+            length: 0,
+        }
     }
-    if 122 < byte {
-        return NO_NAME;
+
+    pub(crate) fn is_empty(&self) -> bool
+        ensures { result ≡ (self.now.length == 0) }
+    {
+        self.length == 0
     }
-    if 97 <= byte {
-        return 37 * name + ((byte - 96) as u64);
+
+    pub(crate) fn as_bytes(&self) -> &[u8]
+        ensures { result.now ≡ name_bytes self.now }
+    {
+        self.bytes.get(..self.length).unwrap_or(&self.bytes)
     }
-    if 57 < byte {
-        return NO_NAME;
+
+    /// The name with one byte more; none if it has twelve, or the byte is no lower-case letter and no digit.
+    pub(crate) fn with_byte(mut self, byte: u8) -> Option<Name>
+        ensures { result ≡ extended_name self byte }
+    {
+        if LONGEST <= self.length || !(byte.is_ascii_lowercase() || byte.is_ascii_digit()) {
+            return None;
+        }
+        self.bytes[self.length] = byte;
+        self.length += 1;
+        Some(self)
     }
-    if byte < 48 {
-        return NO_NAME;
-    }
-    37 * name + ((byte - 21) as u64)
 }

@@ -1,42 +1,87 @@
-//! Words in a text.
+//! Names, numbers and words in a text: what is read is taken off its front.
 
-ghost use Rattle.std.specs.Prelude.{◌≤◌, length};
+ghost use Rattle.std.specs.Prelude.{◌≡◌, ◌+◌, ◌≤◌, ◌<◌, length, IfSome};
 
-/// Whether a word stands at a place of a text.
-pub(crate) fn stands_at(text: &[u8], place: usize, word: &[u8]) -> bool {
-    if text.len() < place {
-        return false;
-    }
-    if text.len() - place < word.len() {
-        return false;
-    }
-    begins_with(&text[place..], word)
+use crate::names::Name;
+
+pub(crate) const SPACE: u8 = b' ';
+
+pub(crate) const LINE_FEED: u8 = b'\n';
+
+// The bytes of a kind that stand in front, and what is left.
+fn split_run<F: Fn(u8) -> bool>(text: &[u8], holds: F) -> (&[u8], &[u8])
+    requires { F.IsAlwaysCallable holds }
+    ensures { length result.0.now + length result.1.now ≡ length text.now }
+{
+    let size = text
+        .iter()
+        .position(|&byte| !holds(byte))
+        .unwrap_or(text.len());
+    text.split_at(size)
 }
 
-// Whether a text that is as long as a word, or longer, begins with it.
-fn begins_with(text: &[u8], word: &[u8]) -> bool
-    requires { length word.now ≤ length text.now }
+/// What is left past spaces.
+pub(crate) fn past_spaces(text: &[u8]) -> &[u8]
+    ensures { length result.now ≤ length text.now }
 {
-    let mut i = 0;
-    while i < word.len() {
-        if text[i] != word[i] {
-            return false;
-        }
-        i += 1;
-    }
-    true
+    split_run(text, |byte| byte == SPACE).1
 }
 
-/// The first place where the word stands, or the length of the text.
-pub(crate) fn place_of(text: &[u8], word: &[u8]) -> usize
-    ensures { result ≤ length text.now }
+// Whether a name or a number ends where this is left.
+fn ends_before(rest: &[u8]) -> bool {
+    matches!(rest, [SPACE | LINE_FEED, ..])
+}
+
+/// A whole name of letters, and what is left.
+pub(crate) fn take_name(text: &[u8]) -> Option<(Name, &[u8])>
+    ensures { IfSome result (λ read. length read.1.now ≤ length text.now) }
 {
-    let mut place = 0;
-    while place < text.len() {
-        if stands_at(text, place, word) {
-            return place;
-        }
-        place += 1;
+    let (letters, rest) = split_run(text, |byte| byte.is_ascii_lowercase());
+    if !ends_before(rest) {
+        return None;
     }
-    place
+    let mut name = Name::new();
+    for &letter in letters {
+        name = name.with_byte(letter)?;
+    }
+    Some((name, rest))
+}
+
+/// The value of the digits in front, at most the greatest of 64 bits, and what is left; `None` if there is no digit.
+pub(crate) fn take_digits(text: &[u8]) -> Option<(u64, &[u8])>
+    ensures { IfSome result (λ read. length read.1.now < length text.now) }
+{
+    let (digits, rest) = split_run(text, |byte| byte.is_ascii_digit());
+    if digits.is_empty() {
+        return None;
+    }
+    let mut value = 0u64;
+    for &digit in digits {
+        value = value
+            .saturating_mul(10)
+            .saturating_add(u64::from(digit.saturating_sub(b'0')));
+    }
+    Some((value, rest))
+}
+
+/// A whole number below 2^32, and what is left.
+pub(crate) fn take_number(text: &[u8]) -> Option<(u32, &[u8])>
+    ensures { IfSome result (λ read. length read.1.now < length text.now) }
+{
+    let (value, rest) = take_digits(text)?;
+    if !ends_before(rest) {
+        return None;
+    }
+    Some((u32::try_from(value).ok()?, rest))
+}
+
+/// What stands before a word, and after it, where it stands first.
+pub(crate) fn split_once<'a>(text: &'a [u8], word: &[u8]) -> Option<(&'a [u8], &'a [u8])> {
+    for place in 0..text.len() {
+        let (before, rest) = text.split_at(place);
+        if let Some(after) = rest.strip_prefix(word) {
+            return Some((before, after));
+        }
+    }
+    None
 }

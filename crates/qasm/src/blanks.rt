@@ -14,6 +14,7 @@ fn line_end(text: &[u8]) -> &[u8]
     ensures shorter { length result.now ≤ length text.now }
 {
     let mut rest = text;
+    // kept: the pattern is the loop's test and its step, and there is no index.
     while let [first, after @ ..] = rest {
         if *first == b'\n' {
             return rest;
@@ -34,10 +35,7 @@ fn is_white(b: u8) -> bool
 fn begins_comment(text: &[u8]) -> bool
     ensures { result ≡ slashed text.now }
 {
-    match text {
-        [b'/', b'/', ..] => true,
-        _ => false,
-    }
+    text.starts_with(b"//")
 }
 
 // Past blanks, byte by byte.
@@ -46,6 +44,7 @@ fn past_blanks(text: &[u8]) -> &[u8]
     ensures shorter { length result.now ≤ length text.now }
 {
     let mut rest = text;
+    // kept: as above.
     while let [first, after @ ..] = rest {
         if is_white(*first) {
             rest = after;
@@ -70,6 +69,7 @@ pub(crate) fn skip_blanks(text: &[u8]) -> &[u8]
 }
 
 // Bytes as they stand, past blanks.
+#[tactic(auto, using(crate::proofs::Answered::stripped), unfolding(crate::specs::Reading::take_sign))]
 pub(crate) fn take_sign<'a>(text: &'a [u8], sign: &[u8]) -> Option<&'a [u8]>
     ensures { left_of result ≡ take_sign sign.now text.now }
 {

@@ -11,6 +11,7 @@ ghost use Rattle.qasm.specs.Code.Rest.{gate_found};
 use crate::word::{Class, WordBytes};
 
 // The gates: name, number of the kind, qubits.
+// kept: both numbers are those of `gate_names`, which may not change; enums would be turned back to them in each contract.
 const GATES: [(&[u8], u32, u32); 12] = [
     (b"h", 0, 1),
     (b"x", 1, 1),
@@ -27,6 +28,7 @@ const GATES: [(&[u8], u32, u32); 12] = [
 ];
 
 // The kind of a measurement.
+// kept: `take_measure` of the definitions has this number, and may not change.
 pub(crate) const MEASURE: u32 = 12;
 
 const RESERVED: [&[u8]; 16] = [

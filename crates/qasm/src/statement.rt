@@ -12,7 +12,7 @@ use crate::number::take_index;
 use crate::word::{take_this, take_word};
 
 // A register's name and its size.
-#[derive(Clone, Copy)]
+#[derive(Clone, Copy, Debug, PartialEq, Eq)]
 pub(crate) struct Register<'a> {
     pub name: &'a [u8],
     pub size: u32,

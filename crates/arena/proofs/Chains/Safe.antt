@@ -1,3 +1,4 @@
+-- kept: claims, which Theorems.antt takes from here as a module
 -- Whatever operations a pool goes through: its chains and its free list stand, no two of them have a record in common, and the records lent are the factors held.
 use mathlib.Core.Path.{◌≡◌, refl, sym, ap, subst, ◌∙◌}
 use mathlib.Core.Logic.{inl, inr}

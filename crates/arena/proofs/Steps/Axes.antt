@@ -1,37 +1,34 @@
--- The axes of operations as rows of bytes: a row laid down, then each axis shown, written and released.
-use mathlib.Core.Path.{◌≡◌, refl, ap, sym, ◌∙◌, subst}
+-- The axes of operations as rows of bytes: a row laid down, and the walk that shows each axis.
+use mathlib.Core.Path.{◌≡◌, ap, sym, ◌∙◌}
 use mathlib.Core.List.{List, [], ◌∷◌, ◌++◌, map, append_assoc, append-nil}
-use Prim.Native.Nat.{ℕ, suc, ◌+◌, ◌*◌, ◌-◌, ◌%◌, ◌≤◌, ◌<◌}
+use Prim.Native.Nat.{ℕ, suc, ◌+◌, ◌*◌, ◌-◌, ◌≤◌, ◌<◌}
 use native.Mathlib.Nat.{suc-mul, mul-le-mul, mul-le-mul_right}
 use native.Mathlib.Omega.{arith}
 use borrow.Author.Tests.{ltb-false}
 use borrow.Rule.Slice.PartMut.{mid_of, put_mid}
 use lib.Dec.{ltb}
-use lib.ListN.{length, set, take, drop, replicate, length-append, length-map, length-take, take-append-drop, drop_of_length-le}
-use Rattle.pauli.specs.Letters.{pauli_number, phase_number}
-use Rattle.pauli.proofs.Numbers.{phase_number-small}
+use lib.ListN.{length, set, take, drop, replicate, length-map, length-take, take-append-drop}
+use Rattle.pauli.specs.Letters.{pauli_number}
 use Rattle.arena.specs.Errors.{PbcError, Fine}
-use Rattle.arena.specs.References.{node_in, phase_in}
+use Rattle.arena.specs.References.{node_in}
 use Rattle.arena.specs.Nodes.{node_at}
 use Rattle.arena.specs.Store.{Header}
 use Rattle.arena.specs.Builder.{overlay}
-use Rattle.arena.specs.Sparse.{Factor, Sparse, turned, spread, dense}
-use Rattle.arena.specs.Walk.{Out, fine, refused, bind, State, Walked, release, show_roots, walk_nodes, answer_of, walk}
-use Rattle.arena.specs.Readers.{Weighed, words_of, Axes, axes_walk}
+use Rattle.arena.specs.Sparse.{Factor, Sparse, spread, dense}
+use Rattle.arena.specs.Walk.{Out, fine, refused, bind, State, Walked, show_roots, walk_nodes, answer_of, walk}
+use Rattle.arena.specs.Readers.{words_of, Axes, axes_walk}
 use Rattle.arena.specs.Limits.{cap_of}
-use Rattle.arena.specs.Expansion.{AxesMade, expanded_axes_of, op_at, row_bytes, axes_bytes, axes_size, axes_check, rows_made}
+use Rattle.arena.specs.Expansion.{AxesMade, expanded_axes_of, row_bytes, axes_bytes, axes_size, axes_check, rows_made}
 use Rattle.arena.specs.Code.Results.{Ledger, Value, Says}
 use Rattle.arena.specs.Code.WalkWords.{Rooted, ShowReady, bytes, letters_written}
-use Rattle.arena.specs.Code.Roots.{start_of, Begun, show_root, RootShown, Released, Fit, weighed_at, axes_of, OpsSound, AxesCounted, Resting, Weighing, cells, laid_at, RootWritten, RowsShown}
+use Rattle.arena.specs.Code.Roots.{start_of, Begun, show_root, RootShown, Fit, axes_of, OpsSound, AxesCounted, cells, laid_at, RowsShown}
 use Rattle.arena.proofs.Accepted.{passed_before, test_passed, left_false, right-false}
 use Rattle.arena.proofs.Overlay.{overlay-sets, overlay-part, overlay-rest}
 use Rattle.arena.proofs.Walk.Outcomes.{bind_assoc}
-use Rattle.arena.proofs.Steps.Saying.{said-fine, said-refused, says_as, refuses_on, says-fine, says-refused}
-use Rattle.arena.proofs.Steps.Roots.{show_first}
+use Rattle.arena.proofs.Steps.Saying.{said-fine, said-refused, says_as, refuses_on, says-refused}
 use Rattle.arena.proofs.Walk.Readers.{spread-length}
-use Rattle.arena.proofs.Walk.Axes.{length-dense}
 use Rattle.arena.proofs.Steps.Readers.{Walkable}
-use Rattle.arena.proofs.Steps.Weights.{axes_from, bind-same, rest_axes, rest_all, seen, to-release, axes_are, axis_rooted, axis_rested, axes_rootable, begun_at, readable}
+use Rattle.arena.proofs.Steps.Weights.{seen, axes_rootable, begun_at, readable}
 
 -- ---- the places of rows
 
@@ -73,7 +70,7 @@ rows_more n [] x = append-nil (row_bytes (dense n x))
 rows_more n (y ∷ xs) x =
     ap (λ (l : List ℕ). row_bytes (dense n y) ++ l) (rows_more n xs x) ∙ sym (append_assoc (row_bytes (dense n y)) (axes_bytes (map (dense n) xs)) (row_bytes (dense n x)))
 
--- ---- an axis shown, written and released
+-- ---- an axis shown
 
 module _ (w : ℕ) {words l p : List ℕ} {count limit : ℕ} {left : Ledger} (g : Rooted words l p count limit (node_in w) left) {l₁ p₁ : List ℕ} {y : Out (Value × Ledger)}
     (o : Says (show_root limit g.at.room (node_at g.at.n words) count (node_in w) g.at.s) y (RootShown w g l₁ p₁)) where
@@ -82,137 +79,8 @@ module _ (w : ℕ) {words l p : List ℕ} {count limit : ℕ} {left : Ledger} (g
   row-refused q = says-refused (said-refused o q)
 
   module _ {v : Value} {rest : Ledger} (z : y ≡ fine (v, rest)) where
-    abbrev shown : Sparse
-    shown = turned (phase_in w) ((seen w g o z).0.value (node_in w))
-
     abbrev pub to_fill : ShowReady p₁ v.head v.count
     to_fill = record { who = (seen w g o z).2.who; tag = node_in w + 2; fs = ((seen w g o z).0.value (node_in w)).factors; chain = (seen w g o z).2.value.chain; counted = (seen w g o z).2.value.count_is }
-
-    phase_is : v.phase % 4 ≡ phase_number shown.phase
-    phase_is = omega (arith, (seen w g o z).2.value.phase_is, phase_number-small shown.phase)
-
-    pub row_written : (n k : ℕ) {was rows l₂ p₂ : List ℕ} {after : Ledger} → rows ≡ laid_at k (cells n ((seen w g o z).0.value (node_in w)).factors (v.phase % 4)) was
-        → Released (to-release w g o z) l₂ p₂ after
-        → Says (show_root limit g.at.room (node_at g.at.n words) count (node_in w) g.at.s) (fine after) (RootWritten n k w g was rows l₂ p₂)
-    unfolding dense
-    row_written n k {was} e r = says-fine (seen w g o z).1 (record {
-      who = r.who;
-      rep = r.rep;
-      inv = (seen w g o z).2.inv;
-      done_is = (seen w g o z).2.done_is;
-      rows_are = e ∙ ap (λ (b : ℕ). laid_at k (cells n shown.factors b) was) phase_is;
-    })
-
--- ---- axis after axis
-
--- what was shown before comes first
-abbrev after : List Sparse → Walked → Out Walked
-after done r = fine (record { shown = done ++ r.shown; state = r.state })
-
-after_none : (x : Out Walked) → x ≡ bind x (after [])
-after_none (fine r) = refl
-after_none (refused e) = refl
-
-module _ {h : Header} {words ops was pool : List ℕ} {limit : ℕ} {left₀ : Ledger} (g : Weighing h words ops was pool limit left₀) (first : List ℕ) where
-  abbrev pub shows : List ℕ → State → Out Walked
-  shows ws s = show_roots limit g.room (node_at h.qubits words) h.nodes ws s
-
-  abbrev pub rows_of : List Sparse → List ℕ
-  rows_of xs = axes_bytes (map (dense h.qubits) xs)
-
-  -- the first i axes are written, up to byte k
-  pub record WriteAt (rows l p : List ℕ) (left : Ledger) (k i : ℕ) : Type 0 where
-    pub s : State
-    pub done : List Sparse
-    pub upto : i ≤ h.operations
-    pub long : length l ≡ length was
-    pub pool_long : length p ≡ length pool
-    pub rows_long : length rows ≡ length first
-    pub place_is : k ≡ i * (h.qubits + 1)
-    pub done_long : length (axes_bytes (map (dense h.qubits) done)) ≡ k
-    pub rows_are : rows ≡ overlay (axes_bytes (map (dense h.qubits) done)) first
-    pub rest : Resting h words l p (rest_axes h ops i) limit g.room s left
-    pub same : show_roots limit g.room (node_at h.qubits words) h.nodes (words_of (axes_of h ops)) g.s
-        ≡ bind (show_roots limit g.room (node_at h.qubits words) h.nodes (words_of (rest_axes h ops i)) s) (after done)
-
-  pub write_begin : WriteAt first was pool left₀ 0 0
-  write_begin = record {
-    s = g.s;
-    done = [];
-    upto = omega arith;
-    long = refl;
-    pool_long = refl;
-    rows_long = refl;
-    place_is = omega arith;
-    done_long = refl;
-    rows_are = refl;
-    rest = subst (λ (xs : List Weighed). Resting h words was pool xs limit g.room g.s left₀) (rest_all h ops) g.rest;
-    same = after_none (shows (words_of (axes_of h ops)) g.s) ∙ ap (λ (xs : List Weighed). bind (shows (words_of xs) g.s) (after [])) (rest_all h ops);
-  }
-
-  module _ (size_is : length first ≡ axes_size h) {rows l p : List ℕ} {left : Ledger} {k i : ℕ} (a : WriteAt rows l p left k i) where
-    pub write_end : h.operations ≤ i → Says (show_roots limit g.room (node_at h.qubits words) h.nodes (words_of (axes_of h ops)) g.s) (fine left.work) (RowsShown h.qubits rows)
-    write_end le =
-        let e : h.operations - i ≡ 0 = omega arith in
-        let all : i ≡ h.operations = omega (arith, a.upto) in
-        let long : length first ≤ length (rows_of a.done) = omega (arith, size_is, a.done_long, a.place_is, ap (λ (m : ℕ). m * (h.qubits + 1)) all) in
-        says-fine (a.same ∙ ap (λ (m : ℕ). bind (shows (words_of (axes_from (op_at h ops) i m)) a.s) (after a.done)) e) (record {
-          work_is = a.rest.rep.work_is;
-          rows_are = a.rows_are ∙ ap (λ (d : List ℕ). rows_of a.done ++ d) (drop_of_length-le first long) ∙ append-nil (rows_of a.done) ∙ ap rows_of (sym (append-nil a.done));
-        })
-
-    module _ {w : ℕ} (lt : i < h.operations) (w-is : w ≡ (weighed_at h ops i).word) where
-      pub row_fits : (k + h.qubits < length rows) × (k + (h.qubits + 1) ≤ length first)
-      row_fits =
-          let e = row_ends (h.qubits + 1) i h.operations lt in
-          (omega (arith, size_is, a.rows_long, a.place_is, e), omega (arith, size_is, a.place_is, e))
-
-      abbrev consed : State → Walked → Out Walked
-      consed t r = fine (record { shown = turned (phase_in w) (t.value (node_in w)) ∷ r.shown; state = r.state })
-
-      abbrev later : State → Out Walked
-      later t = bind (shows (words_of (rest_axes h ops (i + 1))) (release (node_in w) t)) (consed t)
-
-      next : shows (words_of (axes_of h ops)) g.s
-          ≡ bind (show_root limit g.room (node_at h.qubits words) h.nodes (node_in w) a.s) (λ t. bind (later t) (after a.done))
-      next = a.same ∙ ap (λ (ws : List ℕ). bind (shows ws a.s) (after a.done)) (axes_are g a.rest lt w-is)
-          ∙ ap (λ o. bind o (after a.done)) (show_first limit g.room (node_at h.qubits words) h.nodes w (words_of (rest_axes h ops (i + 1))) a.s)
-          ∙ bind_assoc (show_root limit g.room (node_at h.qubits words) h.nodes (node_in w) a.s) later (after a.done)
-
-      later-after : (t : State) → bind (later t) (after a.done)
-          ≡ bind (shows (words_of (rest_axes h ops (i + 1))) (release (node_in w) t)) (after (a.done ++ (turned (phase_in w) (t.value (node_in w)) ∷ [])))
-      later-after t =
-          bind_assoc (shows (words_of (rest_axes h ops (i + 1))) (release (node_in w) t)) (consed t) (after a.done)
-          ∙ bind-same (shows (words_of (rest_axes h ops (i + 1))) (release (node_in w) t)) _ _
-          (λ r. ap (λ (xs : List Sparse). fine (record { shown = xs; state = r.state })) (sym (append_assoc a.done (turned (phase_in w) (t.value (node_in w)) ∷ []) r.shown)))
-
-      module _ {rows₁ l₁ p₁ : List ℕ} {z : Out Ledger}
-          (o : Says (show_root limit g.room (node_at h.qubits words) h.nodes (node_in w) a.s) z (RootWritten h.qubits k w (axis_rooted g a.rest lt w-is) rows rows₁ l₁ p₁)) where
-        pub write-refused : {B : Type 0} {S : Walked → B → Type 0} {e : PbcError} → z ≡ refused e
-            → Says (show_roots limit g.room (node_at h.qubits words) h.nodes (words_of (axes_of h ops)) g.s) (refused e) S
-        write-refused q = says-refused (next ∙ ap (λ r. bind r (λ t. bind (later t) (after a.done))) (said-refused o q))
-
-        pub write_turn : {left₁ : Ledger} {k₁ : ℕ} → z ≡ fine left₁ → k₁ ≡ k + (h.qubits + 1) → length rows₁ ≡ length first → length l₁ ≡ length was → length p₁ ≡ length pool
-            → WriteAt rows₁ l₁ p₁ left₁ k₁ (i + 1)
-        write_turn {left₁} {k₁} e k-is rows_long long pool-long =
-            let r = said-fine o e in
-            let t = r.0 in
-            let x = turned (phase_in w) (t.value (node_in w)) in
-            let more = rows_more h.qubits a.done x in
-            record {
-              s = release (node_in w) t;
-              done = a.done ++ (x ∷ []);
-              upto = omega arith;
-              long = long;
-              pool_long = pool-long;
-              rows_long = rows_long;
-              place_is = k-is ∙ omega (arith, a.place_is, suc-mul i (h.qubits + 1));
-              done_long = ap length more ∙ length-append (rows_of a.done) (row_bytes (dense h.qubits x)) ∙ omega (arith, a.done_long, length-dense h.qubits x, k-is);
-              rows_are = r.2.rows_are ∙ ap (λ (l : List ℕ). laid_at k (row_bytes (dense h.qubits x)) l) a.rows_are
-                  ∙ overlay-part (rows_of a.done) (row_bytes (dense h.qubits x)) first k a.done_long ∙ ap (λ (l : List ℕ). overlay l first) (sym more);
-              rest = axis_rested g a.rest lt w-is r.2.rep r.2.inv r.2.done_is;
-              same = next ∙ ap (λ q. bind q (λ t. bind (later t) (after a.done))) r.1 ∙ later-after t;
-            }
 
 -- ---- the whole walk
 

@@ -1,3 +1,4 @@
+-- kept: claims, which Theorems.antt takes from here as a module
 -- At every step of a walk the records held are the factors of the values that stand and of those in hand.
 use mathlib.Core.Path.{◌≡◌, refl, ap, ◌∙◌, subst}
 use mathlib.Core.Bool.{Bool, true, false}

@@ -1,8 +1,8 @@
 -- The visitor that weighs: what it leaves are the largest weights of what was shown.
-use mathlib.Core.Path.{◌≡◌, refl, ap, ap₂, sym, ◌∙◌}
+use mathlib.Core.Path.{◌≡◌, ap, ap₂, sym, ◌∙◌}
 use mathlib.Core.Bool.{Bool}
 use mathlib.Core.List.{List, [], ◌∷◌, map}
-use Prim.Native.Nat.{ℕ, suc, ◌+◌, ◌-◌}
+use Prim.Native.Nat.{ℕ, suc, ◌+◌}
 use native.Mathlib.Omega.{arith}
 use lib.ListN.{length}
 use Rattle.std.specs.Prelude.{max}
@@ -11,7 +11,7 @@ use Rattle.arena.specs.Nodes.{node_at}
 use Rattle.arena.specs.Store.{Header}
 use Rattle.arena.specs.Sparse.{Sparse, size}
 use Rattle.arena.specs.Walk.{Out, fine, refused, bind, Walked, answer_of, walk, walk_nodes}
-use Rattle.arena.specs.Readers.{Weighed, Weights, counts_non_clifford, counts_clifford, raised, weigh, largest, words_of, Report, report_walk}
+use Rattle.arena.specs.Readers.{Weighed, Weights, counts_non_clifford, counts_clifford, raised, largest, words_of, Report, report_walk}
 use Rattle.arena.specs.Expansion.{WeightsMade, WeightsRefused, max_weights_of, op_at}
 use Rattle.arena.specs.Code.Roots.{weighed_at, axes_of, weights_of, visited}
 use Rattle.arena.specs.declared.weights.Largest.{Largest}

@@ -161,6 +161,18 @@ module _ {l p : List ℕ} {limit i lw rt : ℕ} {left : Ledger} (g : Combining l
               → Says (combine limit w.room lw rt i w.s) o S
           combined h = says_as h (combine-one ∙ ap (λ o. bind o (on_two one₁.0)) two₂.1)
 
+-- ---- what a call says under a limit, it says under the same one
+
+pub taken_at : {l p l' p' : List ℕ} {k limit w : ℕ} {left : Ledger} {o : Out (Value × Ledger)} → k ≡ limit
+    → ((g : Takeable l p k w left) → Says (take_use k g.room w g.s) o (TookRep g l' p')) → (g : Takeable l p limit w left) → Says (take_use limit g.room w g.s) o (TookRep g l' p')
+taken_at {l} {p} {l'} {p'} {w = w} {left = left} {o = o} e = subst (λ (k : ℕ). (g : Takeable l p k w left) → Says (take_use k g.room w g.s) o (TookRep g l' p')) e
+
+pub multiplied_at : {l p l' p' : List ℕ} {k limit i : ℕ} {a b : Value} {left : Ledger} {o : Out Ledger} → k ≡ limit
+    → ((g : Multiplying l p k i a b left) → Says (product_made k i g.x g.y g.s) o (Stands g.count g.room l' p'))
+    → (g : Multiplying l p limit i a b left) → Says (product_made limit i g.x g.y g.s) o (Stands g.count g.room l' p')
+multiplied_at {l} {p} {l'} {p'} {i = i} {a = a} {b = b} {left = left} {o = o} e =
+    subst (λ (k : ℕ). (g : Multiplying l p k i a b left) → Says (product_made k i g.x g.y g.s) o (Stands g.count g.room l' p')) e
+
 -- ---- their product
 
 module _ {l p : List ℕ} {limit i : ℕ} {a b : Value} {left : Ledger} (g : Multiplying l p limit i a b left) where

@@ -186,6 +186,11 @@ whole-walk limit room n words w count {l} {p} rest {y} named long h =
       settled = settled_whole n words (node_in w) count named l rest long s.settled;
     })) (sym (walk_upto limit room n words w count named) ∙ sym (bind-fine (walk_nodes limit room (node_at n words) (node_in w + 1) (w ∷ []))))
 
+-- the same of what the slices hold after the walk
+pub given_back : {n count w : ℕ} {words l l' p p' : List ℕ} {x : Out Walked} {y z : Out (Value × Ledger)} → Says x y (Showing n count words w l p) → y ≡ z → l' ≡ l → p' ≡ p
+    → Says x z (Showing n count words w l' p')
+given_back {n} {count} {w} {words} {l} {p = p} {x = x} s e a b = rw (a, b) (subst (λ o. Says x o (Showing n count words w l p)) e s)
+
 abbrev expand_of : (n count : ℕ) → (words : List ℕ) → (w : ℕ) → Bool → Out Walked → Out Expanded
 expand_of n count words w b x = cond b (bind (bind x (λ r. fine (answer_of r))) (λ a. fine (expanded_of n count words w a))) (refused ExpansionLimit)
 
@@ -282,3 +287,12 @@ left_scratch h scratch x lx e = e ∙ front_filled scratch x (4 * h.nodes) lx
 
 pub left_pool : (pool y : List ℕ) (c : ℕ) {pool' : List ℕ} → c ≡ cap_of (length pool) → length y ≡ 3 * c → pool' ≡ cleared (y ++ drop (3 * c) pool) → pool' ≡ cleared pool
 left_pool pool y c e ly q = q ∙ front-cleared pool y c e ly
+
+-- the same, of slices that a walk gave back
+pub scratch_given : (h : Header) (scratch x : List ℕ) {scratch' : List ℕ} → scratch' ≡ replicate (4 * h.nodes) 0 ++ drop (4 * h.nodes) (x ++ drop (4 * h.nodes) scratch) → length x ≡ 4 * h.nodes
+    → scratch' ≡ scratch_left h scratch
+scratch_given h scratch x e lx = left_scratch h scratch x lx e
+
+pub pool_given : (pool : List ℕ) (c : ℕ) (y : List ℕ) {pool' : List ℕ} → c ≡ cap_of (length pool) → length pool' ≡ length (y ++ drop (3 * c) pool) → length y ≡ 3 * c
+    → pool' ≡ cleared (y ++ drop (3 * c) pool) → pool' ≡ cleared pool
+pool_given pool c y e l ly q = left_pool pool y c e ly q

@@ -169,6 +169,16 @@ module _ (w : ℕ) {words l p : List ℕ} {count limit : ℕ} {left : Ledger} (g
           };
         })
 
+-- what is said of a root among the same nodes, under the same limit
+pub same_walk : {ws words : List ℕ} {m count k limit : ℕ} (P : List ℕ → ℕ → ℕ → Type 0) → ws ≡ words → m ≡ count → k ≡ limit → P ws m k → P words count limit
+same_walk {ws} {words} {m} {count} {k} {limit} P a b c h = subst (λ (us : List ℕ). P us count limit) a (subst (λ (n : ℕ). P ws n limit) b (subst (λ (n : ℕ). P ws m n) c h))
+
+pub shown_at : {ws words l p l' p' : List ℕ} {m count k limit w : ℕ} {left : Ledger} {o : Out (Value × Ledger)} → ws ≡ words → m ≡ count → k ≡ limit
+    → ((g : Rooted ws l p m k (node_in w) left) → Says (show_root k g.at.room (node_at g.at.n ws) m (node_in w) g.at.s) o (RootShown w g l' p'))
+    → (g : Rooted words l p count limit (node_in w) left) → Says (show_root limit g.at.room (node_at g.at.n words) count (node_in w) g.at.s) o (RootShown w g l' p')
+shown_at {l = l} {p} {l'} {p'} {w = w} {left = left} {o = o} =
+    same_walk (λ us n j. (g : Rooted us l p n j (node_in w) left) → Says (show_root j g.at.room (node_at g.at.n us) n (node_in w) g.at.s) o (RootShown w g l' p'))
+
 -- ---- a root released
 
 kept-some : (b : Bool) (u k : ℕ) → b ≡ true → 0 < u → kept b u k ≡ k

@@ -6,12 +6,13 @@ use native.Mathlib.Nat.{mul-le-mul}
 use native.Mathlib.Omega.{arith}
 use lib.ListN.{length, get_or, set}
 use lib.Seq.{get_or-set_same}
+use Rattle.std.specs.Prelude.{Option, Some}
 use Rattle.arena.specs.Nodes.{PauliNode, node_at}
 use Rattle.arena.specs.Errors.{PbcError}
 use Rattle.arena.specs.Walk.{Out, fine, refused, State, eval}
 use Rattle.arena.specs.Code.Machine.{Spot, step_top}
 use Rattle.arena.specs.Pool.{Who}
-use Rattle.arena.specs.Code.Results.{Ledger, Says}
+use Rattle.arena.specs.Code.Results.{Ledger, Says, top_of}
 use Rattle.arena.specs.Code.WalkWords.{value_at, Marks, none, Inv, Trail, Wanted, Linked, Rep, Stands, Topped, Landed, Started, Rooted}
 use Rattle.arena.proofs.Walk.Outcomes.{post-fine, bind-fine}
 use Rattle.arena.proofs.DecodedNodes.{node_fits}
@@ -39,9 +40,12 @@ abbrev pub tail_of : List ℕ → List ℕ
 tail_of [] = []
 tail_of (i ∷ p) = p
 
-path_is : (l : List ℕ) (top : ℕ) (p : List ℕ) → Linked l top p → (top ≡ 0 → ⊥) → p ≡ (top - 1) ∷ tail_of p
-path_is l top [] q ne = absurd (ne q)
-path_is l top (i ∷ p) q ne = let e : i ≡ top - 1 = omega (arith, q.0) in ap (λ (k : ℕ). k ∷ p) e
+path_is : (l : List ℕ) (top : ℕ) (p : List ℕ) → Linked l top p → {here : ℕ} → top ≡ suc here → p ≡ here ∷ tail_of p
+path_is l top [] q e = absurd (omega (arith, q, e))
+path_is l top (i ∷ p) q {here} e = let same : i ≡ here = omega (arith, q.0, e) in ap (λ (k : ℕ). k ∷ p) same
+
+pub at_top : {t : Option ℕ} {here : ℕ} → t ≡ Some here → top_of t ≡ suc here
+at_top e = ap top_of e ∙ omega arith
 
 path-none : (l : List ℕ) (top : ℕ) (p : List ℕ) → Linked l top p → top ≡ 0 → p ≡ []
 path-none l top [] q z = refl
@@ -90,14 +94,14 @@ module _ {words l₀ p₀ : List ℕ} {count limit i : ℕ} {left₀ : Ledger} (
     pub going_end : top ≡ 0 → Says (result g) (fine left) (Stands count g.at.room l p)
     going_end z = says-fine (sym v.same ∙ ap (λ q. resume limit g.at.room node count q v.s) (path-none l top v.path v.linked z)) (record { who = v.who; rep = v.rep })
 
-    module _ (ne : top ≡ 0 → ⊥) where
-      pub path_at : v.path ≡ (top - 1) ∷ tail_of v.path
-      path_at = path_is l top v.path v.linked ne
+    module _ {here : ℕ} (e : top ≡ suc here) where
+      pub path_at : v.path ≡ here ∷ tail_of v.path
+      path_at = path_is l top v.path v.linked e
 
-      pub top_is : top ≡ suc (top - 1)
-      top_is = omega arith
+      pub top_is : top ≡ suc here
+      top_is = e
 
-      abbrev pub topped : Topped words l p limit (top - 1) left
+      abbrev pub topped : Topped words l p limit here left
       topped = record {
         count = count;
         at = record {
@@ -118,17 +122,17 @@ module _ {words l₀ p₀ : List ℕ} {count limit i : ℕ} {left₀ : Ledger} (
         path = tail_of v.path;
         trail = subst (λ q. Trail count v.s 0 q) path_at v.trail;
         wanted = subst (λ q. Wanted v.s q) path_at v.wanted;
-        linked = subst (λ (k : ℕ). Linked l k ((top - 1) ∷ tail_of v.path)) top_is (subst (λ q. Linked l top q) path_at v.linked);
+        linked = subst (λ (k : ℕ). Linked l k (here ∷ tail_of v.path)) top_is (subst (λ q. Linked l top q) path_at v.linked);
       }
 
       pub some_left : 1 ≤ budget
       some_left = omega (arith, v.enough, subst (λ q. 1 ≤ steps_left count v.s q) (sym path_at) (omega arith))
 
       module _ {l' p' : List ℕ} {y : Out (ℕ × Ledger)}
-          (o : Says (step_top limit g.at.room (node_at g.at.n words) (top - 1) (tail_of v.path) v.s) y (Landed count g.at.room l' p')) where
-        resumed : resume limit g.at.room node count v.path v.s ≡ onward limit g.at.room g.at.n node (node_fits g.at.n words) count (step_top limit g.at.room node (top - 1) (tail_of v.path) v.s)
+          (o : Says (step_top limit g.at.room (node_at g.at.n words) here (tail_of v.path) v.s) y (Landed count g.at.room l' p')) where
+        resumed : resume limit g.at.room node count v.path v.s ≡ onward limit g.at.room g.at.n node (node_fits g.at.n words) count (step_top limit g.at.room node here (tail_of v.path) v.s)
         resumed = ap (λ q. resume limit g.at.room node count q v.s) path_at
-            ∙ resume-step limit g.at.room g.at.n node (node_fits g.at.n words) count (top - 1) (tail_of v.path) v.s topped.trail.1
+            ∙ resume-step limit g.at.room g.at.n node (node_fits g.at.n words) count here (tail_of v.path) v.s topped.trail.1
 
         pub going-refused : {B : Type 0} {S : State → B → Type 0} {e : PbcError} → y ≡ refused e → Says (result g) (refused e) S
         going-refused q = says-refused (sym v.same ∙ resumed ∙ ap (onward limit g.at.room g.at.n node (node_fits g.at.n words) count) (said-refused o q))
@@ -137,10 +141,10 @@ module _ {words l₀ p₀ : List ℕ} {count limit i : ℕ} {left₀ : Ledger} (
         going_on z el ep =
             let x = said-fine o z in
             let q : Spot = x.0 in
-            let a : Stepped count (steps_left count v.s ((top - 1) ∷ tail_of v.path)) q = post-fine (Stepped count (steps_left count v.s ((top - 1) ∷ tail_of v.path))) x.1
-            (step_trail limit g.at.room g.at.n count node (node_fits g.at.n words) (top - 1) 0 (tail_of v.path) v.s topped.trail) in
+            let a : Stepped count (steps_left count v.s (here ∷ tail_of v.path)) q = post-fine (Stepped count (steps_left count v.s (here ∷ tail_of v.path))) x.1
+            (step_trail limit g.at.room g.at.n count node (node_fits g.at.n words) here 0 (tail_of v.path) v.s topped.trail) in
             let b : Sound limit g.at.room g.at.n count node (node_fits g.at.n words) g.at.total g.at.rest q = post-fine (Sound limit g.at.room g.at.n count node (node_fits g.at.n words) g.at.total g.at.rest) x.1
-            (step_inv limit g.at.room g.at.n count node (node_fits g.at.n words) g.at.total g.at.rest (top - 1) 0 (tail_of v.path) v.s topped.trail topped.wanted v.inv) in
+            (step_inv limit g.at.room g.at.n count node (node_fits g.at.n words) g.at.total g.at.rest here 0 (tail_of v.path) v.s topped.trail topped.wanted v.inv) in
             record {
               path = q.path;
               s = q.state;
@@ -155,6 +159,14 @@ module _ {words l₀ p₀ : List ℕ} {count limit i : ℕ} {left₀ : Ledger} (
               long = el ∙ v.long;
               pool_long = ep ∙ v.pool_long;
             }
+
+-- what a step says of the same words under the same limit
+pub stepped_at : {words ws l p l' p' : List ℕ} {limit k i : ℕ} {left : Ledger} {o : Out (ℕ × Ledger)} → ws ≡ words → k ≡ limit
+    → ((g : Topped ws l p k i left) → Says (step_top k g.at.room (node_at g.at.n ws) i g.path g.at.s) o (Landed g.count g.at.room l' p'))
+    → (g : Topped words l p limit i left) → Says (step_top limit g.at.room (node_at g.at.n words) i g.path g.at.s) o (Landed g.count g.at.room l' p')
+stepped_at {words} {ws} {l} {p} {l'} {p'} {limit} {i = i} {left = left} {o = o} e f h =
+    subst (λ (us : List ℕ). (g : Topped us l p limit i left) → Says (step_top limit g.at.room (node_at g.at.n us) i g.path g.at.s) o (Landed g.count g.at.room l' p')) e
+    (subst (λ (k : ℕ). (g : Topped ws l p k i left) → Says (step_top k g.at.room (node_at g.at.n ws) i g.path g.at.s) o (Landed g.count g.at.room l' p')) f h)
 
 -- ---- a root
 

@@ -3,7 +3,7 @@ use mathlib.Core.Path.{◌≡◌, refl, ap, sym, ◌∙◌, subst}
 use mathlib.Core.List.{List, [], ◌∷◌, ◌++◌, append_assoc, append-nil}
 use Prim.Native.Nat.{ℕ, ◌+◌, ◌-◌, ◌%◌, ◌≤◌, ◌<◌}
 use native.Mathlib.Omega.{arith}
-use lib.ListN.{length, replicate, length-append}
+use lib.ListN.{length, length-append}
 use Rattle.pauli.specs.Letters.{phase_number}
 use Rattle.pauli.proofs.Numbers.{phase_number-small}
 use Rattle.arena.specs.Errors.{PbcError}
@@ -16,10 +16,10 @@ use Rattle.arena.specs.Readers.{Weighed, words_of}
 use Rattle.arena.specs.Expansion.{op_at}
 use Rattle.arena.specs.Code.Results.{Ledger, Value, Agrees, Says}
 use Rattle.arena.specs.Code.WalkWords.{Rooted}
-use Rattle.arena.specs.Code.Roots.{show_root, RootShown, Released, weighed_at, axes_of, Resting, Weighing, visited, RootVisited, AxesVisited}
+use Rattle.arena.specs.Code.Roots.{Rootable, start_of, Begun, show_root, RootShown, Released, weighed_at, axes_of, Resting, Weighing, visited, RootVisited, AxesVisited}
 use Rattle.arena.proofs.Walk.Outcomes.{bind_assoc}
 use Rattle.arena.proofs.Steps.Saying.{said-fine, said-refused, says-fine, says-refused}
-use Rattle.arena.proofs.Steps.Roots.{show_first}
+use Rattle.arena.proofs.Steps.Roots.{show_first, same_walk}
 use Rattle.arena.proofs.Steps.Weights.{axes_from, bind-same, rest_axes, rest_all, seen, to-release, axes_are, axis_rooted, axis_rested}
 
 -- one value more
@@ -59,6 +59,14 @@ module _ (w : ℕ) {words l p : List ℕ} {count limit : ℕ} {left : Ledger} (g
       done_is = (seen w g o z).2.done_is;
       visitor_is = e;
     })
+
+-- what is said of a root visited, of a root among the same nodes, under the same limit
+pub visited_at : {V : Type 0} {step : V → ℕ → Sparse → V} {was now : V} {ws words l p l' p' : List ℕ} {m count k limit index w : ℕ} {left : Ledger} {o : Out Ledger}
+    → ws ≡ words → m ≡ count → k ≡ limit
+    → ((g : Rooted ws l p m k (node_in w) left) → Says (show_root k g.at.room (node_at g.at.n ws) m (node_in w) g.at.s) o (RootVisited step index w g was now l' p'))
+    → (g : Rooted words l p count limit (node_in w) left) → Says (show_root limit g.at.room (node_at g.at.n words) count (node_in w) g.at.s) o (RootVisited step index w g was now l' p')
+visited_at {step = step} {was} {now} {l = l} {p} {l'} {p'} {index = index} {w} {left} {o} =
+    same_walk (λ us n j. (g : Rooted us l p n j (node_in w) left) → Says (show_root j g.at.room (node_at g.at.n us) n (node_in w) g.at.s) o (RootVisited step index w g was now l' p'))
 
 -- ---- axis after axis
 
@@ -159,3 +167,17 @@ module _ {V : Type 0} (step : V → ℕ → Sparse → V) (Fits : V → ℕ → 
               rest = axis_rested g a.rest lt w-is r.2.rep r.2.inv r.2.done_is;
               same = next ∙ ap (λ q. bind q (λ t. bind (later t) (after a.done))) r.1 ∙ later-after t;
             }
+
+-- what is said of a walk begun among as many nodes
+pub begun_for : {words l l' p' : List ℕ} {m count roots limit room : ℕ} {o : Out Ledger} → m ≡ count
+    → ((g : Rootable words l m roots) → Says (start_of limit (node_at g.n words) m g.ws) o (Begun g limit room l' p'))
+    → (g : Rootable words l count roots) → Says (start_of limit (node_at g.n words) count g.ws) o (Begun g limit room l' p')
+begun_for {words} {l} {l'} {p'} {roots = roots} {limit} {room} {o} =
+    subst (λ (k : ℕ). (g : Rootable words l k roots) → Says (start_of limit (node_at g.n words) k g.ws) o (Begun g limit room l' p'))
+
+-- what is said of the same words under the same limit
+pub all_visited_at : {V : Type 0} {step : V → ℕ → Sparse → V} {was now : V} {h : Header} {ws words ops l p : List ℕ} {k limit : ℕ} {left : Ledger} {o : Out ℕ} → ws ≡ words → k ≡ limit
+    → ((g : Weighing h ws ops l p k left) → Says (show_roots k g.room (node_at h.qubits ws) h.nodes (words_of (axes_of h ops)) g.s) o (AxesVisited step h.operations was now))
+    → (g : Weighing h words ops l p limit left) → Says (show_roots limit g.room (node_at h.qubits words) h.nodes (words_of (axes_of h ops)) g.s) o (AxesVisited step h.operations was now)
+all_visited_at {step = step} {was} {now} {h} {ops = ops} {l} {p} {left = left} {o} e f =
+    same_walk {count = 0} (λ us n j. (g : Weighing h us ops l p j left) → Says (show_roots j g.room (node_at h.qubits us) h.nodes (words_of (axes_of h ops)) g.s) o (AxesVisited step h.operations was now)) e refl f

@@ -1,3 +1,4 @@
+-- kept: claims, which Theorems.antt takes from here as a module
 -- Which refusals a walk gives: with limit and room enough it has one answer; otherwise it has that answer, or no room, or its whole work is above the limit.
 use mathlib.Core.Path.{◌≡◌, refl, ap, sym, ◌∙◌, subst}
 use mathlib.Core.Logic.{◌⊎◌, inl, inr}

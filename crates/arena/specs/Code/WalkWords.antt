@@ -1,5 +1,5 @@
 -- What the walk keeps true from step to step, and its state in words: four scratch words a node, and chains in the pool.
--- The functions of src/scratch.rt, materialize.rt, roots.rt, readers.rt, weights.rt and axes.rt that are not public ask and promise what is said here.
+-- The functions of src/scratch.rt, materialize.rt, roots.rt, visit.rt, readers.rt, weights.rt and axes.rt that are not public ask and promise what is said here.
 use Rattle.std.specs.Prelude.{◌≡◌, ◌≢◌, Bool, true, false, cond, List, [], ◌∷◌, ◌++◌, map, ℕ, zero, suc, ◌+◌, ◌*◌, ◌/◌, ◌%◌, ◌≤◌, ◌<◌, min, eqb, ltb, length, get_or, set, drop}
 use Rattle.pauli.specs.Letters.{pauli_number, phase_number}
 use Rattle.pauli.specs.Rows.{identity}

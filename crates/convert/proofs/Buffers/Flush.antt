@@ -6,116 +6,69 @@ use Prim.Native.Nat.{ℕ, zero, suc, ◌+◌, ◌-◌, ◌*◌, ◌/◌, ◌<◌
 use native.Mathlib.Omega.{arith}
 use native.Mathlib.Numerals.{add-one}
 use lib.ListN.{length}
-use lib.Seq.{sets}
-use Rattle.pauli.specs.Gates.{Gate, gate_h, gate_x, gate_z, gate_s, gate_sdg, gate_cnot, gate_cz, AllValid}
-use Rattle.arena.specs.Limits.{operation_words}
-use Rattle.arena.specs.Operations.{rotate_words}
+use Rattle.pauli.specs.Gates.{Gate, gate_h, gate_x, gate_z, gate_s, gate_sdg, gate_cnot, gate_cz, Valid, AllValid}
+use Rattle.arena.specs.Limits.{max_qubits}
 use Rattle.convert.specs.Records.{Record, kind_of, From, from, without_index}
 use Rattle.convert.specs.Frame.{total}
-use Rattle.convert.specs.Words.{id_x, id_z}
 use Rattle.convert.specs.Code.Needs.{written_nodes, written_ops}
-use Rattle.convert.specs.Code.Raw.{Writing, writing, put_op, put_node, put_joint, put_flush, put_flushes, FlushReady, Flushed, FlushOver, FlushedIf, PartIn, InParts, part_at, next_part, stepped, record_at, record_words, record_from, gates_over, listed_gates}
+use Rattle.convert.specs.Code.Raw.{Writing, writing, put_joint, put_flush, put_flushes, FlushReady, Flushed, FlushOver, FlushedIf, PartIn, InParts, part_at, next_part, stepped, record_at, record_words, record_from, gates_over, listed_gates}
 use Rattle.convert.proofs.Counts.Parts.{stepped_up, stepped-one, next_in, next_wide, part_wide}
 use Rattle.arena.specs.Builder.{overlay, start_frame}
 
--- what a rotation more promises
-abbrev Turned : ℕ → ℕ → List ℕ → ℕ → ℕ → ℕ → List ℕ → Type 0
-Turned i u os x k u' os' = (u' ≡ u + 1) × (os' ≡ sets os (operation_words * u) (rotate_words x k i))
+-- what a gate adds
+put_count : (i : ℕ) (g : Gate) (s : Writing) → ((put_flush i g s).count ≡ s.count + written_nodes g) × ((put_flush i g s).used ≡ s.used + written_ops g)
+unfolding put_flush put_joint
+put_count i (gate_h q) s = (omega arith, omega arith)
+put_count i (gate_x q) s = (omega arith, omega arith)
+put_count i (gate_z q) s = (omega arith, omega arith)
+put_count i (gate_s q) s = (omega arith, omega arith)
+put_count i (gate_sdg q) s = (omega arith, omega arith)
+put_count i (gate_cnot c t) s = (omega arith, omega arith)
+put_count i (gate_cz c t) s = (omega arith, omega arith)
 
-one_turn : (i : ℕ) (g : Gate) (x k : ℕ) {c : ℕ} {ns : List ℕ} {u : ℕ} {os : List ℕ} {c' u' : ℕ} {os' : List ℕ} → put_flush i g (writing c ns u os) ≡ put_op (rotate_words x k i) (writing c ns u os)
-    → written_nodes g ≡ 0 → written_ops g ≡ 1 → Turned i u os x k u' os' → c' ≡ c → Flushed (from i g ∷ []) c ns u os c' ns u' os'
+pub gate_flushed : (i : ℕ) (g : Gate) {c : ℕ} {ns : List ℕ} {u : ℕ} {os : List ℕ} {c' : ℕ} {ns' : List ℕ} {u' : ℕ} {os' : List ℕ}
+    → writing c' ns' u' os' ≡ put_flush i g (writing c ns u os) → Flushed (from i g ∷ []) c ns u os c' ns' u' os'
 unfolding put_flushes
-one_turn i g x k {c} {ns} {u} {os} e none one t ec = record {
-  same = rw (ec, t.0, t.1) (sym e);
-  counted = omega arith;
-  turned = let h = t.0 in omega arith;
-}
-
-module _ {c : ℕ} {ns : List ℕ} {u : ℕ} {os : List ℕ} {x c' u₁ u' : ℕ} {os' : List ℕ} (i q : ℕ) (m : (c' ≡ c) × (u' ≡ u₁)) where
-  pub x_flushed : x ≡ id_x q → Turned i u os x 4 u₁ os' → Flushed (from i (gate_x q) ∷ []) c ns u os c' ns u' os'
-  unfolding put_flush
-  x_flushed e t = one_turn i (gate_x q) (id_x q) 4 refl (omega arith) (omega arith) (m.1 ∙ t.0, rw (← e) t.1) m.0
-
-  pub z_flushed : x ≡ id_z q → Turned i u os x 4 u₁ os' → Flushed (from i (gate_z q) ∷ []) c ns u os c' ns u' os'
-  unfolding put_flush
-  z_flushed e t = one_turn i (gate_z q) (id_z q) 4 refl (omega arith) (omega arith) (m.1 ∙ t.0, rw (← e) t.1) m.0
-
-  pub s_flushed : x ≡ id_z q → Turned i u os x 2 u₁ os' → Flushed (from i (gate_s q) ∷ []) c ns u os c' ns u' os'
-  unfolding put_flush
-  s_flushed e t = one_turn i (gate_s q) (id_z q) 2 refl (omega arith) (omega arith) (m.1 ∙ t.0, rw (← e) t.1) m.0
-
-  pub sdg_flushed : x ≡ id_z q → Turned i u os x 6 u₁ os' → Flushed (from i (gate_sdg q) ∷ []) c ns u os c' ns u' os'
-  unfolding put_flush
-  sdg_flushed e t = one_turn i (gate_sdg q) (id_z q) 6 refl (omega arith) (omega arith) (m.1 ∙ t.0, rw (← e) t.1) m.0
-
-pub h_flushed : {c : ℕ} {ns : List ℕ} {u : ℕ} {os : List ℕ} {x z c' u₁ u₂ u₃ u' : ℕ} {os₁ os₂ os₃ : List ℕ} (i q : ℕ) → z ≡ id_z q → x ≡ id_x q
-    → Turned i u os z 2 u₁ os₁ → Turned i u₁ os₁ x 2 u₂ os₂ → Turned i u₂ os₂ z 2 u₃ os₃ → (c' ≡ c) × (u' ≡ u₃)
-    → Flushed (from i (gate_h q) ∷ []) c ns u os c' ns u' os₃
-unfolding put_flushes put_flush
-h_flushed {c} {ns} {u} {os} i q ez ex t₁ t₂ t₃ m = record {
-  same = rw (m.0, m.1, t₃.0, t₃.1, t₂.0, t₂.1, t₁.0, t₁.1, ez, ex);
-  counted = let h = m.0 in omega arith;
-  turned = let h = m.1 in let h₁ = t₁.0 in let h₂ = t₂.0 in let h₃ = t₃.0 in omega arith;
-}
-
-pub joint_put : (i c : ℕ) (ns : List ℕ) (u : ℕ) (os : List ℕ) (l r : ℕ) {j c₁ u₁ u₂ u₃ c' u' : ℕ} {ns₁ os₁ os₂ os₃ : List ℕ} → j ≡ 4 * c
-    → (c₁ ≡ c + 1) × (ns₁ ≡ (put_node l r (writing c ns u os)).nodes)
-    → Turned i u os l 2 u₁ os₁ → Turned i u₁ os₁ r 2 u₂ os₂ → Turned i u₂ os₂ j 6 u₃ os₃ → (c' ≡ c₁) × (u' ≡ u₃)
-    → writing c' ns₁ u' os₃ ≡ put_joint i l r (writing c ns u os)
-unfolding put_joint
-joint_put i c ns u os l r ej n₁ t₁ t₂ t₃ m = rw (m.0, m.1, n₁.0, n₁.1, t₃.0, t₃.1, t₂.0, t₂.1, t₁.0, t₁.1, ej)
-
-joint_flushed : (i : ℕ) (g : Gate) (l r : ℕ) {c : ℕ} {ns : List ℕ} {u : ℕ} {os : List ℕ} {c' : ℕ} {ns' : List ℕ} {u' : ℕ} {os' : List ℕ}
-    → put_flush i g (writing c ns u os) ≡ put_joint i l r (writing c ns u os) → written_nodes g ≡ 1 → written_ops g ≡ 3
-    → writing c' ns' u' os' ≡ put_joint i l r (writing c ns u os) → Flushed (from i g ∷ []) c ns u os c' ns' u' os'
-unfolding put_flushes put_joint
-joint_flushed i g l r {c} {ns} {u} {os} st one three e = record {
-  same = e ∙ sym st;
-  counted = ap (λ (s : Writing). s.count) e ∙ omega arith;
-  turned = ap (λ (s : Writing). s.used) e ∙ omega arith;
-}
-
-pub cnot_flushed : {c : ℕ} {ns : List ℕ} {u : ℕ} {os : List ℕ} {c' : ℕ} {ns' : List ℕ} {u' : ℕ} {os' : List ℕ} {l r : ℕ} (i a b : ℕ) → l ≡ id_z a → r ≡ id_x b
-    → writing c' ns' u' os' ≡ put_joint i l r (writing c ns u os) → Flushed (from i (gate_cnot a b) ∷ []) c ns u os c' ns' u' os'
-unfolding put_flush
-cnot_flushed i a b el er e = joint_flushed i (gate_cnot a b) (id_z a) (id_x b) refl (omega arith) (omega arith) (rw (← el, ← er) e)
-
-pub cz_flushed : {c : ℕ} {ns : List ℕ} {u : ℕ} {os : List ℕ} {c' : ℕ} {ns' : List ℕ} {u' : ℕ} {os' : List ℕ} {l r : ℕ} (i a b : ℕ) → l ≡ id_z a → r ≡ id_z b
-    → writing c' ns' u' os' ≡ put_joint i l r (writing c ns u os) → Flushed (from i (gate_cz a b) ∷ []) c ns u os c' ns' u' os'
-unfolding put_flush
-cz_flushed i a b el er e = joint_flushed i (gate_cz a b) (id_z a) (id_z b) refl (omega arith) (omega arith) (rw (← el, ← er) e)
+gate_flushed i g {c} {ns} {u} {os} e =
+    let k = put_count i g (writing c ns u os) in
+    record {
+      same = e;
+      counted = let h = ap (λ (s : Writing). s.count) e ∙ k.0 in omega (arith, h);
+      turned = let h = ap (λ (s : Writing). s.used) e ∙ k.1 in omega (arith, h);
+    }
 
 -- ---- several gates
 
-pub flush_head : {n : ℕ} {g : From Gate} {gs : List (From Gate)} {c : ℕ} {ns : List ℕ} {u : ℕ} {os : List ℕ} → FlushReady n (g ∷ gs) c ns u os → FlushReady n (g ∷ []) c ns u os
-flush_head r = record {
-  valid = (r.valid.0, tt);
-  qubits = r.qubits;
-  few = omega arith;
-  room = omega arith;
-  fewer = omega arith;
-  place = omega arith;
+valid_more : (n m : ℕ) → n ≤ m → (g : Gate) → Valid n g → Valid m g
+valid_more n m h (gate_h q) v = omega (arith, h, v)
+valid_more n m h (gate_x q) v = omega (arith, h, v)
+valid_more n m h (gate_z q) v = omega (arith, h, v)
+valid_more n m h (gate_s q) v = omega (arith, h, v)
+valid_more n m h (gate_sdg q) v = omega (arith, h, v)
+valid_more n m h (gate_cnot c t) v = (omega (arith, h, v.0), omega (arith, h, v.1), v.2)
+valid_more n m h (gate_cz c t) v = (omega (arith, h, v.0), omega (arith, h, v.1), v.2)
+
+all_valid_more : (n m : ℕ) → n ≤ m → (gs : List Gate) → AllValid n gs → AllValid m gs
+all_valid_more n m h [] v = tt
+all_valid_more n m h (g ∷ gs) v = (valid_more n m h g v.0, all_valid_more n m h gs v.1)
+
+-- the gates of fewer qubits are gates of the most that there can be
+pub flush_wider : {n : ℕ} {gs : List (From Gate)} {c : ℕ} {ns : List ℕ} {u : ℕ} {os : List ℕ} → FlushReady n gs c ns u os → FlushReady max_qubits gs c ns u os
+flush_wider {n} {gs} r = record {
+  valid = all_valid_more n max_qubits r.qubits (without_index gs) r.valid;
+  qubits = omega arith;
+  few = r.few;
+  room = r.room;
+  fewer = r.fewer;
+  place = r.place;
 }
 
-pub flush_tail : {n : ℕ} {g : From Gate} {gs : List (From Gate)} {c : ℕ} {ns : List ℕ} {u : ℕ} {os : List ℕ} {c' : ℕ} {ns' : List ℕ} {u' : ℕ} {os' : List ℕ} → FlushReady n (g ∷ gs) c ns u os
-    → Flushed (g ∷ []) c ns u os c' ns' u' os' → length ns' ≡ length ns → length os' ≡ length os → FlushReady n gs c' ns' u' os'
-flush_tail r d ln lo = record {
-  valid = r.valid.1;
-  qubits = r.qubits;
-  few = omega arith;
-  room = omega arith;
-  fewer = omega arith;
-  place = omega arith;
-}
+pub over_wider : {n : ℕ} {narrow : Bool} {gs : List ℕ} {first to c : ℕ} {ns : List ℕ} {u : ℕ} {os : List ℕ} → FlushOver n narrow gs first to c ns u os → FlushOver max_qubits narrow gs first to c ns u os
+over_wider o = record { count = o.count; ends = o.ends; ready = flush_wider o.ready }
 
-pub none_flushed : {c : ℕ} {ns : List ℕ} {u : ℕ} {os : List ℕ} → Flushed [] c ns u os c ns u os
+none_flushed : {c : ℕ} {ns : List ℕ} {u : ℕ} {os : List ℕ} → Flushed [] c ns u os c ns u os
 unfolding put_flushes
 none_flushed = record { same = refl; counted = omega arith; turned = omega arith }
-
-pub more_flushed : {g : From Gate} {gs : List (From Gate)} {c : ℕ} {ns : List ℕ} {u : ℕ} {os : List ℕ} {c₁ : ℕ} {ns₁ : List ℕ} {u₁ : ℕ} {os₁ : List ℕ} {c₂ : ℕ} {ns₂ : List ℕ} {u₂ : ℕ} {os₂ : List ℕ}
-    → Flushed (g ∷ []) c ns u os c₁ ns₁ u₁ os₁ → Flushed gs c₁ ns₁ u₁ os₁ c₂ ns₂ u₂ os₂ → Flushed (g ∷ gs) c ns u os c₂ ns₂ u₂ os₂
-unfolding put_flushes
-more_flushed a b = record { same = b.same ∙ rw a.same; counted = omega arith; turned = omega arith }
 
 total-over : (f : Gate → ℕ) (gs hs : List (From Gate)) → total f (without_index (gs ++ hs)) ≡ total f (without_index gs) + total f (without_index hs)
 total-over f [] hs = omega arith
@@ -230,7 +183,7 @@ flush_end n narrow gs first to c₀ ns₀ u₀ os₀ c ns u os p at h =
     let e : at.left ≡ 0 = omega (arith, stepped_up narrow gs at.left p, at.ends, h) in
     at.leads c ns u os (rw e none_flushed)
 
-no_both : {f : Bool} → f ≡ true → f ≡ false → ⊥
+pub no_both : {f : Bool} → f ≡ true → f ≡ false → ⊥
 no_both p q = let z : ◌≡◌ {A = ℕ} 0 1 = cc in omega arith
 
 -- ---- the records of a list, from one to another

@@ -10,9 +10,9 @@ use Rattle.convert.specs.Records.{GateKind, Cap, Record, placed_from, kind_of, l
 use Rattle.convert.specs.Plain.{flush_from, plain_run}
 use Rattle.convert.specs.Planes.{part_words}
 use Rattle.convert.specs.Code.RawPlanes.{Since}
-use Rattle.convert.specs.Code.Raw.{record_at, part_at, stepped, Fits, Room, is_capped, any_exceeds, planes_for, measures_of, record_gates, Decided, FlushOver, FlushedIf, InParts, gates_over, FrameReady, Ran, RecordReady, writing, put_record, plain_last, words_last}
+use Rattle.convert.specs.Code.Raw.{record_at, part_at, stepped, Fits, Room, is_capped, any_exceeds, planes_for, measures_of, record_gates, Decided, FlushOver, FlushedIf, InParts, gates_over, FrameReady, Ran, RecordReady, writing, put_record}
 use Rattle.convert.specs.Code.Lists.{Listed, place_in, position_in}
-use Rattle.convert.specs.Code.Writing.{Stands, WriteAt, Going, ListDone, Wrote}
+use Rattle.convert.specs.Code.Writing.{WriteAt, Going, ListDone, Wrote, Ended}
 use Rattle.convert.proofs.Counts.Parts.{PartFits, part_fits}
 use Rattle.convert.proofs.Counts.Lists.{list_count, record_here, index_here, to_here, before_end, next_here, from_here, place_here, place_sixteen, position_sixteen, list_in}
 use Rattle.convert.proofs.Buffers.Writing.{write_planes, write_flush, write_frames, write_ready, write_more, write_end}
@@ -130,14 +130,13 @@ module _ (n : ℕ) (cap : Cap) (narrow : Bool) (gs list : List ℕ) (place first
             rw (same_kind, same_a, same_b)
             (write_frames n cap narrow gs ns₀ fs₀ os₀ ps₀ c ns fs u os ps given since_place position at in_list fits qubits room₀ lens f planes_here.0 c₁ ns₁ fs₁ u₁ os₁ flushed_here lens₁)
 
+        pub list_ready : RecordReady n given kind a b d c₁ ns₁ u₁ os₁ fs₁
+        list_ready =
+            rw (same_kind, same_a, same_b, same_d)
+            (write_ready n cap narrow gs ns₀ fs₀ os₀ ps₀ c ns fs u os ps given since_place position at in_list fits qubits room₀ lens f planes_here.0 c₁ ns₁ fs₁ u₁ os₁ flushed_here lens₁)
+
         module _ (c₂ : ℕ) (ns₂ fs₂ : List ℕ) (d₂ : Ran n (record_gates kind a b) c₁ ns₁ fs₁ c₂ ns₂ fs₂)
             (lens₂ : (length ns₂ ≡ length ns₁) × (length fs₂ ≡ length fs₁)) where
-          pub list_ready : RecordReady n given kind a b d c₂ ns₂ u₁ os₁ fs₂
-          list_ready =
-              rw (same_kind, same_a, same_b, same_d)
-              (write_ready n cap narrow gs ns₀ fs₀ os₀ ps₀ c ns fs u os ps given since_place position at in_list fits qubits room₀ lens f planes_here.0 c₁ ns₁ fs₁ u₁ os₁ flushed_here lens₁
-              c₂ ns₂ fs₂ (rw (same_kind, same_a, same_b) at d₂) lens₂)
-
           pub list_next : (c₃ : ℕ) (ns₃ : List ℕ) (u₃ : ℕ) (os₃ : List ℕ) (given₃ : ℕ) (any₃ : Bool) (last₃ : ℕ)
               → writing c₃ ns₃ u₃ os₃ ≡ put_record n given (index + i) kind a b d fs₂ (writing c₂ ns₂ u₁ os₁) → given₃ ≡ given + measures_of kind → any₃ ≡ (any || f) → last₃ ≡ cond f i last
               → (is_capped cap ≡ true → narrow ≡ false → Since n (part_words n) ps' gs (cond f i last) (i + 1 - cond f i last)) → length ns₃ ≡ length ns₂ → length os₃ ≡ length os₁
@@ -165,11 +164,6 @@ pub list_done : (n : ℕ) (cap : Cap) (narrow : Bool) (gs list : List ℕ) (plac
 list_done n cap narrow gs list place first index ns₀ fs₀ os₀ ps₀ c ns fs u os ps given any last i l lo hi g =
     let e : i ≡ cond narrow 1 (length gs / 4) = omega (arith, lo, hi, list_count narrow gs list place first index l) in
     record { last = last; going = rw e at g }
-
--- after all gates
-abbrev Ended : ℕ → Cap → (gs ns₀ fs₀ os₀ ps₀ : List ℕ) → ℕ → (ns fs : List ℕ) → ℕ → (os ps : List ℕ) → ℕ → Type 0
-Ended n cap gs ns₀ fs₀ os₀ ps₀ c ns fs u os ps given =
-    Stands n ns₀ fs₀ os₀ c ns fs u os (words_last n cap gs) × (given ≡ (plain_last n cap gs).given) × (ps ≡ planes_for cap n (plain_last n cap gs).table ps₀)
 
 pub list_ended : {n : ℕ} {cap : Cap} {gs ns₀ fs₀ os₀ ps₀ : List ℕ} {place first c : ℕ} {ns fs : List ℕ} {u : ℕ} {os ps : List ℕ} {given : ℕ} {any : Bool}
     → ListDone n cap false gs ns₀ fs₀ os₀ ps₀ place first c ns fs u os ps given any → Ended n cap gs ns₀ fs₀ os₀ ps₀ c ns fs u os ps given

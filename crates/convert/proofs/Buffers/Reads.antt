@@ -1,18 +1,14 @@
 -- What a record that is no frame gate may read and write.
 use mathlib.Core.Path.{◌≡◌}
 use mathlib.Core.Bool.{true}
-use mathlib.Core.List.{List, [], ◌∷◌}
+use mathlib.Core.List.{List}
 use Prim.Native.Nat.{ℕ, ◌+◌, ◌*◌, ◌<◌, ◌≤◌}
 use native.Mathlib.Omega.{arith}
 use lib.ListN.{length, get_or}
-use types.Run.{OneOf}
-use denote.Enum.Declared.{tag_of}
 use Rattle.arena.specs.Limits.{max_qubits, max_cbits, max_nodes, max_operations, node_words, operation_words}
-use Rattle.convert.specs.contracts.gate.GateKind.{the_type}
 use Rattle.convert.specs.Records.{GateKind, KindT, KindTdg, KindCcx, KindCcz, KindMeasure, lower_as}
 use Rattle.convert.specs.Conversion.{is_measure}
 use Rattle.convert.specs.Code.Raw.{max_word, cost_of, tests_of, last_place, RecordReady}
-use Rattle.convert.proofs.GateKinds.Arms.{each}
 
 -- t, tdg and measure
 pub record Lone (n a b u : ℕ) (os fs : List ℕ) (k : GateKind) : Type 0 where
@@ -22,7 +18,7 @@ pub record Lone (n a b u : ℕ) (os fs : List ℕ) (k : GateKind) : Type 0 where
   pub place : operation_words * u + operation_words ≤ length os
   pub bit : is_measure k ≡ true → b < max_cbits
 
-read_t : {n given a b d c : ℕ} {ns : List ℕ} {u : ℕ} {os fs : List ℕ} → RecordReady n given KindT a b d c ns u os fs → Lone n a b u os fs KindT
+pub read_t : {n given a b d c : ℕ} {ns : List ℕ} {u : ℕ} {os fs : List ℕ} → RecordReady n given KindT a b d c ns u os fs → Lone n a b u os fs KindT
 unfolding cost_of lower_as
 read_t r =
     let h = r.proper.0 in record {
@@ -33,7 +29,7 @@ read_t r =
       bit = λ e. let z : ◌≡◌ {A = ℕ} 0 1 = cc in absurd (omega arith);
     }
 
-read_tdg : {n given a b d c : ℕ} {ns : List ℕ} {u : ℕ} {os fs : List ℕ} → RecordReady n given KindTdg a b d c ns u os fs → Lone n a b u os fs KindTdg
+pub read_tdg : {n given a b d c : ℕ} {ns : List ℕ} {u : ℕ} {os fs : List ℕ} → RecordReady n given KindTdg a b d c ns u os fs → Lone n a b u os fs KindTdg
 unfolding cost_of lower_as
 read_tdg r =
     let h = r.proper.0 in record {
@@ -44,7 +40,7 @@ read_tdg r =
       bit = λ e. let z : ◌≡◌ {A = ℕ} 0 1 = cc in absurd (omega arith);
     }
 
-read_measure : {n given a b d c : ℕ} {ns : List ℕ} {u : ℕ} {os fs : List ℕ} → RecordReady n given KindMeasure a b d c ns u os fs → Lone n a b u os fs KindMeasure
+pub read_measure : {n given a b d c : ℕ} {ns : List ℕ} {u : ℕ} {os fs : List ℕ} → RecordReady n given KindMeasure a b d c ns u os fs → Lone n a b u os fs KindMeasure
 unfolding cost_of lower_as
 read_measure r =
     let h = r.proper.0 in record {
@@ -54,9 +50,6 @@ read_measure r =
       place = omega (arith, r.place);
       bit = λ e. h.1;
     }
-
-pub read_lone : {n given a b d c : ℕ} {ns : List ℕ} {u : ℕ} {os fs : List ℕ} (k : GateKind) → OneOf (5 ∷ 6 ∷ 11 ∷ []) (tag_of the_type k) → RecordReady n given k a b d c ns u os fs → Lone n a b u os fs k
-read_lone {n} {given} {a} {b} {d} {c} {ns} {u} {os} {fs} k o = each (λ (k : GateKind). RecordReady n given k a b d c ns u os fs → Lone n a b u os fs k) (5 ∷ 6 ∷ 11 ∷ []) (read_t, (read_tdg, (read_measure, tt))) k o
 
 -- ccx and ccz
 pub record Doubly (n a b d c : ℕ) (ns : List ℕ) (u : ℕ) (os fs : List ℕ) (k : GateKind) : Type 0 where
@@ -74,7 +67,7 @@ pub record Doubly (n a b d c : ℕ) (ns : List ℕ) (u : ℕ) (os fs : List ℕ)
   pub small_left : get_or fs (n + a) 0 < max_word
   pub small_right : get_or fs (n + b) 0 < max_word
 
-read_ccx : {n given a b d c : ℕ} {ns : List ℕ} {u : ℕ} {os fs : List ℕ} → RecordReady n given KindCcx a b d c ns u os fs → Doubly n a b d c ns u os fs KindCcx
+pub read_ccx : {n given a b d c : ℕ} {ns : List ℕ} {u : ℕ} {os fs : List ℕ} → RecordReady n given KindCcx a b d c ns u os fs → Doubly n a b d c ns u os fs KindCcx
 unfolding cost_of lower_as tests_of
 read_ccx {n} {given} {a} {b} r =
     let h = r.proper.0 in record {
@@ -93,7 +86,7 @@ read_ccx {n} {given} {a} {b} r =
       small_right = r.small (n + b) (omega (arith, h.1));
     }
 
-read_ccz : {n given a b d c : ℕ} {ns : List ℕ} {u : ℕ} {os fs : List ℕ} → RecordReady n given KindCcz a b d c ns u os fs → Doubly n a b d c ns u os fs KindCcz
+pub read_ccz : {n given a b d c : ℕ} {ns : List ℕ} {u : ℕ} {os fs : List ℕ} → RecordReady n given KindCcz a b d c ns u os fs → Doubly n a b d c ns u os fs KindCcz
 unfolding cost_of lower_as tests_of
 read_ccz {n} {given} {a} {b} r =
     let h = r.proper.0 in record {
@@ -111,6 +104,3 @@ read_ccz {n} {given} {a} {b} r =
       small_left = r.small (n + a) (omega (arith, h.0));
       small_right = r.small (n + b) (omega (arith, h.1));
     }
-
-pub read_doubly : {n given a b d c : ℕ} {ns : List ℕ} {u : ℕ} {os fs : List ℕ} (k : GateKind) → OneOf (9 ∷ 10 ∷ []) (tag_of the_type k) → RecordReady n given k a b d c ns u os fs → Doubly n a b d c ns u os fs k
-read_doubly {n} {given} {a} {b} {d} {c} {ns} {u} {os} {fs} k o = each (λ (k : GateKind). RecordReady n given k a b d c ns u os fs → Doubly n a b d c ns u os fs k) (9 ∷ 10 ∷ []) (read_ccx, (read_ccz, tt)) k o

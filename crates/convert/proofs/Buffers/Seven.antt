@@ -1,34 +1,19 @@
 -- The table of the seven rows, and what ccx and ccz write in the buffers.
 use mathlib.Core.Path.{◌≡◌, refl, sym, ap, ◌∙◌}
-use mathlib.Core.Bool.{cond}
 use mathlib.Core.List.{List, [], ◌∷◌}
-use Prim.Native.Nat.{ℕ, zero, suc, ◌+◌, ◌*◌, ◌<◌, ◌≤◌}
+use Prim.Native.Nat.{ℕ, zero, suc, ◌+◌, ◌*◌, ◌<◌}
 use native.Mathlib.Omega.{arith}
 use native.Mathlib.Numerals.{add-one}
-use lib.ListN.{length, get_or, set}
+use lib.ListN.{get_or, set}
 use lib.Seq.{sets}
 use Rattle.arena.specs.Limits.{operation_words}
 use Rattle.arena.specs.Operations.{rotate_words}
-use Rattle.arena.specs.Builder.{operation_written}
-use Rattle.arena.proofs.Overlay.{operation_written_lem}
-use Rattle.convert.specs.Records.{GateKind}
-use Rattle.convert.specs.Conversion.{is_measure}
-use Rattle.convert.specs.Code.Raw.{Writing, writing, put_op, row_at, subset_of, subset_word, put_rows, put_four, put_seven, first_word, lone_words}
+use Rattle.convert.specs.Code.Raw.{Writing, writing, put_op, row_at, subset_of, subset_word, put_rows, put_four, put_seven}
 
-abbrev pub table : List ℕ
-table = 1 ∷ 1 ∷ 2 ∷ 1 ∷ 4 ∷ 1 ∷ 3 ∷ 7 ∷ 5 ∷ 7 ∷ 6 ∷ 7 ∷ 7 ∷ 1 ∷ []
+abbrev table : List (ℕ × ℕ)
+table = (1, 1) ∷ (2, 1) ∷ (4, 1) ∷ (3, 7) ∷ (5, 7) ∷ (6, 7) ∷ (7, 1) ∷ []
 
-pub row_subset : (j : ℕ) → j < 7 → get_or table (2 * j) 0 ≡ subset_of (row_at j)
-row_subset zero h = refl
-row_subset (suc zero) h = refl
-row_subset (suc (suc zero)) h = refl
-row_subset (suc (suc (suc zero))) h = refl
-row_subset (suc (suc (suc (suc zero)))) h = refl
-row_subset (suc (suc (suc (suc (suc zero))))) h = refl
-row_subset (suc (suc (suc (suc (suc (suc zero)))))) h = refl
-row_subset (suc (suc (suc (suc (suc (suc (suc j))))))) h = absurd (omega arith)
-
-pub row_angle : (j : ℕ) → j < 7 → (get_or table (2 * j + 1) 0 ≡ (row_at j).angle) × (get_or table (2 * j + 1) 0 < 8)
+pub row_angle : (j : ℕ) → j < 7 → ((get_or table j (0, 0)).1 ≡ (row_at j).angle) × ((get_or table j (0, 0)).1 < 8)
 row_angle zero h = (refl, omega arith)
 row_angle (suc zero) h = (refl, omega arith)
 row_angle (suc (suc zero)) h = (refl, omega arith)
@@ -91,8 +76,3 @@ seven_put i c ns u os a b d c' u' r s ns' os' f g m =
 pub op_put : (c : ℕ) (ns : List ℕ) (u : ℕ) (os vs : List ℕ) (u₁ r s : ℕ) (os₁ : List ℕ) → (u₁ ≡ u + 1) × (os₁ ≡ sets os (operation_words * u) vs) → (r ≡ c) × (s ≡ u₁)
     → writing r ns s os₁ ≡ put_op vs (writing c ns u os)
 op_put c ns u os vs u₁ r s os₁ t m = rw (m.0, m.1, t.0, t.1)
-
--- t, tdg or measure, by the words of its one operation
-pub lone_put : (kind : GateKind) (axis given bit i u : ℕ) (os os₁ : List ℕ) (f g b : ℕ) → f ≡ first_word kind → g ≡ cond (is_measure kind) given 0 → b ≡ cond (is_measure kind) (bit + 1) 0
-    → operation_words * u + operation_words ≤ length os → os₁ ≡ operation_written u (f ∷ axis ∷ g ∷ b ∷ i ∷ []) os → os₁ ≡ sets os (operation_words * u) (lone_words kind axis given bit i)
-lone_put kind axis given bit i u os os₁ f g b ef eg eb room e = e ∙ operation_written_lem u (f ∷ axis ∷ g ∷ b ∷ i ∷ []) os (omega arith) ∙ rw (ef, eg, eb)

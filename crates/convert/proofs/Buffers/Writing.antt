@@ -281,24 +281,24 @@ module _ (n : ℕ) (cap : Cap) (narrow : Bool) (gs ns₀ fs₀ os₀ ps₀ : Lis
           room = omega (arith, w.0, k.0, np, room.nodes_lent, lens.0, lens₁.0);
         }
 
+    pub write_ready : RecordReady n given kind_i a_i b_i d_i c₁ ns₁ u₁ os₁ fs₁
+    write_ready =
+        let w = within in
+        let k = counted₁ in
+        let np = node_parts kind_i a_i b_i in
+        record {
+          proper = fits_i.bits;
+          qubits = qubits;
+          places = omega (arith, lens.2, lens₁.2);
+          small = small_if f n pending_i qubits at.small d₁;
+          few = omega (arith, w.0, k.0, np, room.nodes);
+          room = omega (arith, w.0, k.0, np, room.nodes_lent, lens.0, lens₁.0);
+          fewer = omega (arith, w.1, k.1, room.operations);
+          place = omega (arith, w.1, k.1, room.operations_lent, lens.1, lens₁.1);
+        }
+
     module _ (c₂ : ℕ) (ns₂ fs₂ : List ℕ) (d₂ : Ran n (record_gates kind_i a_i b_i) c₁ ns₁ fs₁ c₂ ns₂ fs₂)
         (lens₂ : (length ns₂ ≡ length ns₁) × (length fs₂ ≡ length fs₁)) where
-      pub write_ready : RecordReady n given kind_i a_i b_i d_i c₂ ns₂ u₁ os₁ fs₂
-      write_ready =
-          let w = within in
-          let k = counted₁ in
-          let np = node_parts kind_i a_i b_i in
-          record {
-            proper = fits_i.bits;
-            qubits = qubits;
-            places = omega (arith, lens.2, lens₁.2, lens₂.1);
-            small = d₂.small;
-            few = omega (arith, w.0, k.0, np, d₂.counted, room.nodes);
-            room = omega (arith, w.0, k.0, np, d₂.counted, room.nodes_lent, lens.0, lens₁.0, lens₂.0);
-            fewer = omega (arith, w.1, k.1, room.operations);
-            place = omega (arith, w.1, k.1, room.operations_lent, lens.1, lens₁.1);
-          }
-
       pub write_more : (c₃ : ℕ) (ns₃ : List ℕ) (u₃ : ℕ) (os₃ ps₃ : List ℕ) (given₃ place₃ next : ℕ)
           → writing c₃ ns₃ u₃ os₃ ≡ put_record n given (p / 16) kind_i a_i b_i d_i fs₂ (writing c₂ ns₂ u₁ os₁)
           → ps₃ ≡ planes_for cap n (plain_run flush_from n cap these_i at.plain).table ps₀ → given₃ ≡ given + measures_of kind_i → place₃ ≡ cond f p place

@@ -13,7 +13,7 @@ use Rattle.arena.specs.Limits.{max_cbits}
 use Rattle.convert.specs.Records.{GateKind, KindH, KindX, KindZ, KindS, KindSdg, KindT, KindTdg, KindCnot, KindCz, KindCcx, KindCcz, KindMeasure, KindY, KindSx, KindSwap, KindCy, Unsupported, Record, record_of, kind_of, Elementary, clifford, el_t, el_tdg, thirteen_of, fifteen_of, parts_as, parts_of, lower, lower_as, lower_parts, lower_in, Placed, placed_from, AllProper}
 use Rattle.convert.specs.Sources.{All}
 use Rattle.convert.specs.Conversion.{is_doubly}
-use Rattle.convert.specs.Code.Raw.{record_at, part_count, part_at, PartIn, InParts, next_part, stepped, word_in, packed_parts, chosen, unpacked_part, Fits}
+use Rattle.convert.specs.Code.Raw.{record_at, part_count, part_at, PartIn, InParts, next_part, stepped, packed_parts, unpacked_part, Fits}
 
 -- ---- which parts there are
 
@@ -229,21 +229,6 @@ part_wide gs p = go (p % 16)
     go zero = refl
     go (suc j) = refl
 
--- the words of a record in the list
-pub word_in_lem : (gs : List ℕ) (i j : ℕ) → j < 4 → get_or gs (4 * i + j) 0 ≡ word_in (record_at gs i) j
-word_in_lem gs i zero h = let e : 4 * i + 0 ≡ 4 * i = omega arith in rw e
-word_in_lem gs i (suc zero) h = refl
-word_in_lem gs i (suc (suc zero)) h = refl
-word_in_lem gs i (suc (suc (suc zero))) h = refl
-word_in_lem gs i (suc (suc (suc (suc j)))) h = absurd (omega arith)
-
-pub chosen-in : (gs : List ℕ) (i s : ℕ) → s < 4 → (s ≡ 0 → ⊥) → get_or gs (4 * i + s) 0 ≡ chosen (record_at gs i) s
-chosen-in gs i zero h ne = absurd (ne refl)
-chosen-in gs i (suc zero) h ne = refl
-chosen-in gs i (suc (suc zero)) h ne = refl
-chosen-in gs i (suc (suc (suc zero))) h ne = refl
-chosen-in gs i (suc (suc (suc (suc s)))) h ne = absurd (omega arith)
-
 pub map_at : {A B : Type 0} (f : A → B) (xs : List A) (j : ℕ) (d : A) (e : B) → j < length xs → get_or (map f xs) j e ≡ f (get_or xs j d)
 map_at f [] j d e h = absurd (omega arith)
 map_at f (x ∷ xs) zero d e h = refl
@@ -391,12 +376,6 @@ part_fits n narrow gs f p at =
     (parts_fit n narrow (record_at gs (p / 16)) (record { known = f.known (p / 16) at.0; each = f.each (p / 16) at.0; bits = f.bits (p / 16) at.0 })) at.1
 
 -- ---- for the code
-
-pub word_rest : (r : Record) (j : ℕ) → (j ≡ 0 → ⊥) → (j ≡ 1 → ⊥) → (j ≡ 2 → ⊥) → word_in r j ≡ r.c
-word_rest r zero a b c = absurd (a refl)
-word_rest r (suc zero) a b c = absurd (b refl)
-word_rest r (suc (suc zero)) a b c = absurd (c refl)
-word_rest r (suc (suc (suc j))) a b c = refl
 
 pub next_same : (narrow : Bool) (gs : List ℕ) (p m : ℕ) → m ≡ length (parts_of narrow (record_at gs (p / 16))) → p % 16 + 1 < m → p + 1 ≡ next_part narrow gs p
 unfolding next_part

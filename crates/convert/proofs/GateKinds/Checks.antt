@@ -2,14 +2,19 @@
 use mathlib.Core.Path.{◌≡◌, refl, sym, ap, ap₂, ◌∙◌}
 use mathlib.Core.Bool.{Bool, true, false, not, ◌&&◌, ◌||◌}
 use mathlib.Core.List.{List, [], ◌∷◌, map}
-use Prim.Native.Nat.{ℕ, zero, suc, ◌+◌, ◌*◌, ◌/◌, ◌<◌, ◌≤◌, min}
+use Prim.Native.Nat.{ℕ, zero, suc, ◌+◌, ◌*◌, ◌/◌, ◌<◌, ◌≤◌}
 use native.Mathlib.Nat.{mul-le-mul_left, add-zero, zero-add}
 use native.Mathlib.Numerals.{add-one}
 use lib.ListN.{length, get_or, take, drop, get_or-map}
 use native.Mathlib.Omega.{arith}
 use lib.Dec.{leb, ltb, eqb}
+use mathlib.Core.Logic.{⊎_elim}
+use types.Run.{OneOf}
+use denote.Enum.Declared.{tag_of}
+use Rattle.convert.specs.contracts.gate.Shape.{the_type}
 use lib.Bits.{bit_or, or_zero_r}
-use borrow.Author.Tests.{ltb-true, eqb-true, lt-leb, ne_eqb, not-true}
+use borrow.Author.Tests.{eqb-true, lt-leb, ne_eqb}
+use Rattle.std.specs.List.{list_any}
 use Rattle.arena.specs.Errors.{◌⟫◌⇒◌}
 use Rattle.convert.specs.Types.{PbcError, QubitOutOfRange, RepeatedOperand, UnsupportedGate, ClassicalBitOutOfRange, TargetTaken, BadStore, NonCliffordFrameGate, NoFrame, NoNodes, Header, Checked, Fine, Wrong}
 use Rattle.arena.specs.Store.{breaks_limit, exceeds_nodes, no_node_room}
@@ -54,42 +59,28 @@ at_number Measured = refl
 pub has_shape_lem : (k : GateKind) (s : Shape) → has_shape k s ≡ true → shape_of k ≡ s
 has_shape_lem k s e = sym (at_number (shape_of k)) ∙ ap shape_at (eqb-true (shape_number (shape_of k)) (shape_number s) e) ∙ at_number s
 
-module _ (s : Checked) (n i : ℕ) (k : GateKind) (a b c : ℕ) where
-  pub none_checked : has_shape k NoShape ≡ true → s ≡ operands_checked s n i [] (qubits_of k a b c)
-  unfolding operands_checked qubits_of
-  none_checked e = rw (has_shape_lem k NoShape e)
+-- the one qubit of these shapes
+pub lone_qubit : (t : Shape) (a b c : ℕ) → OneOf (1 ∷ 4 ∷ []) (tag_of the_type t) → qubits_by t a b c ≡ a ∷ []
+lone_qubit NoShape a b c o = ⊎_elim (λ e. absurd (omega (arith, e))) (λ e. absurd (omega (arith, e))) o
+lone_qubit OneQubit a b c o = refl
+lone_qubit TwoQubits a b c o = ⊎_elim (λ e. absurd (omega (arith, e))) (λ e. absurd (omega (arith, e))) o
+lone_qubit ThreeQubits a b c o = ⊎_elim (λ e. absurd (omega (arith, e))) (λ e. absurd (omega (arith, e))) o
+lone_qubit Measured a b c o = refl
 
-  pub one_checked : (f : Checked) → f ≡ (s ⟫ leb n a ⇒ QubitOutOfRange i a) → (has_shape k OneQubit || has_shape k Measured) ≡ true → f ≡ operands_checked s n i [] (qubits_of k a b c)
-  unfolding operands_checked qubits_of
-  one_checked f ef e = ef ∙ go (shape_of k) refl e
-    where
-      go : (t : Shape) → qubits_by (shape_of k) a b c ≡ qubits_by t a b c → (eqb (shape_number t) 1 || eqb (shape_number t) 4) ≡ true
-          → (s ⟫ leb n a ⇒ QubitOutOfRange i a) ≡ operands_checked s n i [] (qubits_of k a b c)
-      go NoShape q t = let z : ◌≡◌ {A = ℕ} 0 1 = cc in absurd (omega arith)
-      go OneQubit q t = rw q (sym (no_test (s ⟫ leb n a ⇒ QubitOutOfRange i a) (RepeatedOperand i a)))
-      go TwoQubits q t = let z : ◌≡◌ {A = ℕ} 0 1 = cc in absurd (omega arith)
-      go ThreeQubits q t = let z : ◌≡◌ {A = ℕ} 0 1 = cc in absurd (omega arith)
-      go Measured q t = rw q (sym (no_test (s ⟫ leb n a ⇒ QubitOutOfRange i a) (RepeatedOperand i a)))
+module _ (n i a b c : ℕ) where
+  pub one_checked : (f : Checked) → f ≡ (Fine ⟫ leb n a ⇒ QubitOutOfRange i a) → f ≡ operands_checked Fine n i [] (a ∷ [])
+  unfolding operands_checked
+  one_checked f ef = ef ∙ sym (no_test (Fine ⟫ leb n a ⇒ QubitOutOfRange i a) (RepeatedOperand i a))
 
-  pub two_checked : (f g h : Checked) → f ≡ (s ⟫ leb n a ⇒ QubitOutOfRange i a) → g ≡ (f ⟫ leb n b ⇒ QubitOutOfRange i b) → h ≡ (g ⟫ eqb b a ⇒ RepeatedOperand i b)
-      → has_shape k TwoQubits ≡ true → h ≡ operands_checked s n i [] (qubits_of k a b c)
-  unfolding operands_checked qubits_of
-  two_checked f g h ef eg eh e =
-      rw (eh, eg, ef, has_shape_lem k TwoQubits e, no_test (s ⟫ leb n a ⇒ QubitOutOfRange i a) (RepeatedOperand i a), or-false (eqb b a))
+  pub pair_checked : (f g h : Checked) → f ≡ (Fine ⟫ leb n a ⇒ QubitOutOfRange i a) → g ≡ (f ⟫ leb n b ⇒ QubitOutOfRange i b) → h ≡ (g ⟫ eqb b a ⇒ RepeatedOperand i b)
+      → h ≡ operands_checked Fine n i [] (a ∷ b ∷ [])
+  unfolding operands_checked
+  pair_checked f g h ef eg eh = rw (eh, eg, ef, no_test (Fine ⟫ leb n a ⇒ QubitOutOfRange i a) (RepeatedOperand i a), or-false (eqb b a))
 
-  pub three_checked : (f g h j m : Checked) → f ≡ (s ⟫ leb n a ⇒ QubitOutOfRange i a) → g ≡ (f ⟫ leb n b ⇒ QubitOutOfRange i b) → h ≡ (g ⟫ eqb b a ⇒ RepeatedOperand i b)
-      → j ≡ (h ⟫ leb n c ⇒ QubitOutOfRange i c) → m ≡ (j ⟫ eqb c b || eqb c a ⇒ RepeatedOperand i c)
-      → has_shape k NoShape ≡ false → (has_shape k OneQubit || has_shape k Measured) ≡ false → has_shape k TwoQubits ≡ false → m ≡ operands_checked s n i [] (qubits_of k a b c)
-  unfolding operands_checked qubits_of
-  three_checked f g h j m ef eg eh ej em n0 n14 n2 =
-      rw (em, ej, eh, eg, ef, three (shape_of k) n0 n14 n2, no_test (s ⟫ leb n a ⇒ QubitOutOfRange i a) (RepeatedOperand i a), or-false (eqb b a), or-false (eqb c a))
-    where
-      three : (t : Shape) → eqb (shape_number t) 0 ≡ false → (eqb (shape_number t) 1 || eqb (shape_number t) 4) ≡ false → eqb (shape_number t) 2 ≡ false → t ≡ ThreeQubits
-      three NoShape a b c = let z : ◌≡◌ {A = ℕ} 0 1 = cc in absurd (omega arith)
-      three OneQubit a b c = let z : ◌≡◌ {A = ℕ} 0 1 = cc in absurd (omega arith)
-      three TwoQubits a b c = let z : ◌≡◌ {A = ℕ} 0 1 = cc in absurd (omega arith)
-      three ThreeQubits a b c = refl
-      three Measured a b c = let z : ◌≡◌ {A = ℕ} 0 1 = cc in absurd (omega arith)
+  pub three_checked : (p j m : Checked) → p ≡ operands_checked Fine n i [] (a ∷ b ∷ []) → j ≡ (p ⟫ leb n c ⇒ QubitOutOfRange i c) → m ≡ (j ⟫ eqb c b || eqb c a ⇒ RepeatedOperand i c)
+      → m ≡ operands_checked Fine n i [] (a ∷ b ∷ c ∷ [])
+  unfolding operands_checked
+  three_checked p j m ep ej em = rw (em, ej, ep, or-false (eqb c a))
 
 pub record_checked_lem : (s : Checked) (n cbits i number a b c : ℕ) (ws : List ℕ) (u q r v : Checked) → u ≡ (s ⟫ has_shape (kind_of number) NoShape ⇒ UnsupportedGate i number)
     → q ≡ operands_checked u n i [] (qubits_of (kind_of number) a b c) → r ≡ (q ⟫ has_shape (kind_of number) Measured && leb cbits b ⇒ ClassicalBitOutOfRange i b)
@@ -136,38 +127,15 @@ pub stays_refused : (k : Checked) (n cbits i : ℕ) (taken : List ℕ) (rs : Lis
 stays_refused Fine n cbits i taken rs h = absurd (h refl)
 stays_refused (Wrong e) n cbits i taken rs h = sym (wrong-records e n cbits i taken rs)
 
-or_assoc : (a b c : Bool) → (a || (b || c)) ≡ ((a || b) || c)
-or_assoc true b c = refl
-or_assoc false b c = refl
-
 -- 4nL does not overflow
 pub plane_words : (n l : ℕ) → n < 4294967296 → l ≡ part_words n → 4 * n * l ≤ 4 * n * 67108864
 plane_words n l h e = mul-le-mul_left (4 * n) (omega arith)
 
 -- ---- frame gates
 
-drop-take : (w i : ℕ) (fs : List ℕ) → i < w → i < length fs → drop i (take w fs) ≡ get_or fs i 0 ∷ drop (suc i) (take w fs)
-drop-take zero i fs h g = absurd (omega arith)
-drop-take (suc w) i [] h g = absurd (omega arith)
-drop-take (suc w) zero (x ∷ fs) h g = refl
-drop-take (suc w) (suc i) (x ∷ fs) h g = drop-take w i fs (omega arith) (omega arith)
-
-drop-nil : (i : ℕ) → drop {A = ℕ} i [] ≡ []
-drop-nil zero = refl
-drop-nil (suc i) = refl
-
-drop-end : (w i : ℕ) (fs : List ℕ) → min w (length fs) ≤ i → drop i (take w fs) ≡ []
-drop-end zero i fs h = drop-nil i
-drop-end (suc w) i [] h = drop-nil i
-drop-end (suc w) zero (x ∷ fs) h = absurd (omega arith)
-drop-end (suc w) (suc i) (x ∷ fs) h = drop-end w i fs (omega arith)
-
-pub unused_more : (k w i : ℕ) (fs : List ℕ) (f : Bool) → i < min w (length fs)
-    → (f || names_unused k (drop i (take w fs))) ≡ ((f || leb k (get_or fs i 0 / 4)) || names_unused k (drop (i + 1) (take w fs)))
-unused_more k w i fs f h = rw (drop-take w i fs (omega arith) (omega arith), add-one i) (or_assoc f (leb k (get_or fs i 0 / 4)) (names_unused k (drop (suc i) (take w fs))))
-
-pub unused_end : (k w i : ℕ) (fs : List ℕ) (f : Bool) → min w (length fs) ≤ i → (f || names_unused k (drop i (take w fs))) ≡ f
-unused_end k w i fs f h = rw (drop-end w i fs h) (or-false f)
+unused_any : (k : ℕ) (ws : List ℕ) → list_any (λ w. leb k (w / 4)) ws ≡ names_unused k ws
+unused_any k [] = refl
+unused_any k (w ∷ ws) = ap (λ b. leb k (w / 4) || b) (unused_any k ws)
 
 frame_by : (k : GateKind) (a b : ℕ) → eqb (length (frame_gates k a b)) 0 ≡ not (is_frame k)
 unfolding is_frame frame_gates lower_as
@@ -209,14 +177,13 @@ nodes_by KindSwap a b = refl
 nodes_by KindCy a b = refl
 nodes_by Unsupported a b = refl
 
-pub clifford_checked : (h : Header) (nodes : ℕ) (fs : List ℕ) (kind a b : ℕ) (x y z : Bool) (r₁ r₂ r₃ r₄ r₅ : Checked)
-    → x ≡ breaks_limit h → y ≡ exceeds_nodes h nodes → z ≡ names_unused h.nodes (take (2 * h.qubits) fs)
-    → r₁ ≡ (Fine ⟫ x || y || z ⇒ BadStore) → r₂ ≡ (r₁ ⟫ not (is_frame (kind_of kind)) ⇒ NonCliffordFrameGate kind)
+pub clifford_checked : (h : Header) (nodes : ℕ) (fs : List ℕ) (kind a b : ℕ) (r₁ r₂ r₃ r₄ r₅ : Checked)
+    → r₁ ≡ (Fine ⟫ breaks_limit h || exceeds_nodes h nodes || names_unused h.nodes (take (2 * h.qubits) fs) ⇒ BadStore) → r₂ ≡ (r₁ ⟫ not (is_frame (kind_of kind)) ⇒ NonCliffordFrameGate kind)
     → r₃ ≡ operands_checked r₂ h.qubits 0 [] (qubits_of (kind_of kind) a b 0) → r₄ ≡ (r₃ ⟫ ltb (length fs) (2 * h.qubits) ⇒ NoFrame)
     → r₅ ≡ (r₄ ⟫ no_node_room h nodes (frame_nodes (kind_of kind)) ⇒ NoNodes) → r₅ ≡ clifford_check h nodes fs kind a b
 unfolding clifford_check
-clifford_checked h nodes fs kind a b x y z r₁ r₂ r₃ r₄ r₅ ex ey ez e₁ e₂ e₃ e₄ e₅ =
-    rw (e₅, e₄, e₃, e₂, e₁, ex, ey, ez, frame_by (kind_of kind) a b, nodes_by (kind_of kind) a b)
+clifford_checked h nodes fs kind a b r₁ r₂ r₃ r₄ r₅ e₁ e₂ e₃ e₄ e₅ =
+    rw (e₅, e₄, e₃, e₂, e₁, unused_any h.nodes (take (2 * h.qubits) fs), frame_by (kind_of kind) a b, nodes_by (kind_of kind) a b)
 
 pub measures_by : (k : GateKind) → (has_shape k Measured ≡ true → 1 ≡ measures_of k) × (has_shape k Measured ≡ false → 0 ≡ measures_of k)
 measures_by k = ((λ e. rw e), λ e. rw e)
@@ -228,7 +195,7 @@ and_both true b e = (refl, e)
 and_both false b e = (e, (let z : ◌≡◌ {A = ℕ} 0 1 = cc in absurd (omega arith)))
 
 sound_by : (s : Checked) (n cbits i number : ℕ) (t : Shape) (a b c : ℕ) → a < n → b < bound_by n t → (bit_or b (apart_by t) ≡ a → ⊥)
-    → (eqb (shape_number t) 3 ≡ true → (ltb c n && (not (eqb c a) && not (eqb c b))) ≡ true)
+    → (eqb (shape_number t) 3 ≡ true → (c < n) × (c ≡ a → ⊥) × (c ≡ b → ⊥))
     → (operands_checked (s ⟫ eqb (shape_number t) 0 ⇒ UnsupportedGate i number) n i [] (qubits_by t a b c) ⟫ eqb (shape_number t) 4 && leb cbits b ⇒ ClassicalBitOutOfRange i b) ≡ s
 unfolding operands_checked ◌⟫◌⇒◌
 sound_by s n cbits i number NoShape a b c ha hb hd hc = absurd (omega arith)
@@ -239,9 +206,8 @@ sound_by (Wrong e) n cbits i number ThreeQubits a b c ha hb hd hc = refl
 sound_by Fine n cbits i number OneQubit a b c ha hb hd hc = rw (lt-leb n a ha)
 sound_by Fine n cbits i number TwoQubits a b c ha hb hd hc = rw (lt-leb n a ha, lt-leb n b hb, ne_eqb b a (λ e. hd (or_zero_r b ∙ e)))
 sound_by Fine n cbits i number ThreeQubits a b c ha hb hd hc =
-    let r = and_both (ltb c n) (not (eqb c a) && not (eqb c b)) (hc refl) in
-    let t = and_both (not (eqb c a)) (not (eqb c b)) r.1 in
-    rw (lt-leb n a ha, lt-leb n b hb, ne_eqb b a (λ e. hd (or_zero_r b ∙ e)), lt-leb n c (ltb-true c n r.0), not-true (eqb c a) t.0, not-true (eqb c b) t.1)
+    let r = hc refl in
+    rw (lt-leb n a ha, lt-leb n b hb, ne_eqb b a (λ e. hd (or_zero_r b ∙ e)), lt-leb n c r.0, ne_eqb c a r.1, ne_eqb c b r.2)
 
 sound_measure : (s : Checked) (n cbits i number a b c : ℕ) → a < n → b < cbits
     → (operands_checked (s ⟫ false ⇒ UnsupportedGate i number) n i [] (qubits_by Measured a b c) ⟫ leb cbits b ⇒ ClassicalBitOutOfRange i b) ≡ s
@@ -299,7 +265,7 @@ no_measure n b TwoQubits h = refl
 no_measure n b ThreeQubits h = refl
 no_measure n b Measured h = absurd (omega arith)
 
-pub passes : (n number bound above a b c : ℕ) → number < 21 → a < n → b < bound → (bit_or b above ≡ a → ⊥) → (number / 2 ≡ 5 → (ltb c n && (not (eqb c a) && not (eqb c b))) ≡ true)
+pub passes : (n number bound above a b c : ℕ) → number < 21 → a < n → b < bound → (bit_or b above ≡ a → ⊥) → (number / 2 ≡ 5 → (c < n) × (c ≡ a → ⊥) × (c ≡ b → ⊥))
     → Passes n number bound above a b c
 unfolding record_checked qubits_of
 passes n number bound above a b c hn ha hb hd hc eb eo =

@@ -1,15 +1,15 @@
 -- The classical bits that are taken, as bits of words.
 use mathlib.Core.Path.{◌≡◌, refl, ap, sym, ◌∙◌}
-use mathlib.Core.Bool.{Bool, true, false, cond, true≢false, ◌&&◌}
+use mathlib.Core.Bool.{Bool, true, false, cond, ◌&&◌}
 use mathlib.Core.Logic.{◌≢◌, ⊎_elim}
 use mathlib.Core.List.{List, [], ◌∷◌}
 use Prim.Native.Nat.{ℕ, suc, ◌+◌, ◌*◌, ◌-◌, ◌/◌, ◌%◌, ◌^◌, ◌<◌, ◌≤◌, max}
 use native.Mathlib.Nat.{pow-suc, div-eq_of_lt, one-mul}
 use native.Mathlib.Omega.{arith}
-use lib.Dec.{ltb, leb}
-use borrow.Author.Tests.{ltb-false, leb-false, eq-eqb, ne_eqb}
-use lib.ListN.{length, get_or, replicate, length-set, length-replicate, get_or-replicate, get_or-eq_default}
-use lib.Seq.{set_out, get_or-set_same, get_or-set_other}
+use lib.Dec.{leb}
+use borrow.Author.Tests.{leb-false, eq-eqb, ne_eqb}
+use lib.ListN.{length, get_or, replicate, length-set, length-replicate, get_or-replicate}
+use lib.Seq.{get_or-set_same, get_or-set_other}
 use lib.Bits.{bit_or, or_shr, or_step}
 use lib.Pow.{pow_pos, pow-lt, pow-add, shl-shr}
 use Rattle.arena.specs.Errors.{◌⟫◌⇒◌}
@@ -53,10 +53,6 @@ no_marks k = record {
       rw (get_or-replicate {A = ℕ} k (b / 64) 0 0 (omega arith), div-eq_of_lt (pow_pos (b % 64)));
 }
 
--- past the words
-pub past_marks : (b : ℕ) (ws : List ℕ) → length ws ≤ b / 64 → (false ≡ is_marked b ws) × (ws ≡ marked b ws)
-past_marks b ws h = (rw (get_or-eq_default ws 0 h, div-eq_of_lt (pow_pos (b % 64))), sym (set_out ws (b / 64) _ h))
-
 pub more_marks : (b : ℕ) (taken ws : List ℕ) → Marks taken ws → Marks (b ∷ taken) (marked b ws)
 more_marks b taken ws M = record { same = λ c h. at c (rw (length-set ws (b / 64) _) at h) }
   where
@@ -80,19 +76,6 @@ more_marks b taken ws M = record { same = λ c h. at c (rw (length-set ws (b / 6
         let other : c ≢ b = λ z. e (ap (λ m. m / 64) z) in
         rw (ne_eqb c b other, ← M.same c h, get_or-set_other ws (b / 64) (c / 64) _ 0 e))
         (same_or_not (c / 64) (b / 64))
-
--- to ask first whether the words hold the bit changes nothing
-pub held_marks : (m : Bool) (b : ℕ) (ws : List ℕ) → (((m && ltb (b / 64) (length ws)) && is_marked b ws) ≡ (m && is_marked b ws)) × (cond (m && ltb (b / 64) (length ws)) (marked b ws) ws ≡ cond m (marked b ws) ws)
-held_marks false b ws = (refl, refl)
-held_marks true b ws = go (ltb (b / 64) (length ws)) refl
-  where
-    go : (t : Bool) → ltb (b / 64) (length ws) ≡ t → ((t && is_marked b ws) ≡ is_marked b ws) × (cond t (marked b ws) ws ≡ marked b ws)
-    go true e = (refl, refl)
-    go false e = past_marks b ws (ltb-false (b / 64) (length ws) e)
-
-pub both_true : (m t : Bool) → (m && t) ≡ true → t ≡ true
-both_true true t e = e
-both_true false t e = absurd (true≢false (sym e))
 
 -- where a record measures, its bit is marked
 pub marks_with : (m : Bool) (b : ℕ) (taken ws : List ℕ) → Marks taken ws → Marks (cond m (b ∷ taken) taken) (cond m (marked b ws) ws)

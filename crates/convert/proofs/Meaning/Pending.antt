@@ -1,4 +1,5 @@
 -- The pending gates are the frame gates from the place of the last flush on.
+-- kept: a claim that README names, on the code alone.
 use mathlib.Core.Path.{◌≡◌, refl, ap, sym, ◌∙◌}
 use mathlib.Core.Bool.{Bool, true, false, cond, true≢false}
 use mathlib.Core.List.{List, [], ◌∷◌, ◌++◌, append-nil}

@@ -1,6 +1,6 @@
 -- The weight of the product of a list of images, and that of up to three picked ones.
 use mathlib.Core.Path.{◌≡◌, refl}
-use mathlib.Core.Bool.{Bool, true, false, cond, ◌||◌}
+use mathlib.Core.Bool.{Bool, true, false, ◌||◌}
 use mathlib.Core.List.{List, [], ◌∷◌}
 use Prim.Native.Nat.{ℕ, zero, suc, ◌+◌, ◌*◌, ◌<◌}
 use native.Mathlib.Omega.{arith}
@@ -26,15 +26,6 @@ module _ (P : ℕ → Type 0) where
   each_of_three a b d x y z (suc zero) h = y
   each_of_three a b d x y z (suc (suc zero)) h = z
   each_of_three a b d x y z (suc (suc (suc i))) h = absurd (omega arith)
-
--- an image of a qubit, by a test
-pub x_or_z : (test : Bool) (n q : ℕ) → q < n → cond test (q + q) (q + q + 1) < n + n
-x_or_z true n q h = omega arith
-x_or_z false n q h = omega arith
-
-pub z_or_x : (test : Bool) (n q : ℕ) → q < n → cond test (q + q + 1) (q + q) < n + n
-z_or_x true n q h = omega arith
-z_or_x false n q h = omega arith
 
 -- a chain of `||`, and the same with its brackets on the right
 pub or_then : (v x y : Bool) → v ≡ true → x ≡ true → v ≡ (x || y)

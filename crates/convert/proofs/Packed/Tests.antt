@@ -1,8 +1,9 @@
 -- What is tested before a gate, by weights of packed rows.
 use mathlib.Core.Path.{◌≡◌, refl, sym, ◌∙◌}
-use mathlib.Core.Bool.{Bool, true, false, ◌||◌, cond}
+use mathlib.Core.Bool.{Bool, true, false, ◌||◌}
+use mathlib.Core.Logic.{◌⊎◌, inl, inr}
 use mathlib.Core.List.{List, [], ◌∷◌, ◌++◌}
-use Prim.Native.Nat.{ℕ, zero, suc, ◌+◌, ◌*◌, ◌<◌, ◌≤◌}
+use Prim.Native.Nat.{ℕ, suc, ◌+◌, ◌*◌, ◌<◌}
 use native.Mathlib.Omega.{arith}
 use native.Mathlib.Numerals.{add-one}
 use lib.Dec.{ltb}
@@ -116,35 +117,6 @@ a_qubit n K a b d e v = (z_case n 0 [] K a b d e v).0
 pub three_qubits : (n : ℕ) (K : GateKind) (a b d : ℕ) → tests_of K ≡ 2 → AllProper n (b + 1) (lower_as K a b d) → (a < n) × (b < n) × (d < n)
 three_qubits n K a b d e v = let r = ccx_case n 0 [] K a b d e v in (r.0, r.1, r.2)
 
-tests_most : (K : GateKind) → tests_of K ≤ 3
-unfolding tests_of lower_as
-tests_most KindH = omega arith
-tests_most KindX = omega arith
-tests_most KindZ = omega arith
-tests_most KindS = omega arith
-tests_most KindSdg = omega arith
-tests_most KindT = omega arith
-tests_most KindTdg = omega arith
-tests_most KindCnot = omega arith
-tests_most KindCz = omega arith
-tests_most KindCcx = omega arith
-tests_most KindCcz = omega arith
-tests_most KindMeasure = omega arith
-tests_most KindY = omega arith
-tests_most KindSx = omega arith
-tests_most KindSwap = omega arith
-tests_most KindCy = omega arith
-tests_most Unsupported = omega arith
-
-pub third : (K : GateKind) → (tests_of K ≡ 0 → ⊥) → (tests_of K ≡ 1 → ⊥) → (tests_of K ≡ 2 → ⊥) → tests_of K ≡ 3
-third K e₀ e₁ e₂ = pick (tests_of K) (tests_most K) e₀ e₁ e₂
-  where
-    pick : (m : ℕ) → m ≤ 3 → (m ≡ 0 → ⊥) → (m ≡ 1 → ⊥) → (m ≡ 2 → ⊥) → m ≡ 3
-    pick zero h a b c = absurd (a refl)
-    pick (suc zero) h a b c = absurd (b refl)
-    pick (suc (suc zero)) h a b c = absurd (c refl)
-    pick (suc (suc (suc m))) h a b c = omega arith
-
 pub three_qubits_z : (n : ℕ) (K : GateKind) (a b d : ℕ) → tests_of K ≡ 3 → AllProper n (b + 1) (lower_as K a b d) → (a < n) × (b < n) × (d < n)
 three_qubits_z n K a b d e v = let r = ccz_case n 0 [] K a b d e v in (r.0, r.1, r.2)
 
@@ -202,13 +174,18 @@ ccz_heavy n l cap K a b d ps t rest el e v w ep =
     (seven-heavy n cap t rest w (suc (a + a)) (suc (b + b)) (suc (d + d)) (z_row n t a) (z_row n t b) (z_row n t d) (omega arith) (omega arith) (omega arith)
     (Words.first_z n t a z.0) (Words.first_z n t b z.1) (Words.first_z n t d z.2) (w.widths (n + a)) (w.widths (n + b)) (w.widths (n + d)) ∙ z.3)
 
--- ccz or ccx
-pub three_of : (last : Bool) (n : ℕ) (K : GateKind) (a b d : ℕ) → tests_of K ≡ cond last 3 2 → AllProper n (b + 1) (lower_as K a b d) → (a < n) × (b < n) × (d < n)
-three_of true = three_qubits_z
-three_of false = three_qubits
+-- ---- the kinds that are tested
 
-pub three_heavy : (last : Bool) (n l cap : ℕ) (K : GateKind) (a b d : ℕ) (ps : List ℕ) (t : List Row) (rest : List ℕ) → l ≡ part_words n → tests_of K ≡ cond last 3 2
-    → AllProper n (b + 1) (lower_as K a b d) → Wide n t → ps ≡ packed n t ++ rest
-    → seven_above ps l cap ((a + a + 1) * (l + l)) ((b + b + 1) * (l + l)) (cond last (d + d + 1) (d + d) * (l + l)) ≡ any_exceeds n (AtMost cap) t (lower_as K a b d)
-three_heavy true = ccz_heavy
-three_heavy false = ccx_heavy
+pub tests_alone : (k : GateKind) → (k ≡ KindT) ⊎ ((k ≡ KindTdg) ⊎ (k ≡ KindMeasure)) → tests_of k ≡ 1
+unfolding tests_of lower_as
+tests_alone k (inl e) = rw e
+tests_alone k (inr (inl e)) = rw e
+tests_alone k (inr (inr e)) = rw e
+
+pub tests_ccx : (k : GateKind) → k ≡ KindCcx → tests_of k ≡ 2
+unfolding tests_of lower_as
+tests_ccx k e = rw e
+
+pub tests_ccz : (k : GateKind) → k ≡ KindCcz → tests_of k ≡ 3
+unfolding tests_of lower_as
+tests_ccz k e = rw e

@@ -150,13 +150,6 @@ abbrev pub stepped : (narrow : Bool) → List ℕ → ℕ → ℕ → ℕ
 stepped narrow gs zero p = p
 stepped narrow gs (suc k) p = stepped narrow gs k (next_part narrow gs p)
 
--- word j of a record
-abbrev pub word_in : Record → ℕ → ℕ
-word_in r zero = r.kind
-word_in r (suc zero) = r.a
-word_in r (suc (suc zero)) = r.b
-word_in r (suc (suc (suc j))) = r.c
-
 -- the words of a record
 abbrev pub record_words : Record → List ℕ
 record_words r = r.kind ∷ r.a ∷ r.b ∷ r.c ∷ []
@@ -355,22 +348,6 @@ put_four a b d s = put_node (4 * s.count) d (put_node b d (put_node a d (put_nod
 
 unfoldable pub put_seven : ℕ → ℕ → ℕ → ℕ → Writing → Writing
 put_seven i a b d s = put_rows i 7 a b d s.count (put_four a b d s)
-
--- the first word of what an elementary gate writes alone
-abbrev pub first_word_of : Elementary → ℕ
-first_word_of (clifford g) = 0
-first_word_of (el_t q) = 4
-first_word_of (el_tdg q) = 28
-first_word_of (el_ccx a b d) = 0
-first_word_of (el_ccz a b d) = 0
-first_word_of (el_measure q k) = 1
-
-unfoldable pub first_word : GateKind → ℕ
-first_word kind = over first_word_of (lower_as kind 0 0 0)
-
--- the words of t, tdg or measure, record i, after so many measurements
-abbrev pub lone_words : GateKind → ℕ → ℕ → ℕ → ℕ → List ℕ
-lone_words kind axis given bit i = first_word kind ∷ axis ∷ cond (is_measure kind) given 0 ∷ cond (is_measure kind) (bit + 1) 0 ∷ i ∷ []
 
 -- where the frame has the third operand: ccz its z, ccx its x
 abbrev pub last_place : GateKind → ℕ → ℕ → ℕ

@@ -1,10 +1,9 @@
 -- Tables that are made once a conversion: an entry for each kind from number 0 to 20.
-use Rattle.std.specs.Prelude.{◌≡◌, Bool, true, false, cond, ◌&&◌, List, [], ◌∷◌, map, ℕ, ◌+◌, ◌*◌}
-use Rattle.pauli.specs.Gates.{Gate, gate_h, gate_x, gate_z, gate_s, gate_sdg, gate_cnot, gate_cz}
+use Rattle.std.specs.Prelude.{◌≡◌, Bool, false, cond, ◌&&◌, List, [], ◌∷◌, map, ℕ, ◌+◌, ◌*◌}
 use Rattle.convert.specs.Types.{Checked}
-use Rattle.convert.specs.Records.{GateKind, Shape, NoShape, OneQubit, TwoQubits, ThreeQubits, Measured, shape_of, kinds, kind_of, Record, record_of, records, parts_as, Elementary, clifford, el_t, el_tdg, el_ccx, el_ccz, el_measure, lower_as}
+use Rattle.convert.specs.Records.{GateKind, Shape, NoShape, OneQubit, TwoQubits, ThreeQubits, Measured, shape_of, kinds, kind_of, Record, record_of, records, parts_as}
 use Rattle.convert.specs.Conversion.{is_doubly, is_measure, record_checked, records_checked}
-use Rattle.convert.specs.Code.Raw.{cost_of, closed, first_word_of}
+use Rattle.convert.specs.Code.Raw.{cost_of, closed}
 use Rattle.convert.specs.declared.count.Needed.{Needed}
 
 abbrev pub table_of : (GateKind → ℕ) → List ℕ
@@ -62,48 +61,3 @@ sum_over f (r ∷ rs) = f (kind_of r.kind) + sum_over f rs
 -- and over the parts of a kind
 unfoldable pub sum_in : (narrow : Bool) → (GateKind → ℕ) → GateKind → ℕ
 sum_in narrow f kind = cond (narrow && is_doubly kind) (sum_over f (parts_as kind (record_of 0 0 0 0))) (f kind)
-
--- ---- forms
-
--- the bit by which an elementary gate is known
-abbrev pub bit_of : Elementary → ℕ
-bit_of (clifford (gate_h q)) = 1
-bit_of (clifford (gate_x q)) = 2
-bit_of (clifford (gate_z q)) = 4
-bit_of (clifford (gate_s q)) = 8
-bit_of (clifford (gate_sdg q)) = 16
-bit_of (clifford (gate_cnot c t)) = 256
-bit_of (clifford (gate_cz c t)) = 512
-bit_of (el_t q) = 32
-bit_of (el_tdg q) = 32
-bit_of (el_ccx a b d) = 1024
-bit_of (el_ccz a b d) = 2048
-bit_of (el_measure q k) = 4096
-
--- one gate has its bit, and above 32 bits the first word that it writes alone; several, or none, have a bit of their own
-abbrev pub form_by : List Elementary → ℕ
-form_by [] = 32768
-form_by (e ∷ []) = bit_of e + 4294967296 * first_word_of e
-form_by (e ∷ f ∷ es) = 32768
-
--- the form of a kind follows from its lowering
-unfoldable pub form_of : GateKind → ℕ
-form_of kind = form_by (lower_as kind 0 0 0)
-
--- ---- gates that one function does
-
--- cz or cnot
-abbrev pub pair_gate : Bool → ℕ → ℕ → Gate
-pair_gate true c t = gate_cz c t
-pair_gate false c t = gate_cnot c t
-
--- sdg or s
-abbrev pub phase_gate : Bool → ℕ → Gate
-phase_gate true q = gate_sdg q
-phase_gate false q = gate_s q
-
--- h; x or z
-abbrev pub move_gate : Bool → Bool → ℕ → Gate
-move_gate true x q = gate_h q
-move_gate false true q = gate_x q
-move_gate false false q = gate_z q

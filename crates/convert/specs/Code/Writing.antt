@@ -81,3 +81,8 @@ pub record Wrote (n : ℕ) (cap : Cap) (narrow : Bool) (gs ns₀ fs₀ os₀ ps�
   pub position : ℕ
   pub here : WriteAt n cap narrow gs ns₀ fs₀ os₀ ps₀ c ns fs u os ps given place position
   pub ended : 16 * (length gs / 4) ≤ position
+
+-- the buffers after all gates
+abbrev pub Ended : ℕ → Cap → (gs ns₀ fs₀ os₀ ps₀ : List ℕ) → ℕ → (ns fs : List ℕ) → ℕ → (os ps : List ℕ) → ℕ → Type 0
+Ended n cap gs ns₀ fs₀ os₀ ps₀ c ns fs u os ps given =
+    Stands n ns₀ fs₀ os₀ c ns fs u os (words_last n cap gs) × (given ≡ (plain_last n cap gs).given) × (ps ≡ planes_for cap n (plain_last n cap gs).table ps₀)

@@ -1,3 +1,4 @@
+-- kept: the check does not find these alone: its attribute `unfolding` takes no operator, and `◌⟫◌⇒◌` is one
 -- `then_refuse_if` meets its contract.
 use Rattle.std.proofs.Common.{rules}
 use Rattle.arena.specs.Errors.{◌⟫◌⇒◌}

@@ -5,5 +5,5 @@ use Rattle.qasm.proofs.Passes.{Written}
 use Rattle.qasm.proofs.program.write_gates.Given as goal
 
 abbrev pub invariant-loop-i : goal.invariant-loop-i
-invariant-loop-i l = (f : ℕ) (gs : List Record) → gates_from f l.q l.c l.text ≡ all_gates gs → length gs ≡ l.count
-    → (gates_from (f - l.i) l.q l.c l.rest ≡ all_gates (drop l.i gs)) × Written gs l.i l.initial.gates l.gates
+invariant-loop-i l = (f : ℕ) (gs : List Record) → gates_from f l.names.q.now l.names.c.now l.text ≡ all_gates gs → length gs ≡ l.count
+    → (gates_from (f - l.i) l.names.q.now l.names.c.now l.rest ≡ all_gates (drop l.i gs)) × Written gs l.i l.initial.gates l.gates

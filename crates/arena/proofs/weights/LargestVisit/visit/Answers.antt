@@ -1,7 +1,6 @@
 -- `visit` meets its contract: the weight counts where the kind of the axis says so.
 use mathlib.Core.Path.{ap, ap₂, sym, ◌∙◌}
 use mathlib.Core.Bool.{Bool}
-use mathlib.Core.List.{List}
 use Prim.Native.Nat.{ℕ}
 use lib.ListN.{length}
 use Rattle.arena.specs.Readers.{counts_non_clifford, counts_clifford, raised}

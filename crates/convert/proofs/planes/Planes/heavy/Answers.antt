@@ -1,183 +1,71 @@
 use native.Mathlib.Omega.{arith}
-use mathlib.Core.Path.{◌∙◌, sym}
+use mathlib.Core.Path.{◌∙◌}
 use Prim.Native.Nat.{◌+◌, ◌<◌}
+use borrow.Enum.Refused.{opened}
 use Rattle.convert.proofs.Packed.Products.{each_of_one, first}
-use Rattle.convert.proofs.Packed.Tests.{light, a_qubit, three_qubits, three_qubits_z, third, z_heavy, ccx_heavy, ccz_heavy}
+use Rattle.convert.proofs.Packed.Tests.{light, tests_alone, tests_ccx, tests_ccz, a_qubit, three_qubits, three_qubits_z, z_heavy, ccx_heavy, ccz_heavy}
+use Rattle.convert.proofs.GateKinds.Arms.{not_tested}
 use Rattle.convert.proofs.planes.Planes.heavy.Goals as goal
 
-pub returns-then-k-eq0 : goal.returns-then-k-eq0
-returns-then-k-eq0 c = λ t rest w e. light _ _ t _ _ _ _ (sym c.tests-k.ensures ∙ c.if-k-eq0.true)
-
 pub overflow_add-a : goal.overflow_add-a
-overflow_add-a c =
-    let a = c.args in
-    let v = c.requires.all_proper in
-    let p = a.self.now in
-    let t1 = sym c.tests-k.ensures ∙ c.if-k-eq1.true in
-    let q = a_qubit _ _ _ _ _ t1 v in
-    omega (arith, q, p.few)
+overflow_add-a c = let q = a_qubit _ _ _ _ _ (tests_alone _ c.in-T.is) c.requires.all_proper in omega (arith, q, c.args.self.now.few)
 
-pub overflow_add-a-then-k-eq1 : goal.overflow_add-a-then-k-eq1
-overflow_add-a-then-k-eq1 c =
-    let a = c.args in
-    let v = c.requires.all_proper in
-    let p = a.self.now in
-    let t1 = sym c.tests-k.ensures ∙ c.if-k-eq1.true in
-    let q = a_qubit _ _ _ _ _ t1 v in
-    omega (arith, q, p.few)
+pub overflow_add-a-in-T : goal.overflow_add-a-in-T
+overflow_add-a-in-T c = let q = a_qubit _ _ _ _ _ (tests_alone _ c.in-T.is) c.requires.all_proper in omega (arith, q, c.args.self.now.few)
 
-pub weigh-w-requires : goal.weigh-w-requires
-weigh-w-requires c =
-    let a = c.args in
-    let v = c.requires.all_proper in
-    let p = a.self.now in
-    let t1 = sym c.tests-k.ensures ∙ c.if-k-eq1.true in
-    let q = a_qubit _ _ _ _ _ t1 v in
-    each_of_one (λ j. j < p.qubits + p.qubits) (a.a + a.a + 1) (omega (arith, q))
+pub exceeds-requires : goal.exceeds-requires
+exceeds-requires c = let q = a_qubit _ _ _ _ _ (tests_alone _ c.in-T.is) c.requires.all_proper in each_of_one (λ j. j < c.args.self.now.qubits + c.args.self.now.qubits) (c.args.gate.a + c.args.gate.a + 1) (omega (arith, q))
 
-pub returns-then-k-eq1 : goal.returns-then-k-eq1
-returns-then-k-eq1 c =
-    let a = c.args in
-    let v = c.requires.all_proper in
-    let p = a.self.now in
-    λ t rest w e. rw (c.weigh-w.ensures, first c.args.self.now.words.now c.args.self.now.width (c.args.a + c.args.a + 1) (c.args.a + c.args.a + 1) (c.args.a + c.args.a + 1)) (z_heavy _ _ _ _ _ a.b a.d _ t rest p.parts (sym c.tests-k.ensures ∙ c.if-k-eq1.true) v w e)
+pub overflow_add-a-in-Ccx : goal.overflow_add-a-in-Ccx
+overflow_add-a-in-Ccx c = let q = three_qubits _ _ _ _ _ (tests_ccx _ c.in-Ccx.is) c.requires.all_proper in omega (arith, q, c.args.self.now.few)
 
-pub overflow_add-a-then-k-eq2 : goal.overflow_add-a-then-k-eq2
-overflow_add-a-then-k-eq2 c =
-    let a = c.args in
-    let v = c.requires.all_proper in
-    let p = a.self.now in
-    let t1 = sym c.tests-k.ensures ∙ c.if-k-eq2.true in
-    let q = three_qubits _ _ _ _ _ t1 v in
-    omega (arith, q, p.few)
-
-pub overflow_add-a-then-k-eq2-2 : goal.overflow_add-a-then-k-eq2-2
-overflow_add-a-then-k-eq2-2 c =
-    let a = c.args in
-    let v = c.requires.all_proper in
-    let p = a.self.now in
-    let t1 = sym c.tests-k.ensures ∙ c.if-k-eq2.true in
-    let q = three_qubits _ _ _ _ _ t1 v in
-    omega (arith, q, p.few)
+pub overflow_add-a-in-Ccx-2 : goal.overflow_add-a-in-Ccx-2
+overflow_add-a-in-Ccx-2 c = let q = three_qubits _ _ _ _ _ (tests_ccx _ c.in-Ccx.is) c.requires.all_proper in omega (arith, q, c.args.self.now.few)
 
 pub overflow_add-b : goal.overflow_add-b
-overflow_add-b c =
-    let a = c.args in
-    let v = c.requires.all_proper in
-    let p = a.self.now in
-    let t1 = sym c.tests-k.ensures ∙ c.if-k-eq2.true in
-    let q = three_qubits _ _ _ _ _ t1 v in
-    omega (arith, q, p.few)
+overflow_add-b c = let q = three_qubits _ _ _ _ _ (tests_ccx _ c.in-Ccx.is) c.requires.all_proper in omega (arith, q, c.args.self.now.few)
 
-pub overflow_add-b-then-k-eq2 : goal.overflow_add-b-then-k-eq2
-overflow_add-b-then-k-eq2 c =
-    let a = c.args in
-    let v = c.requires.all_proper in
-    let p = a.self.now in
-    let t1 = sym c.tests-k.ensures ∙ c.if-k-eq2.true in
-    let q = three_qubits _ _ _ _ _ t1 v in
-    omega (arith, q, p.few)
+pub overflow_add-b-in-Ccx : goal.overflow_add-b-in-Ccx
+overflow_add-b-in-Ccx c = let q = three_qubits _ _ _ _ _ (tests_ccx _ c.in-Ccx.is) c.requires.all_proper in omega (arith, q, c.args.self.now.few)
 
 pub overflow_add-d : goal.overflow_add-d
-overflow_add-d c =
-    let a = c.args in
-    let v = c.requires.all_proper in
-    let p = a.self.now in
-    let t1 = sym c.tests-k.ensures ∙ c.if-k-eq2.true in
-    let q = three_qubits _ _ _ _ _ t1 v in
-    omega (arith, q, p.few)
+overflow_add-d c = let q = three_qubits _ _ _ _ _ (tests_ccx _ c.in-Ccx.is) c.requires.all_proper in omega (arith, q, c.args.self.now.few)
 
 pub seven-requires : goal.seven-requires
-seven-requires c =
-    let a = c.args in
-    let v = c.requires.all_proper in
-    let p = a.self.now in
-    let t1 = sym c.tests-k.ensures ∙ c.if-k-eq2.true in
-    let q = three_qubits _ _ _ _ _ t1 v in
-    (omega (arith, q.0), omega (arith, q.1), omega (arith, q.2))
+seven-requires c = let q = three_qubits _ _ _ _ _ (tests_ccx _ c.in-Ccx.is) c.requires.all_proper in (omega (arith, q.0), omega (arith, q.1), omega (arith, q.2))
 
-pub returns-then-k-eq2 : goal.returns-then-k-eq2
-returns-then-k-eq2 c =
-    let a = c.args in
-    let v = c.requires.all_proper in
-    let p = a.self.now in
-    λ t rest w e. c.seven.ensures ∙ ccx_heavy _ _ _ _ _ _ _ _ t rest p.parts (sym c.tests-k.ensures ∙ c.if-k-eq2.true) v w e
+pub overflow_add-a-in-Ccz : goal.overflow_add-a-in-Ccz
+overflow_add-a-in-Ccz c = let q = three_qubits_z _ _ _ _ _ (tests_ccz _ c.in-Ccz.is) c.requires.all_proper in omega (arith, q, c.args.self.now.few)
 
-pub overflow_add-a-2 : goal.overflow_add-a-2
-overflow_add-a-2 c =
-    let a = c.args in
-    let v = c.requires.all_proper in
-    let p = a.self.now in
-    let s = c.tests-k.ensures in
-    let t1 = third a.kind (λ x. c.if-k-eq0.false (s ∙ x)) (λ x. c.if-k-eq1.false (s ∙ x)) (λ x. c.if-k-eq2.false (s ∙ x)) in
-    let q = three_qubits_z _ _ _ _ _ t1 v in
-    omega (arith, q, p.few)
+pub overflow_add-a-in-Ccz-2 : goal.overflow_add-a-in-Ccz-2
+overflow_add-a-in-Ccz-2 c = let q = three_qubits_z _ _ _ _ _ (tests_ccz _ c.in-Ccz.is) c.requires.all_proper in omega (arith, q, c.args.self.now.few)
 
-pub overflow_add-a-3 : goal.overflow_add-a-3
-overflow_add-a-3 c =
-    let a = c.args in
-    let v = c.requires.all_proper in
-    let p = a.self.now in
-    let s = c.tests-k.ensures in
-    let t1 = third a.kind (λ x. c.if-k-eq0.false (s ∙ x)) (λ x. c.if-k-eq1.false (s ∙ x)) (λ x. c.if-k-eq2.false (s ∙ x)) in
-    let q = three_qubits_z _ _ _ _ _ t1 v in
-    omega (arith, q, p.few)
+pub overflow_add-b-in-Ccz : goal.overflow_add-b-in-Ccz
+overflow_add-b-in-Ccz c = let q = three_qubits_z _ _ _ _ _ (tests_ccz _ c.in-Ccz.is) c.requires.all_proper in omega (arith, q, c.args.self.now.few)
 
-pub overflow_add-b-2 : goal.overflow_add-b-2
-overflow_add-b-2 c =
-    let a = c.args in
-    let v = c.requires.all_proper in
-    let p = a.self.now in
-    let s = c.tests-k.ensures in
-    let t1 = third a.kind (λ x. c.if-k-eq0.false (s ∙ x)) (λ x. c.if-k-eq1.false (s ∙ x)) (λ x. c.if-k-eq2.false (s ∙ x)) in
-    let q = three_qubits_z _ _ _ _ _ t1 v in
-    omega (arith, q, p.few)
+pub overflow_add-b-in-Ccz-2 : goal.overflow_add-b-in-Ccz-2
+overflow_add-b-in-Ccz-2 c = let q = three_qubits_z _ _ _ _ _ (tests_ccz _ c.in-Ccz.is) c.requires.all_proper in omega (arith, q, c.args.self.now.few)
 
-pub overflow_add-b-3 : goal.overflow_add-b-3
-overflow_add-b-3 c =
-    let a = c.args in
-    let v = c.requires.all_proper in
-    let p = a.self.now in
-    let s = c.tests-k.ensures in
-    let t1 = third a.kind (λ x. c.if-k-eq0.false (s ∙ x)) (λ x. c.if-k-eq1.false (s ∙ x)) (λ x. c.if-k-eq2.false (s ∙ x)) in
-    let q = three_qubits_z _ _ _ _ _ t1 v in
-    omega (arith, q, p.few)
+pub overflow_add-d-in-Ccz : goal.overflow_add-d-in-Ccz
+overflow_add-d-in-Ccz c = let q = three_qubits_z _ _ _ _ _ (tests_ccz _ c.in-Ccz.is) c.requires.all_proper in omega (arith, q, c.args.self.now.few)
 
-pub overflow_add-d-2 : goal.overflow_add-d-2
-overflow_add-d-2 c =
-    let a = c.args in
-    let v = c.requires.all_proper in
-    let p = a.self.now in
-    let s = c.tests-k.ensures in
-    let t1 = third a.kind (λ x. c.if-k-eq0.false (s ∙ x)) (λ x. c.if-k-eq1.false (s ∙ x)) (λ x. c.if-k-eq2.false (s ∙ x)) in
-    let q = three_qubits_z _ _ _ _ _ t1 v in
-    omega (arith, q, p.few)
+pub overflow_add-d-in-Ccz-2 : goal.overflow_add-d-in-Ccz-2
+overflow_add-d-in-Ccz-2 c = let q = three_qubits_z _ _ _ _ _ (tests_ccz _ c.in-Ccz.is) c.requires.all_proper in omega (arith, q, c.args.self.now.few)
 
-pub overflow_add-d-3 : goal.overflow_add-d-3
-overflow_add-d-3 c =
-    let a = c.args in
-    let v = c.requires.all_proper in
-    let p = a.self.now in
-    let s = c.tests-k.ensures in
-    let t1 = third a.kind (λ x. c.if-k-eq0.false (s ∙ x)) (λ x. c.if-k-eq1.false (s ∙ x)) (λ x. c.if-k-eq2.false (s ∙ x)) in
-    let q = three_qubits_z _ _ _ _ _ t1 v in
-    omega (arith, q, p.few)
+pub seven-requires-in-Ccz : goal.seven-requires-in-Ccz
+seven-requires-in-Ccz c = let q = three_qubits_z _ _ _ _ _ (tests_ccz _ c.in-Ccz.is) c.requires.all_proper in (omega (arith, q.0), omega (arith, q.1), omega (arith, q.2))
 
-pub seven-requires-2 : goal.seven-requires-2
-seven-requires-2 c =
+pub returns-in-T : goal.returns-in-T
+returns-in-T c =
     let a = c.args in
-    let v = c.requires.all_proper in
     let p = a.self.now in
-    let s = c.tests-k.ensures in
-    let t1 = third a.kind (λ x. c.if-k-eq0.false (s ∙ x)) (λ x. c.if-k-eq1.false (s ∙ x)) (λ x. c.if-k-eq2.false (s ∙ x)) in
-    let q = three_qubits_z _ _ _ _ _ t1 v in
-    (omega (arith, q.0), omega (arith, q.1), omega (arith, q.2))
+    λ t rest w e. rw (c.exceeds.ensures, first p.words.now p.width (a.gate.a + a.gate.a + 1) (a.gate.a + a.gate.a + 1) (a.gate.a + a.gate.a + 1)) (z_heavy _ _ _ _ _ a.gate.b a.gate.d _ t rest p.parts (tests_alone _ c.in-T.is) c.requires.all_proper w e)
 
-pub returns : goal.returns
-returns c =
-    let a = c.args in
-    let v = c.requires.all_proper in
-    let p = a.self.now in
-    let s = c.tests-k.ensures in
-    let t1 = third a.kind (λ x. c.if-k-eq0.false (s ∙ x)) (λ x. c.if-k-eq1.false (s ∙ x)) (λ x. c.if-k-eq2.false (s ∙ x)) in
-    λ t rest w e. c.seven-2.ensures ∙ ccz_heavy _ _ _ _ _ _ _ _ t rest p.parts t1 v w e
+pub returns-in-Ccx : goal.returns-in-Ccx
+returns-in-Ccx c = λ t rest w e. c.seven.ensures ∙ ccx_heavy _ _ _ _ _ _ _ _ t rest c.args.self.now.parts (tests_ccx _ c.in-Ccx.is) c.requires.all_proper w e
+
+pub returns-in-Ccz : goal.returns-in-Ccz
+returns-in-Ccz c = λ t rest w e. c.seven-in-Ccz.ensures ∙ ccz_heavy _ _ _ _ _ _ _ _ t rest c.args.self.now.parts (tests_ccz _ c.in-Ccz.is) c.requires.all_proper w e
+
+pub returns-in_default : goal.returns-in_default
+returns-in_default c = λ t rest w e. light _ _ t _ _ _ _ (not_tested _ (opened c.in_default.in_default-own.keys4))

@@ -20,7 +20,7 @@ loop-i-preserved c =
       two.same.1 ∙ one.same.1 ∙ at.1,
       two.lent ∙ one.lent ∙ at.2,
       mended_more p.qubits p.width (omega (arith, p.parts)) p.words.now a.gates.now p.room a.from c.loop-i.i _ _ _ (omega arith) at.3
-          (rw (at.0, at.1, c.operand_at.ensures) at one.after) (rw (one.same.0, one.same.1, at.0, at.1, c.operand_at-in-loop-i.ensures) at two.after),
+          (rw (at.0, at.1, c.gate_at-gate.ensures.operands.0) at one.after) (rw (one.same.0, one.same.1, at.0, at.1, c.gate_at-gate.ensures.operands.1) at two.after),
     )
 
 pub returns-clause-after : goal.returns-clause-after

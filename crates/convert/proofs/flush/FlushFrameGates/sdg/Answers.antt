@@ -1,0 +1,8 @@
+use Rattle.pauli.specs.Gates.{gate_sdg}
+use Rattle.convert.specs.Code.Raw.{put_flush}
+use Rattle.convert.proofs.Buffers.Flush.{gate_flushed}
+use Rattle.convert.proofs.flush.FlushFrameGates.sdg.Goals as goal
+
+pub returns : goal.returns
+unfolding put_flush
+returns c = (gate_flushed c.args.self.now.gate (gate_sdg c.args.q) (rw (← c.id_z.ensures) c.rotate.ensures.after), c.rotate.ensures.stays)

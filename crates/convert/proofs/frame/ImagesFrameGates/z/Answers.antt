@@ -1,0 +1,7 @@
+use mathlib.Core.Path.{refl}
+use Rattle.std.proofs.Common.{rules}
+use Rattle.convert.proofs.Buffers.Frame.{z_ran}
+use Rattle.convert.proofs.frame.ImagesFrameGates.z.Goals as goal
+
+pub returns : goal.returns
+returns c = (z_ran c.requires _ c.minus.ensures, (refl, refl, refl, refl, search rules))

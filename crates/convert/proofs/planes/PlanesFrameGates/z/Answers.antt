@@ -1,0 +1,7 @@
+use mathlib.Core.Path.{refl}
+use Rattle.convert.specs.Code.RawPlanes.{plane_step, plane_run}
+use Rattle.convert.proofs.planes.PlanesFrameGates.z.Goals as goal
+
+pub returns : goal.returns
+unfolding plane_run plane_step
+returns c = (refl, (refl, refl, refl))
