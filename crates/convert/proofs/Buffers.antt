@@ -5,7 +5,6 @@ pub mod Words
 pub mod Seven
 pub mod State
 pub mod Writing
-pub mod Listed
 pub mod Reads
 pub mod Did
 pub mod Clifford

@@ -2,7 +2,6 @@
 pub mod Parts
 pub mod RecordSteps
 pub mod Rest
-pub mod Lists
 pub mod Light
 pub mod Sums
 pub mod Needs

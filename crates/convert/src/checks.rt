@@ -125,6 +125,7 @@ fn check_record(
 // An entry for the second operand of each kind: that of a qubit, that of a measurement's bit, and 2^32 where it has none. With n and 0 it is what the
 // operand stays below; of a measurement that says nothing. With 0 and 2^32 it is a bit above every operand for the kinds whose second is no qubit:
 // with it that one is never the first. Tables are lent, so that no read copies one.
+// kept: one word a kind, 2^32 for none, so that the pass over the gates has no jump by kind.
 fn entries(qubit: u64, bit: u64) -> [u64; 21]
     ensures bound { bit ≡ 0 → result ≡ table_of (bound_of qubit) }
     ensures apart { qubit ≡ 0 → bit ≡ 4294967296 → result ≡ table_of apart_of }
@@ -152,7 +153,7 @@ fn is_sound(n: usize, bound: u64, above: u64, words: &[u32; 4]) -> bool
     if ((b as u64) | above) == (a as u64) {
         return false;
     }
-    // kept: a match on the kind is a jump a record (docs/DECISIONS.md, "Sums first").
+    // kept: by number, with no jump by kind: with the matches of `check_each` alone conversions took 1.40 and 1.60 times as long (drafts; adders, random).
     if number / 2 != 5 {
         return true;
     }
@@ -163,7 +164,7 @@ fn is_sound(n: usize, bound: u64, above: u64, words: &[u32; 4]) -> bool
 }
 
 // Whether every gate passes its checks, by the tables and a mark for each classical bit. What the tables do not pass can still be a measurement.
-// kept: beside `check_each`; without it conversions take 1.40 and 1.60 times as long (no cap; adders, random).
+// kept: beside `check_each`; without it conversions took 1.40 and 1.60 times as long (drafts, no cap; adders, random).
 fn sound_by(
     n: usize,
     cbits: usize,
@@ -184,7 +185,7 @@ fn sound_by(
         if is_sound(n, limits[kind], above[kind], words) {
             continue;
         }
-        // kept: a match on the kind is a jump a record (docs/DECISIONS.md, "Sums first").
+        // kept: by number, with no jump by kind: with the matches of `check_each` alone conversions took 1.40 and 1.60 times as long (drafts; adders, random).
         if number != 12 || !take_target(taken, n, cbits, a as usize, b as usize) {
             return false;
         }

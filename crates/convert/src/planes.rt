@@ -13,6 +13,7 @@ use crate::gate::{Gate, GateKind, gate_at};
 use crate::lowered::FrameGates;
 
 // The words at a place take up those at another.
+// kept: two parts of one slice, of which either may come first: `split_at_mut` would ask which.
 fn xor_words(words: &mut [u64], target: usize, source: usize, count: usize)
     requires { (target + count ≤ length words.old) × (source + count ≤ length words.old) }
     ensures { words.new ≡ xor_to words.old target source count }
@@ -23,6 +24,7 @@ fn xor_words(words: &mut [u64], target: usize, source: usize, count: usize)
 }
 
 // The words at two places change theirs.
+// kept: as `xor_words`.
 fn swap_words(words: &mut [u64], one: usize, other: usize, count: usize)
     requires { (one + count ≤ length words.old) × (other + count ≤ length words.old) }
     ensures { words.new ≡ swap_to words.old one other count }
@@ -34,6 +36,7 @@ fn swap_words(words: &mut [u64], one: usize, other: usize, count: usize)
     }
 }
 
+// kept: tried `fill` of the part; the check does not find that `clear_to`, which goes word by word, is it.
 fn clear(words: &mut [u64], first: usize, count: usize)
     requires { first + count ≤ length words.old }
     ensures { words.new ≡ clear_to words.old first count }
@@ -110,7 +113,7 @@ impl Planes<'_> {
     }
 
     // The weight of the product of some images.
-    // kept: beside `weigh_union`, which is an or: that test first saves up to a fifth of the instructions under a cap (random lists 1.10 to 1.20 times without it).
+    // kept: beside `weigh_union`, which is an or: without that test first, drafts took 1.10 to 1.20 times the instructions under a cap (random lists).
     fn weigh(&self, images: &[usize]) -> u32
         requires { (i : ℕ) → i < length images.now → get_or images.now i 0 < self.now.qubits + self.now.qubits }
         ensures { result ≡ product_to self.now.words.now self.now.width images.now self.now.width }
@@ -173,7 +176,7 @@ impl Planes<'_> {
 
     // All planes as at the start, where only the records from one to another may have changed them. Not every second operand is a qubit of the gate:
     // to restore one too many changes nothing.
-    // kept: as `xor_into`.
+    // kept: as `xor_into`; `Since` speaks of the whole list and two numbers of records, not of a part of it.
     fn restore_since(&mut self, gates: &[u32], from: usize, to: usize)
         requires from_le_to { (from ≤ to) × (to ≤ length gates.now / 4) }
         requires since { Since self.old.qubits self.old.width self.old.words.now gates.now from (to - from) }
@@ -221,7 +224,7 @@ impl Planes<'_> {
         }
     }
 
-    // kept: as `xor_into`.
+    // kept: as `xor_into`; the promise takes the flag (`refreshed`).
     fn refresh(&mut self, flushed: bool)
         ensures after { self.new.words.now ≡ refreshed flushed self.old.qubits self.old.width self.old.words.now }
         ensures lent { self.new.words.ghost_name ≡ self.old.words.ghost_name }
@@ -234,7 +237,7 @@ impl Planes<'_> {
     }
 
     // Whether a flush comes before this record; the planes go past it. A record is tested or has frame gates, never both.
-    // kept: as `xor_into`.
+    // kept: as `xor_into`; beside `decide_since`, since the counting pass knows no place of the last flush.
     pub(crate) fn decide(&mut self, most: u32, gate: Gate) -> bool
         requires all_proper { AllProper self.old.qubits (gate.b + 1) (lower_as gate.kind gate.a gate.b gate.d) }
         ensures after { Decided self.old.qubits (AtMost most) gate.kind gate.a gate.b gate.d self.old.words.now result self.new.words.now }
@@ -252,10 +255,16 @@ impl Planes<'_> {
 
     // A refresh where, without a narrow cap, only the records from one to another may have changed the planes: where they are few, only what they touch is
     // restored.
-    // kept: as `xor_into`.
-    fn refresh_since(&mut self, flushed: bool, narrow: bool, gates: &[u32], from: usize, to: usize)
-        requires from_le_to { (narrow ≡ false → from ≤ to) × (to ≤ length gates.now / 4) }
-        requires since { narrow ≡ false → Since self.old.qubits self.old.width self.old.words.now gates.now from (to - from) }
+    // kept: as `restore_since` and `refresh`.
+    fn refresh_since<const NARROW: bool>(
+        &mut self,
+        flushed: bool,
+        gates: &[u32],
+        from: usize,
+        to: usize,
+    )
+        requires from_le_to { (NARROW ≡ false → from ≤ to) × (to ≤ length gates.now / 4) }
+        requires since { NARROW ≡ false → Since self.old.qubits self.old.width self.old.words.now gates.now from (to - from) }
         ensures after { self.new.words.now ≡ refreshed flushed self.old.qubits self.old.width self.old.words.now }
         ensures lent { self.new.words.ghost_name ≡ self.old.words.ghost_name }
         ensures same { (self.new.qubits ≡ self.old.qubits) × (self.new.width ≡ self.old.width) }
@@ -263,7 +272,7 @@ impl Planes<'_> {
         if !flushed {
             return;
         }
-        if narrow {
+        if NARROW {
             self.reset();
             return;
         }
@@ -275,22 +284,21 @@ impl Planes<'_> {
     }
 
     // The same decision about record `to`, where the last flush came before record `from`.
-    // kept: as `xor_into`.
+    // kept: as `restore_since`; beside `decide`, see there.
     #[inline(always)]
-    pub(crate) fn decide_since(
+    pub(crate) fn decide_since<const NARROW: bool>(
         &mut self,
         most: u32,
         gate: Gate,
-        narrow: bool,
         gates: &[u32],
         from: usize,
         to: usize,
     ) -> bool
         requires all_proper { AllProper self.old.qubits (gate.b + 1) (lower_as gate.kind gate.a gate.b gate.d) }
-        requires from_le_to { (narrow ≡ false → from ≤ to) × (to < length gates.now / 4) × (narrow ≡ false → (gate.a ≡ get_or gates.now (4 * to + 1) 0) × (gate.b ≡ get_or gates.now (4 * to + 2) 0)) }
-        requires since { narrow ≡ false → Since self.old.qubits self.old.width self.old.words.now gates.now from (to - from) }
+        requires from_le_to { (NARROW ≡ false → from ≤ to) × (to < length gates.now / 4) × (NARROW ≡ false → (gate.a ≡ get_or gates.now (4 * to + 1) 0) × (gate.b ≡ get_or gates.now (4 * to + 2) 0)) }
+        requires since { NARROW ≡ false → Since self.old.qubits self.old.width self.old.words.now gates.now from (to - from) }
         ensures decided { Decided self.old.qubits (AtMost most) gate.kind gate.a gate.b gate.d self.old.words.now result self.new.words.now }
-        ensures since_2 { narrow ≡ false → Since self.old.qubits self.old.width self.new.words.now gates.now (cond result to from) (to + 1 - cond result to from) }
+        ensures since_2 { NARROW ≡ false → Since self.old.qubits self.old.width self.new.words.now gates.now (cond result to from) (to + 1 - cond result to from) }
         ensures lent { self.new.words.ghost_name ≡ self.old.words.ghost_name }
         ensures same { (self.new.qubits ≡ self.old.qubits) × (self.new.width ≡ self.old.width) }
     {
@@ -299,7 +307,7 @@ impl Planes<'_> {
             return false;
         }
         let flushed = self.heavy(most, gate);
-        self.refresh_since(flushed, narrow, gates, from, to);
+        self.refresh_since::<NARROW>(flushed, gates, from, to);
         flushed
     }
 }

@@ -1,4 +1,4 @@
--- kept: laws of charges, scans and roots; nothing else states them
+-- kept: nothing else states these laws of charges, scans and roots, so they may not go
 -- What the walk's loops need: charges in parts, the scan node by node, the roots in turn, and a root by the machine.
 use mathlib.Core.Path.{◌≡◌, refl, ap}
 use mathlib.Core.Bool.{Bool, true, false, cond}

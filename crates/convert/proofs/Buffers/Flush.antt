@@ -1,18 +1,17 @@
 -- A flush in the buffers, gate by gate.
 use mathlib.Core.Path.{◌≡◌, refl, sym, ap, ◌∙◌}
-use mathlib.Core.Bool.{Bool, true, false, cond}
-use mathlib.Core.List.{List, [], ◌∷◌, ◌++◌, append-nil}
-use Prim.Native.Nat.{ℕ, zero, suc, ◌+◌, ◌-◌, ◌*◌, ◌/◌, ◌<◌, ◌≤◌}
+use mathlib.Core.Bool.{Bool, true, false}
+use mathlib.Core.List.{List, [], ◌∷◌, ◌++◌}
+use Prim.Native.Nat.{ℕ, zero, suc, ◌+◌, ◌*◌, ◌/◌, ◌<◌, ◌≤◌}
 use native.Mathlib.Omega.{arith}
-use native.Mathlib.Numerals.{add-one}
 use lib.ListN.{length}
 use Rattle.pauli.specs.Gates.{Gate, gate_h, gate_x, gate_z, gate_s, gate_sdg, gate_cnot, gate_cz, Valid, AllValid}
 use Rattle.arena.specs.Limits.{max_qubits}
-use Rattle.convert.specs.Records.{Record, kind_of, From, from, without_index}
+use Rattle.convert.specs.Records.{kind_of, From, from, without_index}
 use Rattle.convert.specs.Frame.{total}
 use Rattle.convert.specs.Code.Needs.{written_nodes, written_ops}
-use Rattle.convert.specs.Code.Raw.{Writing, writing, put_joint, put_flush, put_flushes, FlushReady, Flushed, FlushOver, FlushedIf, PartIn, InParts, part_at, next_part, stepped, record_at, record_words, record_from, gates_over, listed_gates}
-use Rattle.convert.proofs.Counts.Parts.{stepped_up, stepped-one, next_in, next_wide, part_wide}
+use Rattle.convert.specs.Code.Raw.{Writing, writing, put_joint, put_flush, put_flushes, FlushReady, Flushed, FlushOver, FlushedIf, PartIn, InParts, part_at, next_part, stepped, record_from, gates_over}
+use Rattle.convert.proofs.Counts.Parts.{stepped_up, stepped-one, next_in}
 use Rattle.arena.specs.Builder.{overlay, start_frame}
 
 -- what a gate adds
@@ -185,79 +184,6 @@ flush_end n narrow gs first to c₀ ns₀ u₀ os₀ c ns u os p at h =
 
 pub no_both : {f : Bool} → f ≡ true → f ≡ false → ⊥
 no_both p q = let z : ◌≡◌ {A = ℕ} 0 1 = cc in omega arith
-
--- ---- the records of a list, from one to another
-
--- so far the records up to i are written; what the others lead to is what is asked
-pub record ListAt (n index : ℕ) (gs : List ℕ) (first to : ℕ) (c₀ : ℕ) (ns₀ : List ℕ) (u₀ : ℕ) (os₀ : List ℕ) (c : ℕ) (ns : List ℕ) (u : ℕ) (os : List ℕ) (i : ℕ) : Type 0 where
-  pub ready : FlushReady n (listed_gates index gs i (to - i)) c ns u os
-  pub leads : (c' : ℕ) (ns' : List ℕ) (u' : ℕ) (os' : List ℕ) → Flushed (listed_gates index gs i (to - i)) c ns u os c' ns' u' os'
-      → Flushed (listed_gates index gs first (to - first)) c₀ ns₀ u₀ os₀ c' ns' u' os'
-
-pub list_start : (n index : ℕ) (gs : List ℕ) (first to c : ℕ) (ns : List ℕ) (u : ℕ) (os : List ℕ) → FlushReady n (listed_gates index gs first (to - first)) c ns u os
-    → ListAt n index gs first to c ns u os c ns u os first
-list_start n index gs first to c ns u os r = record { ready = r; leads = λ c' ns' u' os' d. d }
-
-module _ (n index : ℕ) (gs : List ℕ) (first to : ℕ) (c₀ : ℕ) (ns₀ : List ℕ) (u₀ : ℕ) (os₀ : List ℕ) (c : ℕ) (ns : List ℕ) (u : ℕ) (os : List ℕ) (i : ℕ)
-    (at : ListAt n index gs first to c₀ ns₀ u₀ os₀ c ns u os i) (h : i < to) where
-  abbrev this : List (From Gate)
-  this = record_from (index + i) (kind_of (record_at gs i).kind) (record_at gs i).a (record_at gs i).b
-
-  abbrev others : List (From Gate)
-  others = listed_gates index gs (i + 1) (to - (i + 1))
-
-  one_record : listed_gates index gs i (to - i) ≡ this ++ others
-  one_record = let e : to - i ≡ suc (to - (i + 1)) = omega (arith, h) in rw (e, add-one i)
-
-  pub list_one : FlushReady n this c ns u os
-  list_one = flush_first n this others c ns u os (rw one_record at at.ready)
-
-  pub list_more : (c' : ℕ) (ns' : List ℕ) (u' : ℕ) (os' : List ℕ) → Flushed this c ns u os c' ns' u' os' → length ns' ≡ length ns → length os' ≡ length os
-      → ListAt n index gs first to c₀ ns₀ u₀ os₀ c' ns' u' os' (i + 1)
-  list_more c' ns' u' os' f ln lo = record {
-    ready = flush_last n this others c ns u os c' ns' u' os' (rw one_record at at.ready) f ln lo;
-    leads = λ c₂ ns₂ u₂ os₂ d. at.leads c₂ ns₂ u₂ os₂ (rw one_record (flushed_append this others c ns u os c' ns' u' os' c₂ ns₂ u₂ os₂ f d));
-  }
-
-pub list_end : (n index : ℕ) (gs : List ℕ) (first to c₀ : ℕ) (ns₀ : List ℕ) (u₀ : ℕ) (os₀ : List ℕ) (c : ℕ) (ns : List ℕ) (u : ℕ) (os : List ℕ) (i : ℕ)
-    → ListAt n index gs first to c₀ ns₀ u₀ os₀ c ns u os i → to ≤ i → Flushed (listed_gates index gs first (to - first)) c₀ ns₀ u₀ os₀ c ns u os
-list_end n index gs first to c₀ ns₀ u₀ os₀ c ns u os i at h = let e : to - i ≡ 0 = omega (arith, h) in at.leads c ns u os (rw e none_flushed)
-
--- a part as a list of its own
-pub listed_part : (index : ℕ) (r : Record) → listed_gates index (record_words r) 0 1 ≡ record_from index (kind_of r.kind) r.a r.b
-listed_part index r = let e : index + 0 ≡ index = omega arith in rw e (append-nil (record_from index (kind_of r.kind) r.a r.b))
-
--- without a narrow cap the parts are the records
-stepped-wide : (gs : List ℕ) (k i : ℕ) → stepped false gs k (16 * i) ≡ 16 * (i + k)
-stepped-wide gs zero i = omega arith
-stepped-wide gs (suc k) i =
-    let e : next_part false gs (16 * i) ≡ 16 * suc i = next_wide gs (16 * i) ∙ omega arith in
-    rw e (stepped-wide gs k (suc i) ∙ omega arith)
-
-gates_wide : (gs : List ℕ) (k i : ℕ) → gates_over false gs (16 * i) k ≡ listed_gates 0 gs i k
-gates_wide gs zero i = refl
-gates_wide gs (suc k) i =
-    let e : next_part false gs (16 * i) ≡ 16 * suc i = next_wide gs (16 * i) ∙ omega arith in
-    let q : 16 * i / 16 ≡ i = omega arith in
-    let z : i ≡ 0 + i = omega arith in
-    let these : ℕ → List (From Gate) = λ (j : ℕ). record_from j (kind_of (record_at gs i).kind) (record_at gs i).a (record_at gs i).b in
-    rw (part_wide gs (16 * i), q, e) (ap (λ (l : List (From Gate)). these i ++ l) (gates_wide gs k (suc i)) ∙ ap (λ (j : ℕ). these j ++ listed_gates 0 gs (suc i) k) z)
-
-pub flush_wide : (n : ℕ) (narrow : Bool) (gs : List ℕ) (from to place i c : ℕ) (ns : List ℕ) (u : ℕ) (os : List ℕ) → narrow ≡ false
-    → FlushOver n narrow gs (cond narrow from (16 * place)) (cond narrow to (16 * i)) c ns u os → FlushReady n (listed_gates 0 gs place (i - place)) c ns u os × (place ≤ i)
-flush_wide n true gs from to place i c ns u os off r = absurd (no_both refl off)
-flush_wide n false gs from to place i c ns u os off r =
-    let s = stepped-wide gs r.count place in
-    let e : i - place ≡ r.count = omega (arith, r.ends, s) in
-    (rw (e, ← gates_wide gs r.count place) r.ready, omega (arith, r.ends, s))
-
-pub wide_flushed : (narrow : Bool) (gs : List ℕ) (from to place i : ℕ) {c : ℕ} {ns : List ℕ} {u : ℕ} {os : List ℕ} {c' : ℕ} {ns' : List ℕ} {u' : ℕ} {os' : List ℕ} → narrow ≡ false
-    → Flushed (listed_gates 0 gs place (i - place)) c ns u os c' ns' u' os' → (k : ℕ) → stepped narrow gs k (cond narrow from (16 * place)) ≡ cond narrow to (16 * i)
-    → Flushed (gates_over narrow gs (cond narrow from (16 * place)) k) c ns u os c' ns' u' os'
-wide_flushed true gs from to place i off d k e = absurd (no_both refl off)
-wide_flushed false gs from to place i off d k e =
-    let m : k ≡ i - place = omega (arith, e, stepped-wide gs k place) in
-    rw (gates_wide gs k place, m) d
 
 -- ---- a flush, or none
 

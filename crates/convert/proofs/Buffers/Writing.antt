@@ -192,6 +192,15 @@ write-start n cap narrow gs ns fs os ps ew h en ef ep = record {
   totals = rw ew;
 }
 
+-- it fits buffers of the same lengths
+pub room_kept : {n : ℕ} {cap : Cap} {gs ns os ns' os' : List ℕ} → Room n cap gs ns os → length ns' ≡ length ns → length os' ≡ length os → Room n cap gs ns' os'
+room_kept r ln lo = record {
+  nodes = r.nodes;
+  nodes_lent = omega (arith, r.nodes_lent, ln);
+  operations = r.operations;
+  operations_lent = omega (arith, r.operations_lent, lo);
+}
+
 module _ (n : ℕ) (cap : Cap) (narrow : Bool) (gs ns₀ fs₀ os₀ ps₀ : List ℕ) (c : ℕ) (ns fs : List ℕ) (u : ℕ) (os ps : List ℕ) (given place p : ℕ)
     (at : WriteAt n cap narrow gs ns₀ fs₀ os₀ ps₀ c ns fs u os ps given place p) (h : p < 16 * (length gs / 4)) (fits : Fits n gs) (qubits : n ≤ 256) (room : Room n cap gs ns₀ os₀)
     (lens : (length ns ≡ length ns₀) × (length os ≡ length os₀) × (n + n ≤ length fs)) where

@@ -1,9 +1,8 @@
 -- A conversion in the making: what its steps leave, and how far it is.
-use Rattle.std.specs.Prelude.{◌≡◌, Bool, List, ℕ, length}
+use Rattle.std.specs.Prelude.{◌≡◌, List, ℕ, length}
 use mathlib.Core.Path.{◌∙◌}
 use Rattle.convert.specs.Records.{GateKind}
 use Rattle.convert.specs.Code.Raw.{Room, Ran, record_gates, writing, put_record}
-use Rattle.convert.specs.Code.Writing.{Going}
 use Rattle.convert.specs.declared.converter.Converter.{Converter}
 
 -- the same buffers, of the same lengths, the same gates, qubits and cap
@@ -29,8 +28,3 @@ pub record Did (n given gate : ℕ) (kind : GateKind) (a b d c : ℕ) (ns fs : L
 -- the needs fit
 pub room_in : (s : Converter) → Room s.qubits s.cap s.gates.now s.nodes.now s.operations.now
 room_in s = record { nodes = s.nodes_fit; nodes_lent = s.nodes_lent; operations = s.operations_fit; operations_lent = s.operations_lent }
-
--- the buffers stand for words, from which the rest leads to the end
-abbrev pub GoingIn : Bool → (gs ns₀ fs₀ os₀ ps₀ : List ℕ) → Converter → ℕ → ℕ → Type 0
-GoingIn narrow gs ns₀ fs₀ os₀ ps₀ s place p =
-    Going s.qubits s.cap narrow gs ns₀ fs₀ os₀ ps₀ s.used.nodes s.nodes.now s.frame.now s.used.operations s.operations.now s.planes.now s.given place p

@@ -305,11 +305,6 @@ gates_over narrow gs p zero = []
 gates_over narrow gs p (suc k) =
     record_from (p / 16) (kind_of (part_at narrow gs p).kind) (part_at narrow gs p).a (part_at narrow gs p).b ++ gates_over narrow gs (next_part narrow gs p) k
 
--- those of so many records of a list from record i on, where the first record of the list has this index
-abbrev pub listed_gates : ℕ → List ℕ → ℕ → ℕ → List (From Gate)
-listed_gates index gs i zero = []
-listed_gates index gs i (suc k) = record_from (index + i) (kind_of (record_at gs i).kind) (record_at gs i).a (record_at gs i).b ++ listed_gates index gs (suc i) k
-
 -- the buffers are ready for a flush of the parts from one position to another
 pub record FlushOver (n : ℕ) (narrow : Bool) (gs : List ℕ) (first to : ℕ) (c : ℕ) (ns : List ℕ) (u : ℕ) (os : List ℕ) : Type 0 where
   pub count : ℕ

@@ -1,5 +1,5 @@
 -- The writing pass before a position: what stands in the buffers.
-use Rattle.std.specs.Prelude.{◌≡◌, Bool, true, false, cond, List, map, ℕ, ◌+◌, ◌-◌, ◌*◌, ◌/◌, ◌≤◌, length}
+use Rattle.std.specs.Prelude.{◌≡◌, Bool, true, false, List, map, ℕ, ◌+◌, ◌-◌, ◌*◌, ◌/◌, ◌≤◌, length}
 use Rattle.pauli.specs.Gates.{Gate}
 use Rattle.arena.specs.Builder.{overlay}
 use Rattle.arena.specs.Limits.{operation_words}
@@ -10,7 +10,7 @@ use Rattle.convert.specs.Words.{Words, flat, word_run}
 use Rattle.convert.specs.Planes.{part_words}
 use Rattle.convert.specs.Code.Needs.{need_run}
 use Rattle.convert.specs.Code.RawPlanes.{Wide, Since}
-use Rattle.convert.specs.Code.Lists.{rest_of, place_in, position_in}
+use Rattle.convert.specs.Code.Lists.{rest_of}
 use Rattle.convert.specs.Code.Raw.{Small, is_capped, planes_for, InParts, stepped, gates_over, needs_of, plain_last, words_last, needs_last}
 
 -- the pending gates with their records alone
@@ -55,32 +55,6 @@ pub record WriteAt (n : ℕ) (cap : Cap) (narrow : Bool) (gs ns₀ fs₀ os₀ p
   pub ends : plain_run flush_from n cap (rest_of narrow gs p) plain ≡ plain_last n cap gs
   pub leads : word_run n cap (rest_of narrow gs p) plain words ≡ words_last n cap gs
   pub totals : need_run n cap (rest_of narrow gs p) plain (needs_of c u) ≡ needs_last n cap gs
-
--- the same, where the buffers are as long as at the start
-pub record Going (n : ℕ) (cap : Cap) (narrow : Bool) (gs ns₀ fs₀ os₀ ps₀ : List ℕ) (c : ℕ) (ns fs : List ℕ) (u : ℕ) (os ps : List ℕ) (given place p : ℕ) : Type 0 where
-  pub nodes : length ns ≡ length ns₀
-  pub operations : length os ≡ length os₀
-  pub here : WriteAt n cap narrow gs ns₀ fs₀ os₀ ps₀ c ns fs u os ps given place p
-
--- from some start
-pub record Gone (n : ℕ) (cap : Cap) (narrow : Bool) (gs : List ℕ) (c : ℕ) (ns fs : List ℕ) (u : ℕ) (os ps : List ℕ) (given place p : ℕ) : Type 0 where
-  pub ns₀ : List ℕ
-  pub fs₀ : List ℕ
-  pub os₀ : List ℕ
-  pub ps₀ : List ℕ
-  pub going : Going n cap narrow gs ns₀ fs₀ os₀ ps₀ c ns fs u os ps given place p
-
--- after the list
-pub record ListDone (n : ℕ) (cap : Cap) (narrow : Bool) (gs ns₀ fs₀ os₀ ps₀ : List ℕ) (place first : ℕ) (c : ℕ) (ns fs : List ℕ) (u : ℕ) (os ps : List ℕ) (given : ℕ) (any : Bool) : Type 0 where
-  pub last : ℕ
-  pub going : Going n cap narrow gs ns₀ fs₀ os₀ ps₀ c ns fs u os ps given (place_in narrow place first any last) (position_in narrow gs first (cond narrow 1 (length gs / 4)))
-
--- after all gates
-pub record Wrote (n : ℕ) (cap : Cap) (narrow : Bool) (gs ns₀ fs₀ os₀ ps₀ : List ℕ) (c : ℕ) (ns fs : List ℕ) (u : ℕ) (os ps : List ℕ) (given : ℕ) : Type 0 where
-  pub place : ℕ
-  pub position : ℕ
-  pub here : WriteAt n cap narrow gs ns₀ fs₀ os₀ ps₀ c ns fs u os ps given place position
-  pub ended : 16 * (length gs / 4) ≤ position
 
 -- the buffers after all gates
 abbrev pub Ended : ℕ → Cap → (gs ns₀ fs₀ os₀ ps₀ : List ℕ) → ℕ → (ns fs : List ℕ) → ℕ → (os ps : List ℕ) → ℕ → Type 0

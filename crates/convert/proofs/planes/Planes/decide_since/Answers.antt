@@ -8,18 +8,18 @@ use Rattle.convert.proofs.Packed.Deciding.{valid_of, decided_untested, decided_t
 use Rattle.convert.proofs.planes.Planes.decide_since.Goals as goal
 
 pub record-requires : goal.record-requires
-record-requires c =
+record-requires g c =
     let a = c.args in
     valid_of a.self.now.qubits a.gate.kind a.gate.a a.gate.b a.gate.d c.requires.all_proper
 
 pub returns-then-tests-eq0-clause-decided : goal.returns-then-tests-eq0-clause-decided
-returns-then-tests-eq0-clause-decided c =
+returns-then-tests-eq0-clause-decided g c =
     let a = c.args in
     let p = a.self.now in
     decided_untested p.qubits p.width a.most a.gate.kind a.gate.a a.gate.b a.gate.d p.words.now _ p.parts c.requires.all_proper (sym c.tests.ensures ∙ c.if-tests-eq0.true) c.record.ensures.0
 
 pub returns-then-tests-eq0-clause-since_2 : goal.returns-then-tests-eq0-clause-since_2
-returns-then-tests-eq0-clause-since_2 c =
+returns-then-tests-eq0-clause-since_2 g c =
     let a = c.args in
     let p = a.self.now in
     let r = c.requires.from_le_to in
@@ -27,15 +27,15 @@ returns-then-tests-eq0-clause-since_2 c =
     (r.0 off) (r.2 off).0 (r.2 off).1 (c.requires.since off) c.record.ensures.0
 
 pub refresh_since-requires-clause-from_le_to : goal.refresh_since-requires-clause-from_le_to
-refresh_since-requires-clause-from_le_to c =
+refresh_since-requires-clause-from_le_to g c =
     let r = c.requires.from_le_to in
     (r.0, omega (arith, r.1))
 
 pub refresh_since-requires-clause-since : goal.refresh_since-requires-clause-since
-refresh_since-requires-clause-since c = c.requires.since
+refresh_since-requires-clause-since g c = c.requires.since
 
 pub returns-clause-decided : goal.returns-clause-decided
-returns-clause-decided c =
+returns-clause-decided g c =
     let a = c.args in
     let p = a.self.now in
     let tested : tests_of a.gate.kind ≡ 0 → ⊥ = λ e. c.if-tests-eq0.false (c.tests.ensures ∙ e) in
@@ -43,7 +43,7 @@ returns-clause-decided c =
     c.heavy-flushed.ensures c.refresh_since.ensures.after
 
 pub returns-clause-since_2 : goal.returns-clause-since_2
-returns-clause-since_2 c =
+returns-clause-since_2 g c =
     let a = c.args in
     let p = a.self.now in
     let r = c.requires.from_le_to in
