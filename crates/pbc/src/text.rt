@@ -8,23 +8,31 @@ pub(crate) const SPACE: u8 = b' ';
 
 pub(crate) const LINE_FEED: u8 = b'\n';
 
-// The bytes of a kind that stand in front, and what is left.
-fn split_run<F: Fn(u8) -> bool>(text: &[u8], holds: F) -> (&[u8], &[u8])
-    requires { F.IsAlwaysCallable holds }
-    ensures { length result.0.now + length result.1.now ≡ length text.now }
-{
-    let size = text
-        .iter()
-        .position(|&byte| !holds(byte))
-        .unwrap_or(text.len());
-    text.split_at(size)
-}
-
 /// What is left past spaces.
 pub(crate) fn past_spaces(text: &[u8]) -> &[u8]
     ensures { length result.now ≤ length text.now }
 {
-    split_run(text, |byte| byte == SPACE).1
+    let mut rest = text;
+    // kept: the pattern is the loop's test and its step, and there is no index.
+    while let [SPACE, after @ ..] = rest {
+        rest = after;
+    }
+    rest
+}
+
+/// From the line feed that ends the line, or from the text's end.
+pub(crate) fn line_end(text: &[u8]) -> &[u8]
+    ensures { length result.now ≤ length text.now }
+{
+    let mut rest = text;
+    // kept: as above.
+    while let [byte, after @ ..] = rest {
+        if *byte == LINE_FEED {
+            return rest;
+        }
+        rest = after;
+    }
+    rest
 }
 
 // Whether a name or a number ends where this is left.
@@ -32,36 +40,41 @@ fn ends_before(rest: &[u8]) -> bool {
     matches!(rest, [SPACE | LINE_FEED, ..])
 }
 
-/// A whole name of letters, and what is left.
+/// A whole name, and what is left. Each byte is looked at once: most lines are names and numbers.
 pub(crate) fn take_name(text: &[u8]) -> Option<(Name, &[u8])>
     ensures { IfSome result (λ read. length read.1.now ≤ length text.now) }
 {
-    let (letters, rest) = split_run(text, |byte| byte.is_ascii_lowercase());
-    if !ends_before(rest) {
-        return None;
-    }
     let mut name = Name::new();
-    for &letter in letters {
-        name = name.with_byte(letter)?;
+    let mut rest = text;
+    // kept: as above.
+    while let [byte, after @ ..] = rest {
+        if ends_before(rest) {
+            return Some((name, rest));
+        }
+        name = name.with_byte(*byte)?;
+        rest = after;
     }
-    Some((name, rest))
+    None
 }
 
 /// The value of the digits in front, at most the greatest of 64 bits, and what is left; `None` if there is no digit.
 pub(crate) fn take_digits(text: &[u8]) -> Option<(u64, &[u8])>
     ensures { IfSome result (λ read. length read.1.now < length text.now) }
 {
-    let (digits, rest) = split_run(text, |byte| byte.is_ascii_digit());
-    if digits.is_empty() {
-        return None;
-    }
     let mut value = 0u64;
-    for &digit in digits {
+    let mut rest = text;
+    // kept: as above.
+    while let [digit @ b'0'..=b'9', after @ ..] = rest {
         value = value
             .saturating_mul(10)
             .saturating_add(u64::from(digit.saturating_sub(b'0')));
+        rest = after;
     }
-    Some((value, rest))
+    if rest.len() < text.len() {
+        Some((value, rest))
+    } else {
+        None
+    }
 }
 
 /// A whole number below 2^32, and what is left.

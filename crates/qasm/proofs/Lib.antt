@@ -2,6 +2,7 @@
 pub mod Truth
 pub mod Tries
 pub mod Answered
+pub mod Runs
 pub mod Passes
 pub mod Grammar
 pub mod Examples

@@ -2,62 +2,40 @@
 
 #![tactic(auto, unfolding(crate::specs::Reading::blank, crate::specs::Reading::take_sign))]
 
-ghost use Rattle.std.specs.Prelude.{◌≡◌, true, false, ◌≤◌, length};
-ghost use Rattle.qasm.specs.Bytes.{white};
+ghost use Rattle.std.specs.Prelude.{◌≡◌, false, ◌≤◌, length};
 ghost use Rattle.qasm.specs.Tokens.{slashed};
 ghost use Rattle.qasm.specs.Reading.{skip, blank, take_sign};
 ghost use Rattle.qasm.specs.Code.Rest.{left_of};
 
-// From the line feed that ends a comment, or from the text's end.
-fn line_end(text: &[u8]) -> &[u8]
-    ensures value { skip true text.now ≡ skip false result.now }
-    ensures shorter { length result.now ≤ length text.now }
-{
-    let mut rest = text;
-    // kept: the pattern is the loop's test and its step, and there is no index.
-    while let [first, after @ ..] = rest {
-        if *first == b'\n' {
-            return rest;
-        }
-        rest = after;
-    }
-    rest
-}
-
-// kept: std's `is_ascii_whitespace` has the form feed too, which is no white space here.
-fn is_white(b: u8) -> bool
-    ensures { result ≡ white b }
-{
-    b == b' ' || b == b'\t' || b == b'\r' || b == b'\n'
-}
+use crate::word::{Line, White, split_run};
 
 // Whether a comment begins here.
+#[inline(always)]
 fn begins_comment(text: &[u8]) -> bool
     ensures { result ≡ slashed text.now }
 {
     text.starts_with(b"//")
 }
 
-// Past blanks, byte by byte.
+// Past white space, then as long as a comment begins, past its line and past white space.
+#[tactic(auto, using(crate::proofs::Runs::skip_white, crate::proofs::Runs::left_again, crate::proofs::Runs::left_shorter, crate::proofs::Runs::past_comment, crate::proofs::Runs::line_shorter, crate::proofs::Runs::no_blank), unfolding(crate::specs::Reading::blank))]
+#[inline(always)]
 fn past_blanks(text: &[u8]) -> &[u8]
     ensures value { result.now ≡ skip false text.now }
     ensures shorter { length result.now ≤ length text.now }
 {
-    let mut rest = text;
-    // kept: as above.
-    while let [first, after @ ..] = rest {
-        if is_white(*first) {
-            rest = after;
-        } else if begins_comment(rest) {
-            rest = line_end(after);
-        } else {
-            return rest;
-        }
+    let (_, mut rest) = split_run::<White>(text);
+    // kept: what is left past a comment says whether another begins; there is nothing to iterate over.
+    while begins_comment(rest) {
+        let (_, line_feed) = split_run::<Line>(rest);
+        let (_, after) = split_run::<White>(line_feed);
+        rest = after;
     }
     rest
 }
 
 // Past blanks. Most often none stands there, and the first byte tells.
+#[inline(always)]
 pub(crate) fn skip_blanks(text: &[u8]) -> &[u8]
     ensures value { result.now ≡ blank text.now }
     ensures shorter { length result.now ≤ length text.now }
@@ -70,6 +48,7 @@ pub(crate) fn skip_blanks(text: &[u8]) -> &[u8]
 
 // Bytes as they stand, past blanks.
 #[tactic(auto, using(crate::proofs::Answered::stripped), unfolding(crate::specs::Reading::take_sign))]
+#[inline(always)]
 pub(crate) fn take_sign<'a>(text: &'a [u8], sign: &[u8]) -> Option<&'a [u8]>
     ensures { left_of result ≡ take_sign sign.now text.now }
 {
